@@ -1,0 +1,26 @@
+-- A choice by a test, and its laws.
+-- Assumes nothing.
+use Prim.Native.Nat.{ℕ, _≤_, _<_}
+use mathlib.Core.Path.{_≡_, refl, sym, subst}
+use mathlib.Core.Bool.{Bool, true, false}
+use native.Mathlib.Nat.{lt-of-not-le}
+use native.Mathlib.Decide.{decLe}
+use borrow.Author.Tests.{le-leb, lt-leb}
+use lib.Dec.{leb}
+
+abbrev pub pick {ℓ} : {X : Type ℓ} → Bool → X → X → X
+pick true a b = a
+pick false a b = b
+
+-- by cases, with what the test says in each
+pub pick-leb {ℓ} : {X : Type 0} (P : X → Type ℓ) (a b : ℕ) (x y : X) → (a ≤ b → P x) → (b < a → P y) → P (pick (leb a b) x y)
+pick-leb P a b x y f g =
+    elim (decLe a b) [
+      | yes h ↦ subst (λ (t : Bool). P (pick t x y)) (sym (le-leb a b h)) (f h)
+      | no h ↦ subst (λ (t : Bool). P (pick t x y)) (sym (lt-leb a b (lt-of-not-le h))) (g (lt-of-not-le h))
+    ]
+
+-- what holds of both holds of the choice
+pub pick-any {ℓ} : {X : Type 0} (P : X → Type ℓ) (t : Bool) (x y : X) → P x → P y → P (pick t x y)
+pick-any P true x y p q = p
+pick-any P false x y p q = q

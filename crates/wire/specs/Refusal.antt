@@ -1,0 +1,58 @@
+-- The refusal numbers of document 01, by name: src/refusal.rt has the same for code.
+use Prim.Native.Nat.{ℕ}
+
+-- a list, a value or an UPDATE body longer than its limit
+abbrev pub tooLong : ℕ
+tooLong = 1
+
+-- fewer bytes than the field needs
+abbrev pub truncated : ℕ
+truncated = 2
+
+-- a message length that is not allowed
+abbrev pub messageLength : ℕ
+messageLength = 3
+
+-- a message type that is not 1 to 5
+abbrev pub messageType : ℕ
+messageType = 4
+
+-- a message body shorter than the measured length
+abbrev pub shortBody : ℕ
+shortBody = 5
+
+-- a marker that is not all FF
+abbrev pub badMarker : ℕ
+badMarker = 6
+
+-- a prefix length over the family's maximum
+abbrev pub prefixLength : ℕ
+prefixLength = 7
+
+-- a section that is one nonzero byte
+abbrev pub oneByteSection : ℕ
+oneByteSection = 8
+
+-- a segment type that is not 1 to 4
+abbrev pub segmentType : ℕ
+segmentType = 9
+
+-- an AGGREGATOR of other than 6 or 8 bytes
+abbrev pub aggregatorLength : ℕ
+aggregatorLength = 10
+
+-- too few places in a lent store or output
+abbrev pub noRoom : ℕ
+noRoom = 11
+
+-- a segment to write of over 255 numbers
+abbrev pub longSegment : ℕ
+longSegment = 12
+
+-- an AS number to write that two bytes do not hold
+abbrev pub wideNumber : ℕ
+wideNumber = 13
+
+-- a row, or a path, that cannot be written
+abbrev pub notWritable : ℕ
+notWritable = 14

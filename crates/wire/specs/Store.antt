@@ -1,0 +1,92 @@
+-- Values one after another from a place of a lent list.
+-- Assumes nothing.
+use Prim.Native.Nat.{ℕ, suc, _+_, _≤_, _<_}
+use mathlib.Core.Path.{_≡_, refl, sym, ap, ap₂, _∙_}
+use mathlib.Core.List.{List, [], _∷_, _++_, append-assoc}
+use native.Mathlib.Nat.{add-zero, add-suc, add-assoc}
+use native.Mathlib.Omega.{arith}
+use borrow.Author.Tests.{le-leb, lt-leb}
+use lib.ListN.{length, take, drop, set, length-append, length-drop, take-append-drop}
+use lib.Seq.{sets, sets-eq, take-at, drop-at, length-take-le, drop-drop}
+use lib.Dec.{leb}
+use Rattle.wire.specs.Choice.{pick, pick-leb}
+use Rattle.wire.specs.NumberLaws.{off, off-add}
+
+-- vs from place at on; the rest is d
+abbrev pub laid : List ℕ → ℕ → List ℕ → List ℕ
+laid d at vs = take at d ++ (vs ++ drop (at + length vs) d)
+
+-- vs from place at on where they fit, and else d unchanged
+unfoldable pub placed : List ℕ → ℕ → List ℕ → List ℕ
+placed d at vs = pick (leb (at + length vs) (length d)) (laid d at vs) d
+
+pub placed-fits : (d : List ℕ) (at : ℕ) (vs : List ℕ) → at + length vs ≤ length d → placed d at vs ≡ laid d at vs
+unfolding placed
+placed-fits d at vs h = rw (le-leb (at + length vs) (length d) h)
+
+pub placed-not : (d : List ℕ) (at : ℕ) (vs : List ℕ) → length d < at + length vs → placed d at vs ≡ d
+unfolding placed
+placed-not d at vs h = rw (lt-leb (at + length vs) (length d) h)
+
+-- what straight-line code leaves: a store at `at`, at `at + 1`, ..
+abbrev pub puts : List ℕ → ℕ → ℕ → List ℕ → List ℕ
+puts d at k [] = d
+puts d at k (v ∷ vs) = puts (set d (off at k) v) at (suc k) vs
+
+puts-sets : (d : List ℕ) (at k : ℕ) (vs : List ℕ) → puts d at k vs ≡ sets d (at + k) vs
+puts-sets d at k [] = refl
+puts-sets d at k (v ∷ vs) =
+    puts-sets (set d (off at k) v) at (suc k) vs
+    ∙ ap (λ (j : ℕ). sets (set d j v) (at + suc k) vs) (off-add at k)
+    ∙ ap (λ (j : ℕ). sets (set d (at + k) v) j vs) (add-suc at k)
+
+pub puts-laid : (d : List ℕ) (at : ℕ) (vs : List ℕ) → at + length vs ≤ length d → puts d at 0 vs ≡ laid d at vs
+puts-laid d at vs h =
+    puts-sets d at 0 vs
+    ∙ ap (λ (j : ℕ). sets d j vs) (add-zero at)
+    ∙ sets-eq vs d at h
+    ∙ append-assoc (take at d) vs (drop (at + length vs) d)
+
+pub puts-placed : (d : List ℕ) (at : ℕ) (vs ws : List ℕ) → at + length vs ≤ length d → vs ≡ ws → puts d at 0 vs ≡ placed d at ws
+puts-placed d at vs ws h e = puts-laid d at vs h ∙ sym (placed-fits d at vs h) ∙ ap (placed d at) e
+
+module _ (d : List ℕ) (at : ℕ) (vs : List ℕ) (h : at + length vs ≤ length d) where
+  head-length : length (take at d ++ vs) ≡ at + length vs
+  head-length = let e : length (take at d) ≡ at = length-take-le at d (omega arith) in length-append (take at d) vs ∙ ap (λ (k : ℕ). k + length vs) e
+
+  pub take-laid : take (at + length vs) (laid d at vs) ≡ take at d ++ vs
+  take-laid = rw (← append-assoc) (take-at (take at d ++ vs) (drop (at + length vs) d) (at + length vs) head-length)
+
+  pub drop-laid : drop (at + length vs) (laid d at vs) ≡ drop (at + length vs) d
+  drop-laid = rw (← append-assoc) (drop-at (take at d ++ vs) (drop (at + length vs) d) (at + length vs) head-length)
+
+  pub length-laid : length (laid d at vs) ≡ length d
+  length-laid =
+      let e : length (take at d) ≡ at = length-take-le at d (omega arith) in
+      simp (length-append, length-drop) (omega arith)
+
+pub length-placed : (d : List ℕ) (at : ℕ) (vs : List ℕ) → length (placed d at vs) ≡ length d
+unfolding placed
+length-placed d at vs =
+    pick-leb (λ (l : List ℕ). length l ≡ length d) (at + length vs) (length d) (laid d at vs) d (λ h. length-laid d at vs h) (λ _. refl)
+
+-- values after values
+pub laid-laid : (d : List ℕ) (at : ℕ) (vs ws : List ℕ) → at + length vs + length ws ≤ length d → laid (laid d at vs) (at + length vs) ws ≡ laid d at (vs ++ ws)
+laid-laid d at vs ws h =
+    let fits : at + length vs ≤ length d = omega arith in
+    let more : drop (at + length vs + length ws) (laid d at vs) ≡ drop (at + length (vs ++ ws)) d =
+    sym (drop-drop (length ws) (at + length vs) (laid d at vs))
+    ∙ ap (drop (length ws)) (drop-laid d at vs fits)
+    ∙ drop-drop (length ws) (at + length vs) d
+    ∙ ap (λ (k : ℕ). drop k d) (add-assoc at (length vs) (length ws) ∙ ap (λ (k : ℕ). at + k) (sym (length-append vs ws))) in
+    ap₂ (λ (l r : List ℕ). l ++ (ws ++ r)) (take-laid d at vs fits) more
+    ∙ append-assoc (take at d) vs (ws ++ drop (at + length (vs ++ ws)) d)
+    ∙ ap (λ (r : List ℕ). take at d ++ r) (sym (append-assoc vs ws (drop (at + length (vs ++ ws)) d)))
+
+-- no values leave the list as it was
+pub laid-nil : (d : List ℕ) (at : ℕ) → laid d at [] ≡ d
+laid-nil d at = ap (λ (k : ℕ). take at d ++ drop k d) (add-zero at) ∙ take-append-drop at d
+
+pub placed-nil : (d : List ℕ) (at : ℕ) → placed d at [] ≡ d
+unfolding placed
+placed-nil d at = pick-leb (λ (l : List ℕ). l ≡ d) (at + 0) (length d) (laid d at []) d (λ _. laid-nil d at) (λ _. refl)

@@ -1,0 +1,103 @@
+-- Laws of reading item by item, over any step.
+-- Assumes nothing.
+use Prim.Native.Nat.{ℕ, zero, suc, _-_, _*_, _≤_, _<_}
+use mathlib.Core.Path.{_≡_, refl, sym, ap, subst}
+use mathlib.Core.List.{List, [], _∷_}
+use native.Mathlib.Nat.{not-suc-le-zero, le-refl, mul-zero, mul-suc}
+use native.Mathlib.Numerals.{sub-one}
+use native.Mathlib.Omega.{arith}
+use lib.ListN.{length, take, drop, length-drop, length-append}
+use Rattle.wire.specs.Walk.{Step, took, stop, Reading, whole, refused, more, walk, readAll, taken, pieces, tally, flat}
+
+-- ---- the equations that a reader expects
+
+module _ {S A : Type 0} (step : S → List ℕ → Step S A) where
+  walk-skip : (st : S) (k : ℕ) (s : List ℕ) → walk step st k s ≡ walk step st 0 (drop k s)
+  unfolding walk
+  walk-skip st zero [] = refl
+  walk-skip st (suc k) [] = refl
+  walk-skip st zero (b ∷ s) = refl
+  walk-skip st (suc k) (b ∷ s) = walk-skip st k s
+
+  pub all-nil : (st : S) → readAll step st [] ≡ whole
+  unfolding readAll walk
+  all-nil st = refl
+
+  pub all-stop : (st : S) (s : List ℕ) (n : ℕ) → 0 < length s → step st s ≡ stop n → readAll step st s ≡ refused n
+  unfolding readAll walk
+  all-stop st [] n pos e = absurd (not-suc-le-zero pos)
+  all-stop st (b ∷ s) n pos e = rw e
+
+  pub all-took : (st st′ : S) (s : List ℕ) (used : ℕ) (a : A) → 0 < length s → 0 < used → step st s ≡ took used a st′
+      → readAll step st s ≡ more a (readAll step st′ (drop used s))
+  unfolding readAll walk
+  all-took st st′ [] used a pos up e = absurd (not-suc-le-zero pos)
+  all-took st st′ (b ∷ s) zero a pos up e = absurd (not-suc-le-zero up)
+  all-took st st′ (b ∷ s) (suc k) a pos up e = rw (e, sub-one (suc k)) (ap (more a) (walk-skip st′ k s))
+
+-- ---- a step that takes one place at least, and no more than there are, and whose refusals have a number
+
+pub record Sound {S A : Type 0} (step : S → List ℕ → Step S A) : Type 0 where
+  pub takes : (st st′ : S) (s : List ℕ) (used : ℕ) (a : A) → step st s ≡ took used a st′ → (0 < used) × (used ≤ length s)
+  pub names : (st : S) (s : List ℕ) (n : ℕ) → step st s ≡ stop n → 0 < n
+
+-- ---- induction along a reading
+
+module _ {S A : Type 0} (step : S → List ℕ → Step S A) (sound : Sound step) where
+  -- what holds at the end, at a refusal, and of an item and what follows where it holds of what follows, holds of every reading
+  module _ {ℓ} (P : S → List ℕ → Reading A → Type ℓ)
+      (at-end : (st : S) → P st [] whole)
+      (at-stop : (st : S) (s : List ℕ) (n : ℕ) → 0 < length s → step st s ≡ stop n → P st s (refused n))
+      (at-took : (st st′ : S) (s : List ℕ) (used : ℕ) (a : A) → 0 < length s → step st s ≡ took used a st′
+      → P st′ (drop used s) (readAll step st′ (drop used s)) → P st s (more a (readAll step st′ (drop used s)))) where
+    turn : (st : S) (s : List ℕ) (x : Step S A) → 0 < length s → ((st′ : S) (t : List ℕ) → length t < length s → P st′ t (readAll step st′ t))
+        → step st s ≡ x → P st s (readAll step st s)
+    turn st s (took used a st′) pos again e =
+        let up : 0 < used = sound .takes st st′ s used a e .0 in
+        subst (P st s) (sym (all-took step st st′ s used a pos up e))
+        (at-took st st′ s used a pos e (again st′ (drop used s) (omega (arith, length-drop used s))))
+    turn st s (stop n) pos again e = subst (P st s) (sym (all-stop step st s n pos e)) (at-stop st s n pos e)
+
+    go : (f : ℕ) (st : S) (s : List ℕ) → length s ≤ f → P st s (readAll step st s)
+    go zero st [] h = subst (P st []) (sym (all-nil step st)) (at-end st)
+    go zero st (b ∷ s) h = absurd (not-suc-le-zero h)
+    go (suc f) st [] h = subst (P st []) (sym (all-nil step st)) (at-end st)
+    go (suc f) st (b ∷ s) h = turn st (b ∷ s) (step st (b ∷ s)) (omega arith) (λ st′ t lt. go f st′ t (omega arith)) refl
+
+    pub all-ind : (st : S) (s : List ℕ) → P st s (readAll step st s)
+    all-ind st s = go (length s) st s (le-refl (length s))
+
+-- ---- the pieces that a reading takes
+
+module _ {S A : Type 0} (step : S → List ℕ → Step S A) where
+  pub pieces-nil : (st : S) → pieces step st [] ≡ []
+  unfolding pieces
+  pieces-nil st = ap (λ (r : Reading (List ℕ)). r .rows) (all-nil (λ st′ t. taken t (step st′ t)) st)
+
+  pub pieces-stop : (st : S) (s : List ℕ) (n : ℕ) → 0 < length s → step st s ≡ stop n → pieces step st s ≡ []
+  unfolding pieces
+  pieces-stop st s n pos e = ap (λ (r : Reading (List ℕ)). r .rows) (all-stop (λ st′ t. taken t (step st′ t)) st s n pos (ap (taken s) e))
+
+  pub pieces-took : (st st′ : S) (s : List ℕ) (used : ℕ) (a : A) → 0 < length s → 0 < used → step st s ≡ took used a st′
+      → pieces step st s ≡ take used s ∷ pieces step st′ (drop used s)
+  unfolding pieces
+  pieces-took st st′ s used a pos up e =
+      ap (λ (r : Reading (List ℕ)). r .rows) (all-took (λ st₁ t. taken t (step st₁ t)) st st′ s used (take used s) pos up (ap (taken s) e))
+
+-- ---- sums and places of values
+
+pub tally-one : {A : Type 0} (rows : List A) → tally (λ _. 1) rows ≡ length rows
+unfolding tally
+tally-one [] = refl
+tally-one (a ∷ rows) = omega (arith, tally-one rows)
+
+pub tally-flat : {A : Type 0} (emit : A → List ℕ) (rows : List A) → tally (λ a. length (emit a)) rows ≡ length (flat emit rows)
+unfolding tally flat
+tally-flat emit [] = refl
+tally-flat emit (a ∷ rows) = omega (arith, tally-flat emit rows, length-append (emit a) (flat emit rows))
+
+-- values of k places each
+pub flat-length : {A : Type 0} (emit : A → List ℕ) (k : ℕ) → ((a : A) → length (emit a) ≡ k) → (rows : List A) → length (flat emit rows) ≡ k * length rows
+unfolding flat
+flat-length emit k h [] = omega (arith, mul-zero k)
+flat-length emit k h (a ∷ rows) = omega (arith, flat-length emit k h rows, length-append (emit a) (flat emit rows), h a, mul-suc k (length rows))
