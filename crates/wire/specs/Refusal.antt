@@ -56,3 +56,13 @@ wideNumber = 13
 -- a row, or a path, that cannot be written
 abbrev pub notWritable : ℕ
 notWritable = 14
+
+-- ---- the limits behind number 1
+
+-- the most bytes of a list or an attribute value
+abbrev pub listLimit : ℕ
+listLimit = 65535
+
+-- the most bytes of an UPDATE body
+abbrev pub bodyLimit : ℕ
+bodyLimit = 65516

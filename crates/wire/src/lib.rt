@@ -8,6 +8,11 @@ ghost use Rattle.wire.specs.Store.{placed};
 
 pub mod refusal;
 
+// The most bytes of a list or an attribute value, and of an UPDATE body.
+pub const LIST_LIMIT: usize = 65535;
+
+pub const BODY_LIMIT: usize = 65516;
+
 // A byte as a wider number.
 pub fn wide(b: u8) -> u32
     ensures { λ r. ⌜ r ≡ b ⌝ }

@@ -28,7 +28,7 @@ same-length c = search needs
 returns-3 : tie.Need-returns-3
 returns-3 c =
     let a = c .before .before .before .before .before .before .before .before .args in
-    c .put4 .ensures ∙ ap (placed (a .out .now) (a .to)) (sym (take-all (a .m) (toBe 4 (a .v)) (omega arith)))
+    c .before .before .put4 .ensures ∙ ap (placed (a .out .now) (a .to)) (sym (take-all (a .m) (toBe 4 (a .v)) (omega arith)))
 
 sub-if4 : tie.Need-sub-if4
 sub-if4 c = search needs

@@ -1,0 +1,7 @@
+pub mod Prefix
+pub mod List
+pub mod Promises
+pub mod Size
+pub mod PrefixLaws
+pub mod ListLaws
+pub mod Tight

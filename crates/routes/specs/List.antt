@@ -1,0 +1,63 @@
+-- A list of routes: items to the end of the bytes, under each Add-Path setting; and a section of an UPDATE.
+use Prim.Native.Nat.{ℕ, _+_}
+use mathlib.Core.List.{List, [], _∷_}
+use mathlib.Core.Bool.{Bool, true, false, not}
+use lib.ListN.{length, getD}
+use lib.Dec.{eqb}
+use Rattle.wire.specs.Choice.{pick}
+use Rattle.wire.specs.Refusal.{oneByteSection}
+use Rattle.wire.specs.Walk.{Step, took, stop, Reading, refused, readAll}
+use Rattle.routes.specs.Prefix.{prefixOf}
+use Rattle.routes.specs.declared.Form.{Form}
+use Rattle.routes.specs.declared.Form.the-variants.{Plain, Tagged}
+use Rattle.routes.specs.declared.AddPath.{AddPath}
+use Rattle.routes.specs.declared.AddPath.the-variants.{On, Off, Guess}
+use Rattle.routes.specs.declared.Row.{Row}
+use Rattle.routes.specs.declared.PrefixAnswer.{PrefixAnswer}
+use Rattle.routes.specs.declared.PrefixAnswer.the-variants.{Prefix, Refused}
+
+-- an item read in a form, as a step that leaves that form as the state
+abbrev pub asStep : Form → PrefixAnswer → Step Form Row
+asStep form (Prefix used row) = took used row form
+asStep form (Refused n) = stop n
+
+unfoldable pub inForm : ℕ → Form → List ℕ → Step Form Row
+inForm max form s = asStep form (prefixOf s max form)
+
+-- Plain, at a byte other than 0
+abbrev pub plainHere : Form → ℕ → Bool
+plainHere Plain b = not (eqb b 0)
+plainHere Tagged b = false
+
+-- Tagged where the item is well formed with an id, and else Plain
+abbrev pub tried : PrefixAnswer → Form
+tried (Prefix used row) = Tagged
+tried (Refused n) = Plain
+
+-- the form in which the guess reads the item at the front, from a state: in Plain, a byte other than 0 is read without id;
+-- elsewhere the item is tried with id, and the same place is read without id where that is not well formed
+unfoldable pub guessForm : ℕ → Form → List ℕ → Form
+guessForm max st s = pick (plainHere st (getD s 0 0)) Plain (tried (prefixOf s max Tagged))
+
+-- the form in which a setting reads the item at the front
+abbrev pub formBy : ℕ → AddPath → Form → List ℕ → Form
+formBy max On st s = Tagged
+formBy max Off st s = Plain
+formBy max Guess st s = guessForm max st s
+
+unfoldable pub stepOf : ℕ → AddPath → Form → List ℕ → Step Form Row
+stepOf max mode st s = inForm max (formBy max mode st s) s
+
+-- the rows of a list before its refusal, and the refusal's number; the walk starts in Plain
+unfoldable pub listOf : List ℕ → ℕ → AddPath → Reading Row
+listOf s max mode = readAll (stepOf max mode) Plain s
+
+-- one byte, and not 0
+abbrev pub strange : List ℕ → Bool
+strange [] = false
+strange (b ∷ []) = not (eqb b 0)
+strange (b ∷ c ∷ s) = false
+
+-- a section of an UPDATE: a list, but that such a byte is refused before any item
+unfoldable pub sectionOf : List ℕ → ℕ → AddPath → Reading Row
+sectionOf s max mode = pick (strange s) (refused oneByteSection) (listOf s max mode)

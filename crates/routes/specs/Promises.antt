@@ -1,0 +1,38 @@
+-- What the calls on a list or a section answer and leave, from the bytes and from the reading of them that `List` defines.
+use Prim.Native.Nat.{ℕ, zero, suc, _/_}
+use mathlib.Core.List.{List}
+use lib.ListN.{length}
+use lib.Dec.{leb}
+use Rattle.wire.specs.Choice.{pick}
+use Rattle.wire.specs.Refusal.{tooLong, noRoom, listLimit}
+use Rattle.wire.specs.Store.{laid}
+use Rattle.wire.specs.Walk.{Reading, flat}
+use Rattle.routes.specs.Prefix.{words}
+use Rattle.routes.specs.declared.Row.{Row}
+use Rattle.routes.specs.declared.ListAnswer.{ListAnswer}
+use Rattle.routes.specs.declared.ListAnswer.the-variants.{Rows, Refused}
+
+-- the count where the verdict is 0, and else the verdict
+abbrev pub answerBy : ℕ → ℕ → ListAnswer
+answerBy zero count = Rows count
+answerBy (suc n) count = Refused (suc n)
+
+-- counting: 1 first, then what the reading says
+unfoldable pub countAnswer : List ℕ → Reading Row → ListAnswer
+countAnswer s r = pick (leb (length s) listLimit) (answerBy (r .verdict) (length (r .rows))) (Refused tooLong)
+
+-- reading into a store of so many places: 11 last; room is a sixth of the places, rounded down
+abbrev pub roomed : ListAnswer → ℕ → ListAnswer
+roomed (Rows n) places = pick (leb n (places / 6)) (Rows n) (Refused noRoom)
+roomed (Refused n) places = Refused n
+
+unfoldable pub readAnswer : List ℕ → Reading Row → ℕ → ListAnswer
+readAnswer s r places = roomed (countAnswer s r) places
+
+-- the store afterwards: the rows from its front where they were taken, and else as it was
+abbrev pub filled : ListAnswer → List Row → List ℕ → List ℕ
+filled (Rows n) rows store = laid store 0 (flat words rows)
+filled (Refused n) rows store = store
+
+unfoldable pub storeAfter : List ℕ → Reading Row → List ℕ → List ℕ
+storeAfter s r store = filled (readAnswer s r (length store)) (r .rows) store
