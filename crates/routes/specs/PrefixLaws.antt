@@ -32,6 +32,12 @@ pub record Took (s : List ℕ) (max : ℕ) (form : Form) (used : ℕ) (row : Row
   pub room : used ≤ length s
   pub is : row ≡ itemRow form (take used s)
 
+-- that the first `used` bytes of s can be put as a row: what putting asks
+pub record Placeable (max : ℕ) (form : Form) (used : ℕ) (s : List ℕ) : Type 0 where
+  pub front : idSize form + 1 ≤ used
+  pub end : used ≤ idSize form + 1 + octets max
+  pub within : used ≤ length s
+
 -- what holds of each answer where it is given holds of the answer
 pub prefix-cases {ℓ} : (s : List ℕ) (max : ℕ) (form : Form) (P : PrefixAnswer → Type ℓ)
     → P (Refused truncated)
