@@ -12,10 +12,10 @@ use lib.ListN.{length, getD, take, drop}
 use Rattle.wire.specs.Choice.{pick-leb}
 use Rattle.wire.specs.Refusal.{tooLong, oneByteSection, noRoom, listLimit}
 use Rattle.wire.specs.Store.{laid}
-use Rattle.wire.specs.Turn.{rest, Light, Counted, turn-fits, count-step, count-stop, Filled, fill-fits, fill-step, fill-never}
+use Rattle.wire.specs.Turn.{rest, Light, Counted, turn-fits, count-step, count-stop, Filled, fill-fits, fill-step, fill-takes}
 use Rattle.wire.specs.Walk.{readAll, Step, took, stop, Reading, refused, tally, flat}
 use Rattle.wire.specs.WalkLaws.{Sound, tally-one, flat-length, all-blind}
-use Rattle.routes.specs.Prefix.{itemRow, words, prefixOf}
+use Rattle.routes.specs.Prefix.{itemEnd, idSize, itemRow, words, prefixOf}
 use Rattle.routes.specs.PrefixLaws.{Placeable, Took, prefix-took, prefix-names}
 use Rattle.routes.specs.List.{asStep, inForm, plainHere, tried, guessForm, formBy, fixed, stepOf, listOf, strange, sectionOf}
 use Rattle.routes.specs.Promises.{answerBy, countAnswer, readAnswer, filled, storeAfter}
@@ -50,6 +50,15 @@ form-took s max form (P.Refused n) used row st e f = let z : _≡_ {A = ℕ} 0 1
 form-names : (s : List ℕ) (max : ℕ) (form : Form) (a : PrefixAnswer) (n : ℕ) → prefixOf s max form ≡ a → asStep form a ≡ stop n → 0 < n
 form-names s max form (P.Prefix u r) n e f = let z : _≡_ {A = ℕ} 0 1 = cc in absurd (zero-ne-one z)
 form-names s max form (P.Refused m) n e f = let same : m ≡ n = cc in prefix-names s max form n (e ∙ ap P.Refused same)
+
+-- the state that a step leaves is the form that its setting chose
+pub step-form : (max : ℕ) (mode : AddPath) (st st′ : Form) (s : List ℕ) (used : ℕ) (row : Row) → stepOf max mode st s ≡ took used row st′ → formBy max mode st s ≡ st′
+unfolding stepOf inForm
+step-form max mode st st′ s used row e = by (prefixOf s max (formBy max mode st s)) e
+  where
+    by : (a : PrefixAnswer) → asStep (formBy max mode st s) a ≡ took used row st′ → formBy max mode st s ≡ st′
+    by (P.Prefix u r) f = cc
+    by (P.Refused n) f = let z : _≡_ {A = ℕ} 0 1 = cc in absurd (zero-ne-one z)
 
 -- whatever the setting, an item that is taken is one in the form that the step leaves
 pub step-took : (max : ℕ) (mode : AddPath) (st st′ : Form) (s : List ℕ) (used : ℕ) (row : Row) → stepOf max mode st s ≡ took used row st′ → Took s max st′ used row
@@ -127,12 +136,18 @@ unsize-stop (took u r f) n e = let z : _≡_ {A = ℕ} 0 1 = cc in absurd (zero-
 unsize-stop (stop m) n e = let p : m ≡ n = cc in ap stop p
 
 -- under the setting of a form every item stands in that form, whatever the state
-fixed-form : (max : ℕ) (form st : Form) (s : List ℕ) → formBy max (fixed form) st s ≡ form
+pub fixed-form : (max : ℕ) (form st : Form) (s : List ℕ) → formBy max (fixed form) st s ≡ form
 fixed-form max Plain st s = refl
 fixed-form max Tagged st s = refl
 
 pub size-fixed : (max : ℕ) (form : Form) (s : List ℕ) (size : SizeAnswer) → size ≡ sizeOf (prefixOf s max form) → kept size form ≡ sized (stepOf max (fixed form) form s)
 size-fixed max form s size e = size-step max (fixed form) form form s size e (fixed-form max form form s)
+
+-- and so is the state that a step under it leaves
+pub fixed-next : (max : ℕ) (form st next : Form) (s : List ℕ) (used : ℕ) → sized (stepOf max (fixed form) st s) ≡ S.Item used next → next ≡ form
+fixed-next max form st next s used e =
+    let u = unsize (stepOf max (fixed form) st s) used next e in
+    sym (step-form max (fixed form) st next s used (u .0) (u .1)) ∙ fixed-form max form st s
 
 -- so that its walk may as well start in that form
 pub list-fixed : (s : List ℕ) (max : ℕ) (form : Form) → listOf s max (fixed form) ≡ readAll (stepOf max (fixed form)) form s
@@ -141,15 +156,6 @@ list-fixed s max form =
     all-blind (λ st t. inForm max (formBy max (fixed form) st t) t)
     (λ st st′ t. ap (λ (f : Form). inForm max f t) (fixed-form max form st t ∙ sym (fixed-form max form st′ t)))
     Plain form s
-
--- the state that a fixed setting leaves is its form
-pub fixed-next : (max : ℕ) (form st next : Form) (s : List ℕ) (used : ℕ) → S.Item used next ≡ sized (stepOf max (fixed form) st s) → next ≡ form
-unfolding stepOf inForm
-fixed-next max form st next s used e = by (prefixOf s max (formBy max (fixed form) st s)) e ∙ fixed-form max form st s
-  where
-    by : (a : PrefixAnswer) → S.Item used next ≡ sized (asStep (formBy max (fixed form) st s) a) → next ≡ formBy max (fixed form) st s
-    by (P.Prefix u r) f = cc
-    by (P.Refused n) f = let z : _≡_ {A = ℕ} 0 1 = cc in absurd (zero-ne-one z)
 
 -- ---- a list's answers, over any reading
 
@@ -233,22 +239,42 @@ module _ (s : List ℕ) (at max : ℕ) (mode : AddPath) (st : Form) (r : StepAns
         count-bad s (readAll (stepOf max mode) st₀ s) n small (count-stop (stepOf max mode) (sound max mode) (λ _. 1) 1 (light max mode) st₀ s st at count h n lt step)
         (sound max mode .names st (drop at s) n step)
 
-  -- of a loop that fills
-  module _ (st₀ : Form) (d₀ : List ℕ) (to : ℕ) (d : List ℕ) (h : Filled (stepOf max mode) words st₀ s d₀ st at to d) where
-    pub filled-item : (used : ℕ) (form : Form) → r ≡ S.Item used form → Placeable max form used (take (length s - at) (drop at s)) × (at + used ≤ length s) × (to + 6 ≤ length d)
-    filled-item used form f =
-        let step = turn-took used form f in
-        let t = step-took max mode st form (drop at s) used _ step in
-        let fits = fill-fits (stepOf max mode) (sound max mode) words st₀ s d₀ st at to d h form used _ step in
-        (record { front = omega (arith, t .size); end = omega (arith, t .size, t .fits); within = rw rest (t .room) }, fits .1, fits .2)
+-- ---- a turn of a loop that fills, where nothing is refused any more: the item in the form that the setting chooses is there
 
-    pub filled-next : (used : ℕ) (form : Form) (d′ : List ℕ) → r ≡ S.Item used form → d′ ≡ laid d to (words (itemRow form (take used (take (length s - at) (drop at s)))))
-        → Filled (stepOf max mode) words st₀ s d₀ form (at + used) (to + 6) d′
-    filled-next used form d′ f put =
-        rw (put, rest) (fill-step (stepOf max mode) (sound max mode) words st₀ s d₀ st at to d h form used _ (turn-took used form f))
+module _ (max : ℕ) (mode : AddPath) (st₀ : Form) (s d₀ : List ℕ) (st : Form) (at to : ℕ) (d : List ℕ) (h : Filled (stepOf max mode) words st₀ s d₀ st at to d) (lt : at < length s)
+    (form : Form) (chosen : form ≡ formBy max mode st (take (length s - at) (drop at s))) where
+  -- as a step of the walk
+  item-step : stepOf max mode st (drop at s) ≡ took (itemEnd form (drop at s)) (itemRow form (take (itemEnd form (drop at s)) (drop at s))) form
+  item-step =
+      let x = fill-takes (stepOf max mode) (sound max mode) words st₀ s d₀ st at to d h lt in
+      let e = x .3 in
+      let same : x .2 ≡ form = sym (step-form max mode st (x .2) (drop at s) (x .0) (x .1) e) ∙ sym (rw rest at chosen) in
+      let t : Took (drop at s) max form (x .0) (x .1) = rw same at (step-took max mode st (x .2) (drop at s) (x .0) (x .1) e) in
+      e ∙ ap (took (x .0) (x .1)) same
+      ∙ ap₂ (λ (used : ℕ) (row : Row). took used row form) (t .size) (t .is ∙ ap (λ (used : ℕ). itemRow form (take used (drop at s))) (t .size))
 
-    pub filled-never : (n : ℕ) → at < length s → r ≡ S.Refused n → ⊥
-    filled-never n lt f = fill-never (stepOf max mode) (sound max mode) words st₀ s d₀ st at to d h n lt (turn-refused n f)
+  item-took : Took (drop at s) max form (itemEnd form (drop at s)) (itemRow form (take (itemEnd form (drop at s)) (drop at s)))
+  item-took = step-took max mode st form (drop at s) _ _ item-step
+
+  pub filled-there : idSize form < length (take (length s - at) (drop at s))
+  filled-there = rw rest (item-took .there)
+
+  -- it can be put
+  pub filled-item : (used : ℕ) → used ≡ itemEnd form (take (length s - at) (drop at s))
+      → Placeable max form used (take (length s - at) (drop at s)) × (at + used ≤ length s) × (to + 6 ≤ length d)
+  filled-item used e =
+      let size : used ≡ itemEnd form (drop at s) = rw rest at e in
+      let t = item-took in
+      let fits = fill-fits (stepOf max mode) (sound max mode) words st₀ s d₀ st at to d h form _ _ item-step in
+      (record { front = omega (arith, size); end = omega (arith, size, t .fits); within = rw rest (omega (arith, size, t .room)) }, omega (arith, size, fits .1), fits .2)
+
+  -- and when it is put, the turn is done
+  pub filled-next : (used : ℕ) (d′ : List ℕ) → used ≡ itemEnd form (take (length s - at) (drop at s))
+      → d′ ≡ laid d to (words (itemRow form (take used (take (length s - at) (drop at s)))))
+      → Filled (stepOf max mode) words st₀ s d₀ form (at + used) (to + 6) d′
+  filled-next used d′ e put =
+      let size : used ≡ itemEnd form (drop at s) = rw rest at e in
+      rw (put, rest, size) (fill-step (stepOf max mode) (sound max mode) words st₀ s d₀ st at to d h form _ _ item-step)
 
 -- ---- a section
 

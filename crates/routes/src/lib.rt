@@ -7,9 +7,9 @@ ghost use Rattle.wire.specs.Number.{beAt};
 ghost use Rattle.wire.specs.Refusal.{listLimit};
 ghost use Rattle.wire.specs.Store.{laid};
 ghost use Rattle.wire.specs.Walk.{flat};
-ghost use Rattle.routes.specs.Prefix.{maxOf, idSize, markOf, octets, wordAt, rowOf, itemRow, words, prefixOf};
+ghost use Rattle.routes.specs.Prefix.{maxOf, idSize, markOf, octets, itemEnd, wordAt, rowOf, itemRow, words, prefixOf};
 ghost use Rattle.routes.specs.PrefixLaws.{Placeable};
-ghost use Rattle.routes.specs.List.{plainHere, fixed, stepOf, listOf, sectionOf, strange};
+ghost use Rattle.routes.specs.List.{plainHere, guessForm, fixed, stepOf, listOf, sectionOf, strange};
 ghost use Rattle.routes.specs.Size.{sizeOf, sized, kept};
 ghost use Rattle.routes.specs.Promises.{countAnswer, readAnswer, filled, storeAfter, Fitting};
 ghost use Rattle.routes.specs.Pair.{hasRoom, pairAnswer, firstAfter, secondAfter};
@@ -162,7 +162,8 @@ fn put_words(store: &mut [u32], to: usize, first: u32, id: u32, w0: u32, w1: u32
     store[to + 5] = w3;
 }
 
-// The row of n octets at the front of t, at a place of a store. A family of at most 32 bits has one address word.
+// The row of n octets at the front of t, at a place of a store. A family of at most 32 bits has one address word. The last word
+// is read first: where its four bytes are there, so are those of the others.
 fn put_row(store: &mut [u32], to: usize, t: &[u8], n: usize, max: u8, first: u32, id: u32)
     requires { ⌜ to + 6 ≤ length (now store) ⌝ }
     requires { ⌜ n ≤ octets max ⌝ }
@@ -172,16 +173,11 @@ fn put_row(store: &mut [u32], to: usize, t: &[u8], n: usize, max: u8, first: u32
         put_words(store, to, first, id, front_word(t, n), 0, 0, 0);
         return;
     }
-    put_words(
-        store,
-        to,
-        first,
-        id,
-        word_of(t, 0, n),
-        word_of(t, 4, n),
-        word_of(t, 8, n),
-        word_of(t, 12, n),
-    );
+    let w3 = word_of(t, 12, n);
+    let w2 = word_of(t, 8, n);
+    let w1 = word_of(t, 4, n);
+    let w0 = word_of(t, 0, n);
+    put_words(store, to, first, id, w0, w1, w2, w3);
 }
 
 // What an id adds to a row's first word.
@@ -348,6 +344,28 @@ fn count_rows(s: &[u8], max: u8, mode: AddPath) -> ListAnswer
     }
 }
 
+// The bytes of the item at the front of a list that is known to be good.
+fn item_end(s: &[u8], form: Form) -> usize
+    requires { ⌜ idSize form < length (now s) ⌝ }
+    ensures { λ r. ⌜ r ≡ itemEnd form (now (s .entry)) ⌝ }
+{
+    let k = id_size(form);
+    k + 1 + octet_count(s[k])
+}
+
+// The form in which the guess reads the item at the front.
+fn guess_form(s: &[u8], max: u8, form: Form) -> Form
+    ensures { λ r. ⌜ r ≡ guessForm max form (now (s .entry)) ⌝ }
+{
+    if plain_here(s, form) {
+        return Form::Plain;
+    }
+    match item_size(s, max, Form::Tagged) {
+        SizeAnswer::Size(_) => Form::Tagged,
+        SizeAnswer::Refused(_) => Form::Plain,
+    }
+}
+
 // The rows of a good list that has room, from the front of a store: items in one form, items by the guess, and under a setting.
 fn fill_form(s: &[u8], max: u8, form: Form, store: &mut [u32])
     requires { ⌜ Fitting (listOf (now s) max (fixed form)) (now store) ⌝ }
@@ -356,16 +374,10 @@ fn fill_form(s: &[u8], max: u8, form: Form, store: &mut [u32])
     let mut at: usize = 0;
     let mut to: usize = 0;
     while at < s.len() {
-        match form_size(&s[at..], max, form) {
-            StepAnswer::Item { used, form: _ } => {
-                put_item(store, to, &s[at..], used, max, form);
-                at = at + used;
-                to = to + 6;
-            }
-            StepAnswer::Refused(_) => {
-                return;
-            }
-        }
+        let used = item_end(&s[at..], form);
+        put_item(store, to, &s[at..], used, max, form);
+        at = at + used;
+        to = to + 6;
     }
 }
 
@@ -377,17 +389,12 @@ fn fill_guess(s: &[u8], max: u8, store: &mut [u32])
     let mut to: usize = 0;
     let mut form = Form::Plain;
     while at < s.len() {
-        match guess_size(&s[at..], max, form) {
-            StepAnswer::Item { used, form: next } => {
-                put_item(store, to, &s[at..], used, max, next);
-                at = at + used;
-                to = to + 6;
-                form = next;
-            }
-            StepAnswer::Refused(_) => {
-                return;
-            }
-        }
+        let next = guess_form(&s[at..], max, form);
+        let used = item_end(&s[at..], next);
+        put_item(store, to, &s[at..], used, max, next);
+        at = at + used;
+        to = to + 6;
+        form = next;
     }
 }
 

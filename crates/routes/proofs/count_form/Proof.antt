@@ -45,7 +45,7 @@ turn c =
     let a = l .before .before .args in
     let part = take (length (a .s .now) - l .loop .at) (drop (l .loop .at) (a .s .now)) in
     let read = c .before .before .before .form-size .ensures in
-    let told = c .before .used .given .1 ∙ ap (Item (c .before .used .given .0 .0)) (fixed-next (a .max) (a .form) (a .form) _ part _ (sym (c .before .used .given .1) ∙ read)) in
+    let told = c .before .used .given .1 ∙ ap (Item (c .before .used .given .0 .0)) (fixed-next (a .max) (a .form) (a .form) _ part _ (sym read ∙ c .before .used .given .1)) in
     counted-next (a .s .now) (l .loop .at) (a .max) (fixed (a .form)) (a .form) _ read (a .form) (l .loop .count) (l .loop .inv) _ _ told
 
 add-at : tie.Need-add-at Inv-loop μ-loop

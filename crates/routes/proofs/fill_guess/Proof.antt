@@ -8,7 +8,7 @@ use Rattle.routes.specs.declared.Form.the-variants.{Plain}
 use Rattle.routes.specs.declared.AddPath.the-variants.{Guess}
 use Rattle.routes.specs.PrefixLaws.{Placeable}
 use Rattle.routes.specs.List.{stepOf, listOf}
-use Rattle.routes.specs.ListLaws.{sound, filled-item, filled-next, filled-never}
+use Rattle.routes.specs.ListLaws.{sound, filled-there, filled-item, filled-next}
 use Rattle.routes.proofs.fill_guess.Statement.{statement}
 use Rattle.routes.proofs.fill_guess.Tie as tie
 
@@ -20,33 +20,47 @@ abbrev μ-loop : tie.MeasureT-loop
 
 loop-holds : tie.Need-loop-holds Inv-loop μ-loop
 unfolding listOf
-loop-holds c = let g = c .before .before in fill-start (stepOf (g .args .max) Guess) (sound (g .args .max) Guess) words Plain (g .args .s .now) (g .args .store .now) (g .pre .good) (g .pre .room)
+loop-holds c =
+    let g = c .before .before in
+    fill-start (stepOf (g .args .max) Guess) (sound (g .args .max) Guess) words Plain (g .args .s .now) (g .args .store .now) (g .pre .good) (g .pre .room)
 
-sub-guess-size : tie.Need-sub-guess-size Inv-loop μ-loop
-sub-guess-size c = search needs
+sub-guess-form : tie.Need-sub-guess-form Inv-loop μ-loop
+sub-guess-form c = search needs
 
-part-guess-size-start : tie.Need-part-guess-size-start Inv-loop μ-loop
-part-guess-size-start c = search needs
+part-guess-form-start : tie.Need-part-guess-form-start Inv-loop μ-loop
+part-guess-form-start c = search needs
 
-part-guess-size-end : tie.Need-part-guess-size-end Inv-loop μ-loop
-part-guess-size-end c = search needs
+part-guess-form-end : tie.Need-part-guess-form-end Inv-loop μ-loop
+part-guess-form-end c = search needs
 
-guess-size-requires : tie.Need-guess-size-requires Inv-loop μ-loop
-guess-size-requires c κs = search needs
+guess-form-requires : tie.Need-guess-form-requires Inv-loop μ-loop
+guess-form-requires c κs = search needs
 
-enum-known-used : tie.Need-enum-known-used Inv-loop μ-loop
-enum-known-used c = search needs
+sub-item-end : tie.Need-sub-item-end Inv-loop μ-loop
+sub-item-end c = search needs
+
+part-item-end-start : tie.Need-part-item-end-start Inv-loop μ-loop
+part-item-end-start c = search needs
+
+part-item-end-end : tie.Need-part-item-end-end Inv-loop μ-loop
+part-item-end-end c = search needs
+
+item-end-requires : tie.Need-item-end-requires Inv-loop μ-loop
+item-end-requires c κs =
+    let l = c .before .before .before .before in
+    let a = l .before .before .before .args in
+    filled-there (a .max) Guess Plain (a .s .now) (a .store .now) (l .loop .form) (l .loop .at) (l .loop .to) (l .loop .store) (l .loop .inv) (c .before .before .before .loop-test .taken) (c .before .guess-form .result) (c .before .guess-form .ensures)
 
 -- the item that the turn takes can be put
-item : (c : tie.After-known-told Inv-loop μ-loop) →
-    let l = c .before .before .before .before .before .before in
+item : (c : tie.After-item-end Inv-loop μ-loop) →
+    let l = c .before .before .before .before .before in
     let a = l .before .before .before .args in
-    let used = c .before .used .given .0 .0 in
-    Placeable (a .max) (c .before .used .given .0 .1 .0) used (take (length (a .s .now) - l .loop .at) (drop (l .loop .at) (a .s .now))) × (l .loop .at + used ≤ length (a .s .now)) × (l .loop .to + 6 ≤ length (l .loop .store))
+    let used = c .item-end .result in
+    Placeable (a .max) (c .before .before .guess-form .result) used (take (length (a .s .now) - l .loop .at) (drop (l .loop .at) (a .s .now))) × (l .loop .at + used ≤ length (a .s .now)) × (l .loop .to + 6 ≤ length (l .loop .store))
 item c =
-    let l = c .before .before .before .before .before .before in
+    let l = c .before .before .before .before .before in
     let a = l .before .before .before .args in
-    filled-item (a .s .now) (l .loop .at) (a .max) Guess (l .loop .form) _ (c .before .before .before .guess-size .ensures) Plain (a .store .now) (l .loop .to) (l .loop .store) (l .loop .inv) _ _ (c .before .used .given .1)
+    filled-item (a .max) Guess Plain (a .s .now) (a .store .now) (l .loop .form) (l .loop .at) (l .loop .to) (l .loop .store) (l .loop .inv) (c .before .before .before .before .loop-test .taken) (c .before .before .guess-form .result) (c .before .before .guess-form .ensures) _ (c .item-end .ensures)
 
 sub-put-item : tie.Need-sub-put-item Inv-loop μ-loop
 sub-put-item c = search needs
@@ -72,28 +86,16 @@ loop-less c = let i = item (c .before .before .before .before .before) in omega 
 loop-again : tie.Need-loop-again Inv-loop μ-loop
 loop-again c =
     let k = c .before .before .before .before .before in
-    let l = k .before .before .before .before .before .before in
+    let l = k .before .before .before .before .before in
     let a = l .before .before .before .args in
-    filled-next (a .s .now) (l .loop .at) (a .max) Guess (l .loop .form) _ (k .before .before .before .guess-size .ensures) Plain (a .store .now) (l .loop .to) (l .loop .store) (l .loop .inv) _ _ _ (k .before .used .given .1) (c .before .before .put-item .ensures)
-
-enum-told : tie.Need-enum-told Inv-loop μ-loop
-enum-told c = search needs
+    filled-next (a .max) Guess Plain (a .s .now) (a .store .now) (l .loop .form) (l .loop .at) (l .loop .to) (l .loop .store) (l .loop .inv) (k .before .before .before .before .loop-test .taken) (k .before .before .guess-form .result) (k .before .before .guess-form .ensures) _ _ (k .item-end .ensures) (c .before .before .put-item .ensures)
 
 same-length : tie.Need-same-length Inv-loop μ-loop
-same-length c = c .before .before .before .before .before .loop .inv .long
+same-length c = c .before .loop .inv .long
 
 returns : tie.Need-returns Inv-loop μ-loop
-returns c =
-    let l = c .before .before .before .before .before in
-    let a = l .before .before .before .args in
-    absurd (filled-never (a .s .now) (l .loop .at) (a .max) Guess (l .loop .form) _ (c .before .before .guess-size .ensures) Plain (a .store .now) (l .loop .to) (l .loop .store) (l .loop .inv) _ (c .before .before .before .before .loop-test .taken) (c .enum-told .given .1))
-
-same-length-2 : tie.Need-same-length-2 Inv-loop μ-loop
-same-length-2 c = c .before .loop .inv .long
-
-returns-2 : tie.Need-returns-2 Inv-loop μ-loop
 unfolding listOf
-returns-2 c =
+returns c =
     let l = c .before in
     let a = l .before .before .before .args in
     fill-done (stepOf (a .max) Guess) (sound (a .max) Guess) words Plain (a .s .now) (a .store .now) (l .loop .form) (l .loop .at) (l .loop .to) (l .loop .store) (l .loop .inv) (c .loop-test .left)
@@ -105,11 +107,14 @@ fill-guess-spec =
     Inv-loop
     μ-loop
     loop-holds
-    sub-guess-size
-    part-guess-size-start
-    part-guess-size-end
-    guess-size-requires
-    enum-known-used
+    sub-guess-form
+    part-guess-form-start
+    part-guess-form-end
+    guess-form-requires
+    sub-item-end
+    part-item-end-start
+    part-item-end-end
+    item-end-requires
     sub-put-item
     part-put-item-start
     part-put-item-end
@@ -118,8 +123,5 @@ fill-guess-spec =
     add-to
     loop-less
     loop-again
-    enum-told
     same-length
-    returns
-    same-length-2
-    returns-2)
+    returns)
