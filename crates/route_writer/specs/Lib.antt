@@ -1,0 +1,3 @@
+pub mod Encode
+pub mod EncodeLaws
+pub mod Promises
