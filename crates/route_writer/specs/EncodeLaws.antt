@@ -7,7 +7,7 @@ use mathlib.Core.Bool.{Bool, true, false, _&&_}
 use native.Mathlib.Nat.{lt-of-not-le, mod-lt, not-suc-le-zero, zero-mul, suc-mul, sub-zero, suc-sub-suc, mod-eq-of-lt, add-sub-of-le}
 use native.Mathlib.Decide.{decLe}
 use native.Mathlib.Omega.{arith}
-use borrow.Author.Tests.{le-leb, leb-true, eq-eqb, eqb-true, ne-eqb}
+use borrow.Author.Tests.{le-leb, lt-leb, leb-true, eq-eqb, eqb-true, ne-eqb}
 use lib.ListN.{length, getD, take, drop, set, length-append, length-take, drop-of-length-le}
 use lib.Seq.{length-take-le, take-all, take-append-le}
 use lib.Dec.{leb, eqb}
@@ -199,6 +199,10 @@ row-laid d to p l o h =
     ∙ laid-laid d to (p ++ one) o (omega arith)
     ∙ ap (laid d to) (append-assoc p one o)
 
+pub id-small : (form : Form) → idSize form ≤ 4
+id-small Plain = omega arith
+id-small Tagged = omega arith
+
 pub id-bytes : (form : Form) (id : ℕ) → take (idSize form) (toBe 4 id) ≡ toBe (idSize form) id
 id-bytes Plain id = refl
 id-bytes Tagged id = refl
@@ -287,11 +291,61 @@ module _ (max : ℕ) (form : Form) where
   pub write-light : max ≤ 128 → Light (writeStep max form) (λ row. length (rowBytes form row)) 4
   write-light small st st′ ws used row e =
       let t = write-took st st′ ws used row e in
-      let id : idSize form ≤ 4 = id-small form in
+      let id = id-small form in
       let size : length (rowBytes form row) ≡ idSize form + 1 + octets (lengthOf form (frontRow ws)) =
       ap (λ (r : Row). length (rowBytes form r)) (t .is) ∙ row-size form (frontRow ws) (omega (arith, t .good .fits)) in
       omega (arith, t .size, t .good .fits)
-    where
-      id-small : (f : Form) → idSize f ≤ 4
-      id-small Plain = omega arith
-      id-small Tagged = omega arith
+
+-- ---- the row at the front, by its words
+
+pub no-and : (a : Bool) → a && false ≡ false
+no-and true = refl
+no-and false = refl
+
+module _ (ws : List ℕ) (max : ℕ) (form : Form) where
+  -- what makes it one that cannot be written
+  pub low-mark : getD ws 0 0 < markOf form → writable max form (frontRow ws) ≡ false
+  unfolding writable frontRow
+  low-mark h = rw (lt-leb (markOf form) (getD ws 0 0) h)
+
+  pub long-prefix : max < getD ws 0 0 - markOf form → writable max form (frontRow ws) ≡ false
+  unfolding writable frontRow
+  long-prefix h = simp (lt-leb (getD ws 0 0 - markOf form) max h, no-and)
+
+  pub strange-id : idFits form (getD ws 1 0) ≡ false → writable max form (frontRow ws) ≡ false
+  unfolding writable frontRow
+  strange-id e = simp (e, no-and)
+
+  pub set-octets : allZero (drop (octets (getD ws 0 0 - markOf form)) (fourWords (getD ws 2 0) (getD ws 3 0) (getD ws 4 0) (getD ws 5 0))) ≡ false
+      → writable max form (frontRow ws) ≡ false
+  unfolding writable frontRow
+  set-octets e = simp (e, no-and)
+
+  -- and what one that can be written has
+  pub front-writable : markOf form ≤ getD ws 0 0 → getD ws 0 0 - markOf form ≤ max → idFits form (getD ws 1 0) ≡ true
+      → allZero (drop (octets (getD ws 0 0 - markOf form)) (fourWords (getD ws 2 0) (getD ws 3 0) (getD ws 4 0) (getD ws 5 0))) ≡ true
+      → Writable max form (frontRow ws)
+  unfolding frontRow
+  front-writable m f i p = record { mark = m; fits = f; id = i; past = p }
+
+  pub front-parts : Writable max form (frontRow ws) → max ≤ 128
+      → (markOf form ≤ getD ws 0 0) × (getD ws 0 0 - markOf form ≤ max) × (length (rowBytes form (frontRow ws)) ≡ idSize form + 1 + octets (getD ws 0 0 - markOf form))
+  unfolding frontRow
+  front-parts w small = (w .mark, w .fits, row-size form (frontRow ws) (omega (arith, w .fits)))
+
+-- its bytes as code puts them: the id, the length byte, the octets
+pub front-laid : (d : List ℕ) (to k n l : ℕ) (ws : List ℕ) (form : Form) → k ≡ idSize form → l ≡ getD ws 0 0 - markOf form → n ≡ octets l
+    → to + length (rowBytes form (frontRow ws)) ≤ length d
+    → laid (set (placed d to (take k (toBe 4 (getD ws 1 0)))) (to + k) l) (to + k + 1) (take n (fourWords (getD ws 2 0) (getD ws 3 0) (getD ws 4 0) (getD ws 5 0)))
+    ≡ laid d to (rowBytes form (frontRow ws))
+unfolding rowBytes frontRow
+front-laid d to k n l ws form ks ls ns room =
+    let p : List ℕ = toBe (idSize form) (getD ws 1 0) in
+    let m : ℕ = getD ws 0 0 - markOf form in
+    let o : List ℕ = fourWords (getD ws 2 0) (getD ws 3 0) (getD ws 4 0) (getD ws 5 0) in
+    let ids : take k (toBe 4 (getD ws 1 0)) ≡ p = ap (λ (j : ℕ). take j (toBe 4 (getD ws 1 0))) ks ∙ id-bytes form (getD ws 1 0) in
+    let kp : k ≡ length p = ks ∙ sym (length-toBe (idSize form) (getD ws 1 0)) in
+    let nm : n ≡ octets m = ns ∙ ap octets ls in
+    ap₂ (λ (x : List ℕ) (j : ℕ). laid (set (placed d to x) (to + j) l) (to + j + 1) (take n o)) ids kp
+    ∙ ap₂ (λ (i j : ℕ). laid (set (placed d to p) (to + length p) i) (to + length p + 1) (take j o)) ls nm
+    ∙ row-laid d to p m (take (octets m) o) room

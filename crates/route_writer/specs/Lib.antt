@@ -1,3 +1,4 @@
 pub mod Encode
 pub mod EncodeLaws
 pub mod Promises
+pub mod PromiseLaws
