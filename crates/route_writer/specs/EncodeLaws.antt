@@ -1,27 +1,29 @@
 -- Laws of a row's bytes, and of a store of rows written row by row.
 -- Assumes nothing.
 use Prim.Native.Nat.{ℕ, zero, suc, _+_, _-_, _*_, _/_, _%_, _^_, _≤_, _<_}
-use mathlib.Core.Path.{_≡_, refl, sym, ap, ap₂, _∙_, subst}
+use mathlib.Core.Path.{_≡_, refl, sym, ap, ap₂, _∙_}
 use mathlib.Core.List.{List, [], _∷_, _++_, append-nil, append-assoc}
 use mathlib.Core.Bool.{Bool, true, false, _&&_}
 use native.Mathlib.Nat.{lt-of-not-le, mod-lt, not-suc-le-zero, zero-mul, suc-mul, sub-zero, suc-sub-suc, mod-eq-of-lt, add-sub-of-le}
 use native.Mathlib.Decide.{decLe}
 use native.Mathlib.Omega.{arith}
-use borrow.Author.Tests.{le-leb, lt-leb, leb-true, eq-eqb, eqb-true, ne-eqb}
+use borrow.Author.Tests.{le-leb, lt-leb, leb-true, ne-eqb}
 use lib.ListN.{length, getD, take, drop, set, length-append, length-take, drop-of-length-le}
 use lib.Seq.{length-take-le, take-all, take-append-le}
 use lib.Dec.{leb, eqb}
 use lib.Arith.{mod-mul, digits-mod}
 use lib.Pow.{pow-add}
-use Rattle.wire.specs.Choice.{pick, pick-leb}
+use Rattle.wire.specs.Choice.{pick}
 use Rattle.wire.specs.Number.{be, toBe}
 use Rattle.wire.specs.NumberLaws.{length-toBe, be-toBe, pow-pos256}
 use Rattle.wire.specs.Refusal.{notWritable}
 use Rattle.wire.specs.Store.{placed, placed-fits, placed-nil, length-placed, laid, laid-laid, length-laid, puts-laid}
 use Rattle.wire.specs.Walk.{Step, took, stop}
 use Rattle.wire.specs.WalkLaws.{Sound}
-use Rattle.wire.specs.Turn.{Light}
-use Rattle.routes.specs.Prefix.{idSize, markOf, octets}
+use Rattle.wire.specs.Turn.{Light, Filled, fill-takes, fill-fits, fill-step}
+use Rattle.routes.specs.Prefix.{maxOf, idSize, markOf, octets}
+use Rattle.routes.specs.declared.Afi.{Afi}
+use Rattle.routes.specs.declared.Afi.the-variants.{Ipv4, Ipv6}
 use Rattle.routes.specs.declared.Form.{Form}
 use Rattle.routes.specs.declared.Form.the-variants.{Plain, Tagged}
 use Rattle.routes.specs.declared.Row.{Row}
@@ -349,3 +351,27 @@ front-laid d to k n l ws form ks ls ns room =
     ap₂ (λ (x : List ℕ) (j : ℕ). laid (set (placed d to x) (to + j) l) (to + j + 1) (take n o)) ids kp
     ∙ ap₂ (λ (i j : ℕ). laid (set (placed d to p) (to + length p) i) (to + length p + 1) (take j o)) ls nm
     ∙ row-laid d to p m (take (octets m) o) room
+
+-- ---- a turn of the loop that fills
+
+module _ (max : ℕ) (form : Form) (rows d₀ : List ℕ) (at to : ℕ) (d : List ℕ) (h : Filled (writeStep max form) (rowBytes form) tt rows d₀ tt at to d) (lt : at < length rows) where
+  fill-took : (writeStep max form tt (drop at rows) ≡ took 6 (frontRow (drop at rows)) tt) × (6 ≤ length (drop at rows)) × Writable max form (frontRow (drop at rows))
+  fill-took =
+      let t = fill-takes (writeStep max form) (write-sound max form) (rowBytes form) tt rows d₀ tt at to d h lt in
+      let w = write-took max form tt (t .2) (drop at rows) (t .0) (t .1) (t .3) in
+      (took-write max form tt (drop at rows) (w .there) (w .good), w .there, w .good)
+
+  -- the row there can be written and has room
+  pub fill-row : (6 ≤ length (drop at rows)) × (writable max form (frontRow (drop at rows)) ≡ true) × (to + length (rowBytes form (frontRow (drop at rows))) ≤ length d)
+  fill-row =
+      let t = fill-took in
+      (t .1, writable-is max form (frontRow (drop at rows)) (t .2), fill-fits (writeStep max form) (write-sound max form) (rowBytes form) tt rows d₀ tt at to d h tt 6 (frontRow (drop at rows)) (t .0) .2)
+
+  -- and after its bytes the loop's head is reached again
+  pub fill-next : Filled (writeStep max form) (rowBytes form) tt rows d₀ tt (at + 6) (to + length (rowBytes form (frontRow (drop at rows)))) (laid d to (rowBytes form (frontRow (drop at rows))))
+  fill-next = fill-step (writeStep max form) (write-sound max form) (rowBytes form) tt rows d₀ tt at to d h tt 6 (frontRow (drop at rows)) (fill-took .0)
+
+-- no family has more than 128 bits
+pub max-small : (afi : Afi) → maxOf afi ≤ 128
+max-small Ipv4 = omega arith
+max-small Ipv6 = omega arith

@@ -2,3 +2,4 @@ pub mod Encode
 pub mod EncodeLaws
 pub mod Promises
 pub mod PromiseLaws
+pub mod Tight

@@ -1,9 +1,9 @@
 -- Laws of what the calls of the writer answer and leave.
 -- Assumes nothing.
 use Prim.Native.Nat.{ℕ, zero, suc, _+_, _-_, _≤_, _<_}
-use mathlib.Core.Path.{_≡_, refl, sym, ap, ap₂, _∙_}
+use mathlib.Core.Path.{_≡_, refl, sym, ap, _∙_}
 use mathlib.Core.List.{List}
-use mathlib.Core.Bool.{Bool, true, false, _&&_}
+use mathlib.Core.Bool.{false}
 use native.Mathlib.Nat.{not-suc-le-zero}
 use native.Mathlib.Omega.{arith}
 use borrow.Author.Tests.{le-leb, lt-leb}
@@ -18,7 +18,7 @@ use Rattle.routes.specs.Prefix.{idSize, markOf, octets}
 use Rattle.routes.specs.declared.Form.{Form}
 use Rattle.routes.specs.declared.Row.{Row}
 use Rattle.route_writer.specs.Encode.{rowBytes, writable, frontRow, writeStep, writing, bytesOf}
-use Rattle.route_writer.specs.EncodeLaws.{Writable, WriteTook, write-took, took-write, stop-write, front-parts, no-and}
+use Rattle.route_writer.specs.EncodeLaws.{Writable, write-took, took-write, stop-write, front-parts, no-and}
 use Rattle.route_writer.specs.Promises.{sizeBy, answerBy, measured, writeAnswer, filled, outAfter}
 use Rattle.route_writer.specs.declared.WriteAnswer.{WriteAnswer}
 use Rattle.route_writer.specs.declared.WriteAnswer.the-variants.{Bytes, Refused}

@@ -8,9 +8,9 @@ ghost use Rattle.wire.specs.Store.{laid};
 ghost use Rattle.routes.specs.Prefix.{maxOf, octets};
 ghost use Rattle.route_writer.specs.Encode.{fourWords, rowBytes, allZero, idFits, writable, frontRow, writeStep, writing, bytesOf};
 ghost use Rattle.route_writer.specs.Promises.{sizeBy, measured, writeAnswer, outAfter};
-use wire::refusal;
 use routes::Afi;
 use routes::Form;
+use wire::refusal;
 
 // The bytes that were written or would be, or a refusal number.
 pub enum WriteAnswer {

@@ -1,21 +1,15 @@
-use mathlib.Core.Path.{ap, _∙_, refl}
+use mathlib.Core.Path.{ap, _∙_, refl, _≡_, sym}
 use mathlib.Core.Bool.{Bool}
 use Prim.Native.Nat.{ℕ, _-_}
 use lib.ListN.{drop}
 use Rattle.wire.specs.Number.{toBe}
 use Rattle.route_writer.specs.Encode.{allZero}
-use mathlib.Core.Path.{_≡_, sym}
 use borrow.Author.Tests.{not-true, not-false}
 use Rattle.route_writer.specs.EncodeLaws.{zero-past}
 use borrow.Author.Needs.{needs}
 use Rattle.route_writer.proofs.clear_past.Statement.{statement}
 use Rattle.route_writer.proofs.clear_past.Tie as tie
-use Rattle.route_writer.proofs.clear_past.Reads as reads
-use Rattle.route_writer.proofs.clear_past.Lts as lts
-use Rattle.route_writer.proofs.clear.Reads as clear-reads
-use Rattle.route_writer.proofs.left.Reads as left-reads
 
--- src/lib.rt:66:9
 clear-requires : tie.Need-clear-requires
 clear-requires c κs = search needs
 
@@ -23,22 +17,18 @@ clear-requires c κs = search needs
 word-is : (n i m w : ℕ) (r t : Bool) → m ≡ n - i → r ≡ allZero (drop m (toBe 4 w)) → r ≡ t → allZero (drop (n - i) (toBe 4 w)) ≡ t
 word-is n i m w r t e f g = ap (λ (k : ℕ). allZero (drop k (toBe 4 w))) (sym e) ∙ sym f ∙ g
 
--- src/lib.rt:67:9
 returns : tie.Need-returns
 returns c =
     let a = c .before .before .args in
     let p = sym (c .before .clear .ensures) ∙ not-true _ (c .if1 .taken) in
     rw (zero-past (a .n) (a .w0) (a .w1) (a .w2) (a .w3), p)
 
--- src/lib.rt:69:19
 left-requires : tie.Need-left-requires
 left-requires c κs = search needs
 
--- src/lib.rt:69:9
 clear-requires-2 : tie.Need-clear-requires-2
 clear-requires-2 c κs = search needs
 
--- src/lib.rt:70:9
 returns-2 : tie.Need-returns-2
 returns-2 c =
     let k = c .before .before .before in
@@ -47,15 +37,12 @@ returns-2 c =
     let q = word-is (a .n) 4 _ (a .w1) _ _ (c .before .before .left .ensures) (c .before .clear2 .ensures) (not-true _ (c .if2 .taken)) in
     rw (zero-past (a .n) (a .w0) (a .w1) (a .w2) (a .w3), p, q)
 
--- src/lib.rt:72:19
 left-requires-2 : tie.Need-left-requires-2
 left-requires-2 c κs = search needs
 
--- src/lib.rt:72:9
 clear-requires-3 : tie.Need-clear-requires-3
 clear-requires-3 c κs = search needs
 
--- src/lib.rt:73:9
 returns-3 : tie.Need-returns-3
 returns-3 c =
     let j = c .before .before .before in
@@ -66,15 +53,12 @@ returns-3 c =
     let r = word-is (a .n) 8 _ (a .w2) _ _ (c .before .before .left2 .ensures) (c .before .clear3 .ensures) (not-true _ (c .if3 .taken)) in
     rw (zero-past (a .n) (a .w0) (a .w1) (a .w2) (a .w3), p, q, r)
 
--- src/lib.rt:75:15
 left-requires-3 : tie.Need-left-requires-3
 left-requires-3 c κs = search needs
 
--- src/lib.rt:75:5
 clear-requires-4 : tie.Need-clear-requires-4
 clear-requires-4 c κs = search needs
 
--- src/lib.rt:63:1
 returns-4 : tie.Need-returns-4
 returns-4 c =
     let i = c .before .before in

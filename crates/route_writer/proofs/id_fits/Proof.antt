@@ -1,22 +1,16 @@
 use borrow.Author.Needs.{needs}
 use Rattle.route_writer.proofs.id_fits.Statement.{statement}
 use Rattle.route_writer.proofs.id_fits.Tie as tie
-use Rattle.route_writer.proofs.id_fits.Reads as reads
-use Rattle.route_writer.proofs.id_fits.Lts as lts
 
--- src/lib.rt:36:24
 enum-told : tie.Need-enum-told
 enum-told c = search needs
 
--- src/lib.rt:37:25
 enum-told-2 : tie.Need-enum-told-2
 enum-told-2 c = search needs
 
--- src/lib.rt:32:1
 returns : tie.Need-returns
 returns c = rw (c .enum-told .given .1)
 
--- src/lib.rt:32:1
 returns-2 : tie.Need-returns-2
 returns-2 c = search needs
 

@@ -1,4 +1,4 @@
-use mathlib.Core.Path.{_≡_, _∙_, ap, ap₂}
+use mathlib.Core.Path.{_≡_, _∙_, ap₂}
 use Prim.Native.Nat.{ℕ, _+_, _-_}
 use mathlib.Core.List.{List}
 use lib.ListN.{take}
@@ -9,62 +9,45 @@ use Rattle.route_writer.specs.EncodeLaws.{one-word, four-words}
 use borrow.Author.Needs.{needs}
 use Rattle.route_writer.proofs.put_address.Statement.{statement}
 use Rattle.route_writer.proofs.put_address.Tie as tie
-use Rattle.route_writer.proofs.put_address.Reads as reads
-use Rattle.route_writer.proofs.put_address.Lts as lts
-use Rattle.route_writer.proofs.left.Reads as left-reads
-use Rattle.wire.proofs.put_octets.Reads as put-octets-reads
 
--- src/lib.rt:131:5
 put-octets-requires : tie.Need-put-octets-requires
 put-octets-requires c κs = search needs
 
--- src/lib.rt:133:9
 same-length : tie.Need-same-length
 same-length c = search needs
 
--- src/lib.rt:133:9
 returns : tie.Need-returns
 returns c =
     let a = c .before .before .before .before .before .before .args in
     c .before .before .before .put-octets .ensures ∙ one-word (a .out .now) (a .to) (a .n) (a .w0) (a .w1) (a .w2) (a .w3) (omega arith) (omega arith)
 
--- src/lib.rt:135:27
 add-put-octets : tie.Need-add-put-octets
 add-put-octets c = search needs
 
--- src/lib.rt:135:39
 left-requires : tie.Need-left-requires
 left-requires c κs = search needs
 
--- src/lib.rt:135:5
 put-octets-requires-2 : tie.Need-put-octets-requires-2
 put-octets-requires-2 c κs = search needs
 
--- src/lib.rt:136:27
 add-put-octets-2 : tie.Need-add-put-octets-2
 add-put-octets-2 c = search needs
 
--- src/lib.rt:136:39
 left-requires-2 : tie.Need-left-requires-2
 left-requires-2 c κs = search needs
 
--- src/lib.rt:136:5
 put-octets-requires-3 : tie.Need-put-octets-requires-3
 put-octets-requires-3 c κs = search needs
 
--- src/lib.rt:137:27
 add-put-octets-3 : tie.Need-add-put-octets-3
 add-put-octets-3 c = search needs
 
--- src/lib.rt:137:40
 left-requires-3 : tie.Need-left-requires-3
 left-requires-3 c κs = search needs
 
--- src/lib.rt:137:5
 put-octets-requires-4 : tie.Need-put-octets-requires-4
 put-octets-requires-4 c κs = search needs
 
--- src/lib.rt:127:1
 same-length-2 : tie.Need-same-length-2
 same-length-2 c = search needs
 
@@ -72,7 +55,6 @@ same-length-2 c = search needs
 word-put : (d₁ d₂ d : List ℕ) (to n i m w : ℕ) → d₂ ≡ placed d₁ to (take m (toBe 4 w)) → m ≡ n - i → d₁ ≡ d → d₂ ≡ placed d to (take (n - i) (toBe 4 w))
 word-put d₁ d₂ d to n i m w e f g = e ∙ ap₂ (λ (l : List ℕ) (k : ℕ). placed l to (take k (toBe 4 w))) g f
 
--- src/lib.rt:127:1
 returns-2 : tie.Need-returns-2
 returns-2 c =
     let p4 = c .before .before in

@@ -1,25 +1,15 @@
 use mathlib.Core.List.{List}
-use lib.ListN.{take}
-use Rattle.wire.specs.Store.{laid, placed}
-use Rattle.route_writer.specs.Encode.{fourWords}
-use mathlib.Core.Path.{_≡_, sym, ap, ap₂, _∙_}
+use lib.ListN.{take, length, getD, set, length-set}
+use Rattle.wire.specs.Store.{laid, length-placed, length-laid}
+use Rattle.route_writer.specs.Encode.{fourWords, rowBytes, frontRow}
+use mathlib.Core.Path.{_≡_, ap, _∙_}
 use Prim.Native.Nat.{ℕ, _+_, _-_, _≤_}
 use native.Mathlib.Omega.{arith}
-use lib.ListN.{length, getD, set, length-set}
-use Rattle.wire.specs.Store.{length-placed, length-laid}
 use Rattle.routes.specs.Prefix.{idSize, markOf, octets}
-use Rattle.route_writer.specs.Encode.{rowBytes, frontRow}
 use Rattle.route_writer.specs.EncodeLaws.{is-writable, front-parts, front-laid}
 use borrow.Author.Needs.{needs}
 use Rattle.route_writer.proofs.put_row.Statement.{statement}
 use Rattle.route_writer.proofs.put_row.Tie as tie
-use Rattle.route_writer.proofs.put_row.Reads as reads
-use Rattle.route_writer.proofs.put_row.Lts as lts
-use Rattle.route_writer.proofs.put_address.Reads as put-address-reads
-use Rattle.routes.proofs.id_size.Reads as id-size-reads
-use Rattle.routes.proofs.mark_of.Reads as mark-of-reads
-use Rattle.routes.proofs.octet_count.Reads as octet-count-reads
-use Rattle.wire.proofs.put_octets.Reads as put-octets-reads
 
 -- what the row that is asked for has
 parts : (c : tie.Start) → let a = c .args in
@@ -27,35 +17,27 @@ parts : (c : tie.Start) → let a = c .args in
     × (length (rowBytes (a .form) (frontRow (a .ws .now))) ≡ idSize (a .form) + 1 + octets (getD (a .ws .now) 0 0 - markOf (a .form)))
 parts c = let a = c .args in front-parts (a .ws .now) (a .max) (a .form) (is-writable (a .max) (a .form) (frontRow (a .ws .now)) (c .pre .1 .0)) (c .pre .0 .0)
 
--- src/lib.rt:138:16
 shared-slice-read-len : tie.Need-shared-slice-read-len
 shared-slice-read-len c = search needs
 
--- src/lib.rt:138:24
 mark-of-requires : tie.Need-mark-of-requires
 mark-of-requires c κs = search needs
 
--- src/lib.rt:138:16
 sub-len : tie.Need-sub-len
 sub-len c = omega (arith, parts (c .before .before .before .before), c .mark-of .ensures)
 
--- src/lib.rt:138:15
 cast-len : tie.Need-cast-len
 cast-len c = omega (arith, parts (c .before .before .before .before), c .mark-of .ensures)
 
--- src/lib.rt:139:9
 octet-count-requires : tie.Need-octet-count-requires
 octet-count-requires c κs = search needs
 
--- src/lib.rt:140:9
 id-size-requires : tie.Need-id-size-requires
 id-size-requires c κs = search needs
 
--- src/lib.rt:141:31
 shared-slice-read-put-octets : tie.Need-shared-slice-read-put-octets
 shared-slice-read-put-octets c = search needs
 
--- src/lib.rt:141:5
 put-octets-requires : tie.Need-put-octets-requires
 put-octets-requires c κs = search needs
 
@@ -76,43 +58,33 @@ sizes c =
 as-long : (c : tie.After-put-octets) → length (c .put-octets .last .0) ≡ length (c .before .before .before .before .before .before .before .before .before .args .out .now)
 as-long c = ap length (c .put-octets .ensures) ∙ length-placed _ _ _
 
--- src/lib.rt:142:14
 add-at : tie.Need-add-at
 add-at c = omega (arith, sizes (c .before .before .before .before .before))
 
--- src/lib.rt:143:5
 slice-write-out : tie.Need-slice-write-out
 slice-write-out c = omega (arith, sizes (c .before .before .before .before .before), as-long (c .before .before))
 
--- src/lib.rt:144:22
 add-put-address : tie.Need-add-put-address
 add-put-address c = omega (arith, sizes (c .before .before .before .before .before .before))
 
--- src/lib.rt:144:38
 shared-slice-read-put-address : tie.Need-shared-slice-read-put-address
 shared-slice-read-put-address c = search needs
 
--- src/lib.rt:144:45
 shared-slice-read-put-address-2 : tie.Need-shared-slice-read-put-address-2
 shared-slice-read-put-address-2 c = search needs
 
--- src/lib.rt:144:52
 shared-slice-read-put-address-3 : tie.Need-shared-slice-read-put-address-3
 shared-slice-read-put-address-3 c = search needs
 
--- src/lib.rt:144:59
 shared-slice-read-put-address-4 : tie.Need-shared-slice-read-put-address-4
 shared-slice-read-put-address-4 c = search needs
 
--- src/lib.rt:144:5
 put-address-requires : tie.Need-put-address-requires
 put-address-requires c κs = let s = sizes (c .before .before .before .before .before .before .before .before .before .before) in (rw length-set (omega (arith, s, as-long (c .before .before .before .before .before .before .before))), s .2)
 
--- src/lib.rt:145:5
 add-result : tie.Need-add-result
 add-result c = omega (arith, sizes (c .before .before .before .before .before .before .before .before .before .before .before .before .before))
 
--- src/lib.rt:145:5
 add-result-2 : tie.Need-add-result-2
 add-result-2 c = omega (arith, sizes (c .before .before .before .before .before .before .before .before .before .before .before .before .before))
 

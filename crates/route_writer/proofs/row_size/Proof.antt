@@ -1,96 +1,70 @@
-use lib.ListN.{drop}
-use Rattle.route_writer.specs.EncodeLaws.{id-small}
+use lib.ListN.{drop, getD}
+use Rattle.route_writer.specs.EncodeLaws.{id-small, low-mark, long-prefix, strange-id, set-octets, front-writable}
 use Rattle.route_writer.specs.Encode.{fourWords, allZero}
 use Rattle.route_writer.specs.declared.WriteAnswer.the-variants.{Bytes}
 use mathlib.Core.Path.{_≡_, sym, ap, ap₂, _∙_}
 use Prim.Native.Nat.{ℕ, _+_, _-_, _<_}
 use native.Mathlib.Omega.{arith}
 use borrow.Author.Tests.{not-true, not-false}
-use lib.ListN.{getD}
 use Rattle.routes.specs.Prefix.{markOf, octets}
-use Rattle.route_writer.specs.EncodeLaws.{low-mark, long-prefix, strange-id, set-octets, front-writable}
 use Rattle.route_writer.specs.PromiseLaws.{size-short, size-refused, size-good}
 use borrow.Author.Needs.{needs}
 use Rattle.route_writer.proofs.row_size.Statement.{statement}
 use Rattle.route_writer.proofs.row_size.Tie as tie
-use Rattle.route_writer.proofs.row_size.Reads as reads
-use Rattle.route_writer.proofs.row_size.Lts as lts
-use Rattle.route_writer.proofs.clear_past.Reads as clear-past-reads
-use Rattle.route_writer.proofs.id_fits.Reads as id-fits-reads
-use Rattle.routes.proofs.id_size.Reads as id-size-reads
-use Rattle.routes.proofs.mark_of.Reads as mark-of-reads
-use Rattle.routes.proofs.octet_count.Reads as octet-count-reads
-use Rattle.wire.proofs.wide.Reads as wide-reads
 
--- src/lib.rt:74:9
 returns : tie.Need-returns
 returns c = let a = c .before .before .args in size-short (a .ws .now) (a .max) (a .form) (c .if1 .taken)
 
--- src/lib.rt:76:9
 mark-of-requires : tie.Need-mark-of-requires
 mark-of-requires c κs = search needs
 
--- src/lib.rt:77:17
 shared-slice-read-first : tie.Need-shared-slice-read-first
 shared-slice-read-first c = search needs
 
--- src/lib.rt:79:9
 returns-2 : tie.Need-returns-2
 returns-2 c =
     let a = c .before .before .before .before .before .args in
     let lt : getD (a .ws .now) 0 0 < markOf (a .form) = omega (arith, c .before .before .mark-of .ensures) in
     size-refused (a .ws .now) (a .max) (a .form) (low-mark (a .ws .now) (a .max) (a .form) lt)
 
--- src/lib.rt:82:8
 wide-requires : tie.Need-wide-requires
 wide-requires c κs = search needs
 
--- src/lib.rt:83:9
 returns-3 : tie.Need-returns-3
 returns-3 c =
     let a = c .before .before .before .before .before .before .before .args in
     let lt : a .max < getD (a .ws .now) 0 0 - markOf (a .form) = omega (arith, c .before .before .before .before .mark-of .ensures, c .before .wide .ensures) in
     size-refused (a .ws .now) (a .max) (a .form) (long-prefix (a .ws .now) (a .max) (a .form) lt)
 
--- src/lib.rt:85:17
 shared-slice-read-id-fits : tie.Need-shared-slice-read-id-fits
 shared-slice-read-id-fits c = search needs
 
--- src/lib.rt:85:9
 id-fits-requires : tie.Need-id-fits-requires
 id-fits-requires c κs = search needs
 
--- src/lib.rt:86:9
 returns-4 : tie.Need-returns-4
 returns-4 c =
     let a = c .before .before .before .before .before .before .before .before .before .before .args in
     size-refused (a .ws .now) (a .max) (a .form) (strange-id (a .ws .now) (a .max) (a .form) (sym (c .before .id-fits .ensures) ∙ not-true _ (c .if4 .taken)))
 
--- src/lib.rt:88:33
 cast-octet-count : tie.Need-cast-octet-count
 cast-octet-count c = search needs
 
--- src/lib.rt:88:9
 octet-count-requires : tie.Need-octet-count-requires
 octet-count-requires c κs = search needs
 
--- src/lib.rt:89:23
 shared-slice-read-clear-past : tie.Need-shared-slice-read-clear-past
 shared-slice-read-clear-past c = search needs
 
--- src/lib.rt:89:30
 shared-slice-read-clear-past-2 : tie.Need-shared-slice-read-clear-past-2
 shared-slice-read-clear-past-2 c = search needs
 
--- src/lib.rt:89:37
 shared-slice-read-clear-past-3 : tie.Need-shared-slice-read-clear-past-3
 shared-slice-read-clear-past-3 c = search needs
 
--- src/lib.rt:89:44
 shared-slice-read-clear-past-4 : tie.Need-shared-slice-read-clear-past-4
 shared-slice-read-clear-past-4 c = search needs
 
--- src/lib.rt:89:9
 clear-past-requires : tie.Need-clear-past-requires
 clear-past-requires c κs = search needs
 
@@ -110,28 +84,23 @@ past-are c =
     let s = k .before .before .before .before .before .before .before .before .before .before .before .args .ws .now in
     ap (λ (j : ℕ). allZero (drop j (fourWords (getD s 2 0) (getD s 3 0) (getD s 4 0) (getD s 5 0)))) (sym (octets-are k)) ∙ sym (c .clear-past .ensures)
 
--- src/lib.rt:90:9
 returns-5 : tie.Need-returns-5
 returns-5 c =
     let k = c .before .before .before .before .before .before in
     let a = k .before .before .before .before .before .before .before .before .before .before .before .args in
     size-refused (a .ws .now) (a .max) (a .form) (set-octets (a .ws .now) (a .max) (a .form) (past-are (c .before) ∙ not-true _ (c .if5 .taken)))
 
--- src/lib.rt:92:24
 id-size-requires : tie.Need-id-size-requires
 id-size-requires c κs = search needs
 
--- src/lib.rt:92:24
 add-t22 : tie.Need-add-t22
 add-t22 c = let k = c .before .before .before .before .before .before .before in omega (arith, c .id-size .ensures, id-small (k .before .before .before .before .before .before .before .before .before .before .before .args .form))
 
--- src/lib.rt:92:24
 add-t23 : tie.Need-add-t23
 add-t23 c =
     let k = c .before .before .before .before .before .before .before in
     omega (arith, c .id-size .ensures, id-small (k .before .before .before .before .before .before .before .before .before .before .before .args .form), k .octet-count .ensures)
 
--- src/lib.rt:69:1
 returns-6 : tie.Need-returns-6
 returns-6 c =
     let k = c .before .before .before .before .before .before .before in

@@ -1,19 +1,16 @@
 use borrow.Author.Needs.{needs}
 use native.Mathlib.Omega.{arith}
-use Prim.Native.Nat.{_-_, _+_, _≤_}
-use mathlib.Core.Path.{_≡_, sym, ap, _∙_}
+use Prim.Native.Nat.{_-_, _+_}
+use mathlib.Core.Path.{_≡_, sym}
 use lib.ListN.{length, drop}
 use Rattle.wire.specs.Walk.{took}
-use Rattle.wire.specs.Turn.{Counted, count-start, count-step, count-stop, count-done, turn-fits}
+use Rattle.wire.specs.Turn.{Counted, count-start, count-step, count-stop, count-done}
 use Rattle.routes.specs.declared.Row.{Row}
 use Rattle.route_writer.specs.Encode.{rowBytes, writeStep, writing}
-use Rattle.route_writer.specs.EncodeLaws.{write-sound, write-light, write-stop}
+use Rattle.route_writer.specs.EncodeLaws.{write-sound, write-light}
 use Rattle.route_writer.specs.PromiseLaws.{turn-took, turn-refused, measured-good, measured-bad}
 use Rattle.route_writer.proofs.size_within.Statement.{statement}
 use Rattle.route_writer.proofs.size_within.Tie as tie
-use Rattle.route_writer.proofs.size_within.Reads as reads
-use Rattle.route_writer.proofs.size_within.Lts as lts
-use Rattle.route_writer.proofs.row_size.Reads as row-size-reads
 
 abbrev Inv-loop : tie.InvT-loop
 Inv-loop rows max form at₀ total₀ at total = Counted (writeStep max form) (λ row. length (rowBytes form row)) 4 tt rows tt at total
@@ -21,31 +18,24 @@ Inv-loop rows max form at₀ total₀ at total = Counted (writeStep max form) (�
 abbrev μ-loop : tie.MeasureT-loop
 μ-loop rows max form at₀ total₀ at total = length rows - at
 
--- src/lib.rt:112:5
 loop-holds : tie.Need-loop-holds Inv-loop μ-loop
 loop-holds c = let a = c .before .args in count-start (writeStep (a .max) (a .form)) (write-sound (a .max) (a .form)) (λ row. length (rowBytes (a .form) row)) 4 (write-light (a .max) (a .form) (c .before .pre)) tt (a .rows .now)
 
--- src/lib.rt:113:24
 mul-row-size : tie.Need-mul-row-size Inv-loop μ-loop
 mul-row-size c = search needs
 
--- src/lib.rt:113:24
 sub-row-size : tie.Need-sub-row-size Inv-loop μ-loop
 sub-row-size c = search needs
 
--- src/lib.rt:113:24
 part-row-size-start : tie.Need-part-row-size-start Inv-loop μ-loop
 part-row-size-start c = search needs
 
--- src/lib.rt:113:24
 part-row-size-end : tie.Need-part-row-size-end Inv-loop μ-loop
 part-row-size-end c = search needs
 
--- src/lib.rt:113:15
 row-size-requires : tie.Need-row-size-requires Inv-loop μ-loop
 row-size-requires c κs = search needs
 
--- src/lib.rt:114:32
 enum-known-n : tie.Need-enum-known-n Inv-loop μ-loop
 enum-known-n c = search needs
 
@@ -70,27 +60,21 @@ again c =
     rw (← r .2) (count-step (writeStep (a .max) (a .form)) (write-sound (a .max) (a .form)) (λ q. length (rowBytes (a .form) q)) 4 (write-light (a .max) (a .form) (l .before .before .pre)) tt (a .rows .now)
     tt (l .loop .at) (l .loop .total) (l .loop .inv) tt 6 (r .0) (r .1))
 
--- src/lib.rt:115:22
 add-at : tie.Need-add-at Inv-loop μ-loop
 add-at c = omega (arith, again c .within)
 
--- src/lib.rt:116:25
 add-total : tie.Need-add-total Inv-loop μ-loop
 add-total c = omega (arith, again c .within, again c .few)
 
--- src/lib.rt:112:5
 loop-less : tie.Need-loop-less Inv-loop μ-loop
 loop-less c = omega (arith, again c .within)
 
--- src/lib.rt:112:5
 loop-again : tie.Need-loop-again Inv-loop μ-loop
 loop-again c = again c
 
--- src/lib.rt:118:34
 enum-known-n-2 : tie.Need-enum-known-n-2 Inv-loop μ-loop
 enum-known-n-2 c = search needs
 
--- src/lib.rt:119:17
 returns : tie.Need-returns Inv-loop μ-loop
 unfolding writing
 returns c =
@@ -102,7 +86,6 @@ returns c =
     tt (l .loop .at) (l .loop .total) (l .loop .inv) _ (c .before .before .before .before .before .loop-test .taken) e)
     (write-sound (a .max) (a .form) .names tt (drop (l .loop .at) (a .rows .now)) _ e))
 
--- src/lib.rt:106:1
 returns-2 : tie.Need-returns-2 Inv-loop μ-loop
 unfolding writing
 returns-2 c =
