@@ -1,20 +1,18 @@
 -- A reading and a cutting are one thing: laws behind the theorems.
 -- Assumes nothing.
-use Prim.Native.Nat.{ℕ, zero, suc, _+_, _≤_, _<_}
+use Prim.Native.Nat.{ℕ, zero, suc, _+_, _<_}
 use mathlib.Core.Path.{_≡_, refl, sym, ap, ap₂, _∙_, subst}
 use mathlib.Core.List.{List, [], _∷_, _++_, append-assoc, map}
-use mathlib.Core.Bool.{true}
 use native.Mathlib.Nat.{not-suc-le-zero}
-use native.Mathlib.Numerals.{add-one}
 use native.Mathlib.Omega.{arith}
 use borrow.Author.Tests.{ne-eqb}
 use lib.ListN.{length, getD, take, drop, length-append, length-drop, take-append-drop}
 use lib.Seq.{length-take-le, take-add, drop-cons, take-append-seam, drop-append-seam, getD-at, getD-take}
-use Rattle.wire.specs.Walk.{Step, took, stop, Reading, whole, more, readAll, pieces}
+use Rattle.wire.specs.Walk.{took, stop, whole, more, readAll, pieces}
 use Rattle.wire.specs.WalkLaws.{all-nil, all-took, all-stop, all-ind, pieces-nil, pieces-took}
 use Rattle.routes.specs.Prefix.{idSize, octets, itemRow, prefixOf}
 use Rattle.routes.specs.PrefixLaws.{Took, took-prefix}
-use Rattle.routes.specs.List.{asStep, inForm, plainHere, stepOf}
+use Rattle.routes.specs.List.{asStep, inForm, stepOf}
 use Rattle.routes.specs.ListLaws.{sound, step-took, guess-plain}
 use Rattle.routes.specs.declared.Form.{Form}
 use Rattle.routes.specs.declared.Form.the-variants.{Plain, Tagged}
@@ -23,7 +21,7 @@ use Rattle.routes.specs.declared.AddPath.the-variants.{On, Off, Guess}
 use Rattle.routes.specs.declared.Row.{Row}
 use Rattle.routes.specs.declared.PrefixAnswer.{PrefixAnswer}
 use Rattle.routes.specs.declared.PrefixAnswer.the-variants as P
-use Rattle.route_theorems.specs.Cutting.{WellFormed, AllFormed, none, one, joined, Cutting, NoZero, no-item, no-zero}
+use Rattle.route_theorems.specs.Cutting.{WellFormed, AllFormed, none, one, joined, Cutting, NoZero, no-zero}
 
 -- the setting under which every item has a form
 abbrev pub settingOf : Form → AddPath
