@@ -126,5 +126,11 @@ module _ (d₀ : List ℕ) (start : ℕ) (all : List ℕ) (fits : start + length
               ∙ laid-laid d₀ start (h .done) vs (omega (arith, n, whole-length));
         }
 
+    -- one value, as code stores it
+    pub laying-set : (v : ℕ) (left′ : List ℕ) → left ≡ v ∷ left′ → Laying d₀ start all (set d to v) (to + 1) left′
+    laying-set v left′ e =
+        let fit : to + 1 ≤ length d = omega (arith, laying-room, ap length e) in
+        rw (puts-laid d to (v ∷ []) fit) (laying-step (v ∷ []) left′ e)
+
     pub laying-done : left ≡ [] → d ≡ laid d₀ start all
     laying-done e = h .store ∙ ap (laid d₀ start) (sym (append-nil (h .done)) ∙ ap (λ (l : List ℕ). h .done ++ l) (sym e) ∙ h .parts)

@@ -44,7 +44,7 @@ module _ {S A : Type 0} (step : S → List ℕ → Step S A) (sound : Sound step
     pub total : tally weight (readAll step st₀ s .rows) ≡ sum + tally weight (readAll step st (drop at s) .rows)
 
   -- no item weighs more than c for each place that it takes
-  pub Light : (A → ℕ) → ℕ → Type 0
+  abbrev pub Light : (A → ℕ) → ℕ → Type 0
   Light weight c = (st st′ : S) (s : List ℕ) (used : ℕ) (a : A) → step st s ≡ took used a st′ → weight a ≤ c * used
 
   module _ (weight : A → ℕ) (c : ℕ) (light : Light weight c) (st₀ : S) (s : List ℕ) where
@@ -53,7 +53,7 @@ module _ {S A : Type 0} (step : S → List ℕ → Step S A) (sound : Sound step
 
     module _ (st : S) (at sum : ℕ) (h : Counted weight c st₀ s st at sum) where
       pub count-step : (st′ : S) (used : ℕ) (a : A) → step st (drop at s) ≡ took used a st′ → Counted weight c st₀ s st′ (at + used) (sum + weight a)
-      unfolding Light tally
+      unfolding tally
       count-step st′ used a e =
           let fits = turn-fits s st at st′ used a e (h .within) in
           let next = turn-next s st at st′ used a e in

@@ -38,7 +38,6 @@ same-length c = search needs
 
 returns-3 : tie.Need-returns-3
 returns-3 c =
-
     let a = c .before .before .args in
     let v = a .v in
     let last : v % 256 ≡ v % 256 ^ 1 / 256 ^ 0 = omega arith in

@@ -1,0 +1,5 @@
+pub mod Segment
+pub mod Size
+pub mod SegmentLaws
+pub mod Promises
+pub mod PromiseLaws
