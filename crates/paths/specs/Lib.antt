@@ -3,3 +3,4 @@ pub mod Size
 pub mod SegmentLaws
 pub mod Promises
 pub mod PromiseLaws
+pub mod PathTurn
