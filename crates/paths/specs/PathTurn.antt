@@ -90,5 +90,35 @@ module _ (rule : Rule) (w : ℕ) (s p₀ n₀ : List ℕ) where
       taken : segmentOf rule w tt (drop at s) ≡ took (2 + span w (getD s (at + 1) 0)) (segmentAt w (drop at s)) tt
       taken =
           let f = fill-takes (segmentOf rule w) (segment-sound rule w) pairOf tt s p₀ tt at pair pairs (h .0) lt in
-          let t = segment-taken rule w tt (f .2 .0) (drop at s) (f .0) (f .1) (f .3) in
-          ?
+          let t = segment-taken rule w tt (f .2) (drop at s) (f .0) (f .1) (f .3) in
+          f .3 ∙ ap₂ (λ (u : ℕ) (g : Segment). took u g tt) (t .size ∙ ap (λ (k : ℕ). 2 + span w k) count-is) (t .is)
+
+      pair-is : pairOf (segmentAt w (drop at s)) ≡ getD s at 0 ∷ getD s (at + 1) 0 ∷ []
+      unfolding segmentAt
+      pair-is =
+          ap₂ (λ (k n : ℕ). k ∷ n ∷ []) (getD-drop at s 0 0 ∙ ap (λ (j : ℕ). getD s j 0) (add-zero at))
+          (length-numbers w (getD (drop at s) 1 0) (drop 2 (drop at s)) ∙ count-is)
+
+      asns-is : asnsOf (segmentAt w (drop at s)) ≡ numbersOf w (getD s (at + 1) 0) (drop (at + 2) s)
+      unfolding segmentAt
+      asns-is = ap₂ (numbersOf w) count-is (drop-drop 2 at s)
+
+      asns-length : length (asnsOf (segmentAt w (drop at s))) ≡ getD s (at + 1) 0
+      asns-length = ap length asns-is ∙ length-numbers w (getD s (at + 1) 0) (drop (at + 2) s)
+
+      pub filling-fits : (at + (2 + span w (getD s (at + 1) 0)) ≤ length s) × (pair + 2 ≤ length pairs) × (to + getD s (at + 1) 0 ≤ length numbers)
+      filling-fits =
+          let p = fill-fits (segmentOf rule w) (segment-sound rule w) pairOf tt s p₀ tt at pair pairs (h .0) tt _ _ taken in
+          let n = fill-fits (segmentOf rule w) (segment-sound rule w) asnsOf tt s n₀ tt at to numbers (h .1) tt _ _ taken in
+          (p .1, p .2, omega (arith, n .2, asns-length))
+
+      pub filling-next :
+          FilledPath rule w s p₀ n₀ (at + (2 + span w (getD s (at + 1) 0))) (pair + 2) (to + getD s (at + 1) 0)
+          (laid pairs pair (getD s at 0 ∷ getD s (at + 1) 0 ∷ [])) (laid numbers to (numbersOf w (getD s (at + 1) 0) (drop (at + 2) s)))
+      filling-next =
+          let size : ℕ = 2 + span w (getD s (at + 1) 0) in
+          let p = fill-step (segmentOf rule w) (segment-sound rule w) pairOf tt s p₀ tt at pair pairs (h .0) tt _ _ taken in
+          let n = fill-step (segmentOf rule w) (segment-sound rule w) asnsOf tt s n₀ tt at to numbers (h .1) tt _ _ taken in
+          (subst (λ (l : List ℕ). Filled (segmentOf rule w) (segment-sound rule w) pairOf tt s p₀ tt (at + size) (pair + 2) (laid pairs pair l)) pair-is p,
+          subst (λ (l : List ℕ). Filled (segmentOf rule w) (segment-sound rule w) asnsOf tt s n₀ tt (at + size) (to + getD s (at + 1) 0) (laid numbers to l)) asns-is
+          (subst (λ (k : ℕ). Filled (segmentOf rule w) (segment-sound rule w) asnsOf tt s n₀ tt (at + size) (to + k) (laid numbers to (asnsOf (segmentAt w (drop at s))))) asns-length n))

@@ -51,13 +51,14 @@ module _ (s : List ℕ) (r : Reading Segment) where
   -- ---- reading
 
   -- an answer, and the stores that go with it
-  pub leave : (pairs numbers : List ℕ) (x : PathAnswer) → roomed (countAnswer s r) (length pairs) (length numbers) ≡ x
+  pub leave : (pairs numbers : List ℕ) (y x : PathAnswer) → countAnswer s r ≡ y → roomed y (length pairs) (length numbers) ≡ x
       → (x ≡ readAnswer s r (length pairs) (length numbers))
-      × (filled x (flat pairOf (r .rows)) pairs ≡ pairsAfter s r pairs (length numbers))
-      × (filled x (flat asnsOf (r .rows)) numbers ≡ numbersAfter s r (length pairs) numbers)
+      × ((filled x (flat pairOf (r .rows)) pairs ≡ pairsAfter s r pairs (length numbers))
+      × (filled x (flat asnsOf (r .rows)) numbers ≡ numbersAfter s r (length pairs) numbers))
   unfolding readAnswer pairsAfter numbersAfter
-  leave pairs numbers x e =
-      (sym e, ap (λ (y : PathAnswer). filled y (flat pairOf (r .rows)) pairs) (sym e), ap (λ (y : PathAnswer). filled y (flat asnsOf (r .rows)) numbers) (sym e))
+  leave pairs numbers y x counted sized =
+      let e : roomed (countAnswer s r) (length pairs) (length numbers) ≡ x = ap (λ (z : PathAnswer). roomed z (length pairs) (length numbers)) counted ∙ sized in
+      (sym e, (ap (λ (z : PathAnswer). filled z (flat pairOf (r .rows)) pairs) (sym e), ap (λ (z : PathAnswer). filled z (flat asnsOf (r .rows)) numbers) (sym e)))
 
 -- two places for each segment
 pub pairs-length : (rows : List Segment) → length (flat pairOf rows) ≡ 2 * length rows
