@@ -4,3 +4,5 @@ pub mod SegmentLaws
 pub mod Promises
 pub mod PromiseLaws
 pub mod PathTurn
+pub mod Aggregator
+pub mod AggregatorLaws

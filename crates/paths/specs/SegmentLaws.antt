@@ -56,6 +56,10 @@ pub width-pos : (width : AsnLength) → 0 < widthOf width
 width-pos Bits16 = omega arith
 width-pos Bits32 = omega arith
 
+pub width-most : (width : AsnLength) → widthOf width ≤ 4
+width-most Bits16 = omega arith
+width-most Bits32 = omega arith
+
 -- ---- numbers
 
 pub length-numbers : (w n : ℕ) (s : List ℕ) → length (numbersOf w n s) ≡ n

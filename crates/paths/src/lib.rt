@@ -1,7 +1,7 @@
 // AS_PATH and AGGREGATOR (RFC 4271 section 4.3, RFC 5065 section 3, RFC 6793 section 4.1): reading and counting a path, reading and
 // writing an AGGREGATOR. The reading of attr_02_17_as_path.rs and attr_07_18_aggregator.rs.
 ghost use mathlib.Core.Path.{_≡_};
-ghost use Prim.Native.Nat.{_+_, _*_, _≤_, _<_};
+ghost use Prim.Native.Nat.{_+_, _≤_, _<_};
 ghost use mathlib.Core.List.{[], _∷_};
 ghost use lib.ListN.{length, drop};
 ghost use Rattle.wire.specs.Number.{beAt};
@@ -10,6 +10,7 @@ ghost use Rattle.wire.specs.Walk.{flat};
 ghost use Rattle.paths.specs.Segment.{widthOf, span, numbersOf, typeFault, knownType, pairOf, asnsOf, segmentOf, pathOf};
 ghost use Rattle.paths.specs.Size.{countIn};
 ghost use Rattle.paths.specs.Promises.{countAnswer, readAnswer, pairsAfter, numbersAfter};
+ghost use Rattle.paths.specs.Aggregator.{unlike, aggregatorOf, fitsWidth, withNumber, aggregatorWritten, aggregatorLeft};
 use wire::refusal;
 
 // The width of AS numbers: two bytes, or four.
@@ -203,4 +204,84 @@ pub fn parse_as_path(value: &[u8], width: AsnLength, pairs: &mut [u32], numbers:
         }
         PathAnswer::Refused(n) => PathAnswer::Refused(n),
     }
+}
+
+// An AGGREGATOR by the length of its value, whatever the configured width: a flag tells when they differ.
+pub fn parse_aggregator(value: &[u8], width: AsnLength) -> AggregatorAnswer
+    ensures { λ r. ⌜ r ≡ aggregatorOf (now (value .entry)) width ⌝ }
+{
+    if wire::LIST_LIMIT < value.len() {
+        return AggregatorAnswer::Refused(refusal::TOO_LONG);
+    }
+    if value.len() == 8 {
+        return AggregatorAnswer::Aggregator {
+            asn: wire::u32_at(value, 0),
+            identifier: wire::u32_at(value, 4),
+            differs: differs(AsnLength::Bits32, width),
+        };
+    }
+    if value.len() == 6 {
+        return AggregatorAnswer::Aggregator {
+            asn: wire::u16_at(value, 0),
+            identifier: wire::u32_at(value, 2),
+            differs: differs(AsnLength::Bits16, width),
+        };
+    }
+    AggregatorAnswer::Refused(refusal::AGGREGATOR_LENGTH)
+}
+
+// Whether two widths differ.
+fn differs(found: AsnLength, width: AsnLength) -> bool
+    ensures { λ r. ⌜ r ≡ unlike found width ⌝ }
+{
+    match found {
+        AsnLength::Bits16 => match width {
+            AsnLength::Bits16 => false,
+            AsnLength::Bits32 => true,
+        },
+        AsnLength::Bits32 => match width {
+            AsnLength::Bits16 => true,
+            AsnLength::Bits32 => false,
+        },
+    }
+}
+
+// Whether the width's bytes hold a number.
+pub fn fits_width(asn: u32, width: AsnLength) -> bool
+    ensures { λ r. ⌜ r ≡ fitsWidth asn width ⌝ }
+{
+    match width {
+        AsnLength::Bits16 => asn < 65536,
+        AsnLength::Bits32 => true,
+    }
+}
+
+// A number at a place of the output, where the width holds it and there is room.
+pub fn put_number(out: &mut [u8], to: usize, asn: u32, width: AsnLength)
+    ensures { λ _. ⌜ now (out .exit) ≡ withNumber (now (out .entry)) to asn width ⌝ }
+{
+    if !fits_width(asn, width) {
+        return;
+    }
+    match width {
+        AsnLength::Bits16 => wire::put_u16(out, to, asn as u16),
+        AsnLength::Bits32 => wire::put_octets(out, to, asn, 4),
+    }
+}
+
+// An AGGREGATOR of the width.
+pub fn encode_aggregator(asn: u32, identifier: u32, width: AsnLength, out: &mut [u8]) -> WriteAnswer
+    ensures answer { λ r. ⌜ r ≡ aggregatorWritten asn identifier width (length (now (out .entry))) ⌝ }
+    ensures out { λ _. ⌜ now (out .exit) ≡ aggregatorLeft asn identifier width (now (out .entry)) ⌝ }
+{
+    if !fits_width(asn, width) {
+        return WriteAnswer::Refused(refusal::WIDE_NUMBER);
+    }
+    let w = asn_bytes(width);
+    if out.len() < w + 4 {
+        return WriteAnswer::Refused(refusal::NO_ROOM);
+    }
+    put_number(out, 0, asn, width);
+    wire::put_octets(out, w, identifier, 4);
+    WriteAnswer::Written(w + 4)
 }

@@ -121,7 +121,8 @@ loop-again : tie.Need-loop-again Inv-loop μ-loop
 loop-again c =
     let l = c .before .before .before .before .before .before .before .before .before .before .before .before .before .before in
     let a = l .before .before .before .before .args in
-    let p = c .before .before .before .before .before .before .before .put-pair .ensures ∙ ap₂ (λ (x y : ℕ). laid (l .loop .pairs) (l .loop .pair) (x ∷ y ∷ [])) (c .before .before .before .before .before .before .before .before .before .wide .ensures) (c .before .before .before .before .before .before .before .before .wide2 .ensures) in
+    let two : List ℕ = getD (a .value .now) (l .loop .at) 0 ∷ getD (a .value .now) (l .loop .at + 1) 0 ∷ [] in
+    let p : c .before .before .before .before .before .before .before .put-pair .last .0 ≡ laid (l .loop .pairs) (l .loop .pair) two = c .before .before .before .before .before .before .before .put-pair .ensures ∙ ap₂ (λ (x y : ℕ). laid (l .loop .pairs) (l .loop .pair) (x ∷ y ∷ [])) (c .before .before .before .before .before .before .before .before .before .wide .ensures) (c .before .before .before .before .before .before .before .before .wide2 .ensures) in
     let n = c .before .before .before .put-numbers .ensures in
     rw (p, n, c .numbers-size .ensures)
     (filling-next knownType (widthOf (a .width)) (a .value .now) (a .pairs .now) (a .numbers .now) (l .loop .at) (l .loop .pair) (l .loop .to) (l .loop .pairs) (l .loop .numbers) (l .loop .inv) (c .before .before .before .before .before .before .before .before .before .before .before .before .before .loop-test .taken))
