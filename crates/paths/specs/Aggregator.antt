@@ -7,8 +7,9 @@ use lib.Dec.{leb, ltb, eqb}
 use Rattle.wire.specs.Choice.{pick}
 use Rattle.wire.specs.Number.{beAt, toBe}
 use Rattle.wire.specs.Refusal.{tooLong, aggregatorLength, noRoom, wideNumber, listLimit}
-use Rattle.wire.specs.Store.{laid, placed}
+use Rattle.wire.specs.Store.{placed}
 use Rattle.paths.specs.Segment.{widthOf}
+use Rattle.paths.specs.Promises.{written}
 use Rattle.paths.specs.declared.AsnLength.{AsnLength}
 use Rattle.paths.specs.declared.AsnLength.the-variants.{Bits16, Bits32}
 use Rattle.paths.specs.declared.AggregatorAnswer.{AggregatorAnswer}
@@ -57,10 +58,6 @@ aggregatorWritten asn identifier width places =
     let size : ℕ = length (aggregatorBytes width asn identifier) in
     pick (fitsWidth asn width) (pick (leb size places) (W.Written size) (W.Refused noRoom)) (W.Refused wideNumber)
 
--- an output afterwards: the bytes from its front where they were written, and else as it was
-abbrev pub written : WriteAnswer → List ℕ → List ℕ → List ℕ
-written (W.Written n) bytes out = laid out 0 bytes
-written (W.Refused n) bytes out = out
-
+-- the output afterwards
 unfoldable pub aggregatorLeft : ℕ → ℕ → AsnLength → List ℕ → List ℕ
 aggregatorLeft asn identifier width out = written (aggregatorWritten asn identifier width (length out)) (aggregatorBytes width asn identifier) out

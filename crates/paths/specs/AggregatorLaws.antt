@@ -14,7 +14,8 @@ use Rattle.wire.specs.NumberLaws.{length-toBe}
 use Rattle.wire.specs.Refusal.{noRoom, wideNumber}
 use Rattle.wire.specs.Store.{laid, placed, placed-fits, laid-laid, length-laid}
 use Rattle.paths.specs.Segment.{widthOf}
-use Rattle.paths.specs.Aggregator.{fitsWidth, withNumber, aggregatorBytes, aggregatorWritten, written, aggregatorLeft}
+use Rattle.paths.specs.Aggregator.{fitsWidth, withNumber, aggregatorBytes, aggregatorWritten, aggregatorLeft}
+use Rattle.paths.specs.Promises.{written}
 use Rattle.paths.specs.declared.AsnLength.{AsnLength}
 use Rattle.paths.specs.declared.AsnLength.the-variants.{Bits16, Bits32}
 use Rattle.paths.specs.declared.WriteAnswer.{WriteAnswer}

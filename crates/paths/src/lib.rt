@@ -78,7 +78,7 @@ fn number_at(s: &[u8], at: usize, width: AsnLength) -> u32
 }
 
 // What is wrong with a segment of that type, 0 where nothing is: types are 1 to 4.
-fn type_fault(kind: u8) -> u8
+pub fn type_fault(kind: u32) -> u8
     ensures { λ r. ⌜ r ≡ typeFault kind ⌝ }
 {
     if kind < 1 {
@@ -102,7 +102,7 @@ fn segment_count(s: &[u8], width: AsnLength) -> SegmentAnswer
     if s.len() < size {
         return SegmentAnswer::Refused(refusal::TRUNCATED);
     }
-    let fault = type_fault(s[0]);
+    let fault = type_fault(wire::wide(s[0]));
     if fault != 0 {
         return SegmentAnswer::Refused(fault);
     }

@@ -6,7 +6,7 @@ use Prim.Native.Nat.{ℕ, _+_, _≤_, _<_}
 use Rattle.wire.specs.Walk.{stop}
 use mathlib.Core.List.{List}
 use Rattle.paths.specs.declared.AsnLength.{AsnLength}
-use Rattle.paths.specs.Segment.{segmentOf, knownType, widthOf, span}
+use Rattle.paths.specs.Segment.{segmentOf, typeFault, knownType, widthOf, span}
 use Rattle.paths.specs.SegmentLaws.{span-most, fault-segment, count-taken}
 use Rattle.paths.specs.Size.{countIn}
 use borrow.Author.Needs.{needs}
@@ -50,8 +50,11 @@ unfolding segmentOf
 returns-2 c = rw (← c .before .numbers-size .ensures) (simp (le-leb _ _ (c .before .before .before .if1 .left), lt-leb _ _ (c .if2 .taken)))
 
 -- src/lib.rt:104:28
-shared-slice-read-type-fault : tie.Need-shared-slice-read-type-fault
-shared-slice-read-type-fault c = search needs
+shared-slice-read-wide : tie.Need-shared-slice-read-wide
+shared-slice-read-wide c = search needs
+
+wide-requires : tie.Need-wide-requires
+wide-requires c κs = search needs
 
 -- src/lib.rt:104:9
 type-fault-requires : tie.Need-type-fault-requires
@@ -60,21 +63,21 @@ type-fault-requires c κs = search needs
 -- src/lib.rt:106:9
 returns-3 : tie.Need-returns-3
 returns-3 c =
-    let k = c .before .before .before in
+    let k = c .before .before .before .before in
     let a = k .before .before .before .before .before .args in
     let room = fits (a .width) (a .s .now) _ (k .before .numbers-size .ensures) (k .if2 .left) in
     let n : ℕ = c .before .type-fault .result in
     let pos : 0 < n = omega (arith, c .if3 .taken) in
-    let e : segmentOf knownType (widthOf (a .width)) tt (a .s .now) ≡ stop n = fault-segment knownType (widthOf (a .width)) (a .s .now) n (k .before .before .before .if1 .left) room (c .before .type-fault .ensures) pos in
+    let e : segmentOf knownType (widthOf (a .width)) tt (a .s .now) ≡ stop n = fault-segment knownType (widthOf (a .width)) (a .s .now) n (k .before .before .before .if1 .left) room (c .before .type-fault .ensures ∙ ap typeFault (c .before .before .wide .ensures)) pos in
     sym (ap countIn e)
 
 -- src/lib.rt:93:1
 returns-4 : tie.Need-returns-4
 returns-4 c =
-    let k = c .before .before .before in
+    let k = c .before .before .before .before in
     let a = k .before .before .before .before .before .args in
     let room = fits (a .width) (a .s .now) _ (k .before .numbers-size .ensures) (k .if2 .left) in
-    count-taken knownType (widthOf (a .width)) (a .s .now) (k .before .before .before .if1 .left) room (sym (c .if3 .left) ∙ c .before .type-fault .ensures)
+    count-taken knownType (widthOf (a .width)) (a .s .now) (k .before .before .before .if1 .left) room (sym (c .if3 .left) ∙ c .before .type-fault .ensures ∙ ap typeFault (c .before .before .wide .ensures))
 
 pub segment-count-spec : {M : Type 1} → statement M
 segment-count-spec =
@@ -86,7 +89,8 @@ segment-count-spec =
     numbers-size-requires
     add-size
     returns-2
-    shared-slice-read-type-fault
+    shared-slice-read-wide
+    wide-requires
     type-fault-requires
     returns-3
     returns-4)
