@@ -1,2 +1,4 @@
 pub mod Write
 pub mod Promises
+pub mod WriteLaws
+pub mod WriteTurn

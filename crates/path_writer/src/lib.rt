@@ -109,7 +109,7 @@ fn put_numbers(numbers: &[u32], from: usize, n: usize, width: AsnLength, out: &m
     requires { ⌜ start + length (flat (toBe (widthOf width)) (take n (drop from (now numbers)))) ≤ length (now out) ⌝ }
     ensures { λ _. ⌜ now (out .exit) ≡ laid (now (out .entry)) start (flat (toBe (widthOf width)) (take n (drop from (now (numbers .entry))))) ⌝ }
 {
-    let w = paths::numbers_size(1, width);
+    let w = paths::asn_bytes(width);
     let mut at = from;
     let mut to = start;
     let mut left = n;

@@ -48,7 +48,7 @@ enum SegmentAnswer {
 }
 
 // The bytes of an AS number.
-fn asn_bytes(width: AsnLength) -> usize
+pub fn asn_bytes(width: AsnLength) -> usize
     ensures { λ r. ⌜ r ≡ widthOf width ⌝ }
 {
     match width {

@@ -1,3 +1,7 @@
+use mathlib.Core.List.{[], _∷_}
+use native.Mathlib.Omega.{arith}
+use lib.ListN.{length-set}
+use Rattle.wire.specs.Store.{puts-laid}
 use borrow.Author.Needs.{needs}
 use Rattle.path_writer.proofs.put_head.Statement.{statement}
 use Rattle.path_writer.proofs.put_head.Tie as tie
@@ -22,7 +26,7 @@ add-out c = search needs
 
 -- src/lib.rt:102:5
 slice-write-out-2 : tie.Need-slice-write-out-2
-slice-write-out-2 c = ?
+slice-write-out-2 c = simp length-set (omega arith)
 
 -- src/lib.rt:96:1
 same-length : tie.Need-same-length
@@ -30,7 +34,7 @@ same-length c = search needs
 
 -- src/lib.rt:96:1
 returns : tie.Need-returns
-returns c = ?
+returns c = let a = c .args in puts-laid (a .out .now) (a .to) (a .kind ∷ a .count ∷ []) (omega (arith, c .pre .0))
 
 pub put-head-spec : {M : Type 1} → statement M
 put-head-spec =

@@ -2,7 +2,7 @@ use Rattle.path_writer.proofs.put_numbers.Statement.{statement}
 use Rattle.path_writer.proofs.put_numbers.Tie as tie
 use Rattle.path_writer.proofs.put_numbers.Reads as reads
 use Rattle.path_writer.proofs.put_numbers.Lts as lts
-use Rattle.paths.proofs.numbers_size.Reads as numbers-size-reads
+use Rattle.paths.proofs.asn_bytes.Reads as asn-bytes-reads
 use Rattle.paths.proofs.put_number.Reads as put-number-reads
 
 abbrev Inv-loop : tie.InvT-loop
@@ -12,8 +12,8 @@ abbrev μ-loop : tie.MeasureT-loop
 μ-loop numbers from n width out₀ start w at₀ to₀ left₀ out at to left = ?
 
 -- src/lib.rt:112:9
-numbers-size-requires : tie.Need-numbers-size-requires Inv-loop μ-loop
-numbers-size-requires c κs = ?
+asn-bytes-requires : tie.Need-asn-bytes-requires Inv-loop μ-loop
+asn-bytes-requires c κs = ?
 
 -- src/lib.rt:116:5
 loop-holds : tie.Need-loop-holds Inv-loop μ-loop
@@ -65,7 +65,7 @@ put-numbers-spec =
     (tie.spec
     Inv-loop
     μ-loop
-    numbers-size-requires
+    asn-bytes-requires
     loop-holds
     mul-put-number
     shared-slice-read-put-number

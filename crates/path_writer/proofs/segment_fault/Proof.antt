@@ -1,0 +1,35 @@
+use borrow.Author.Needs.{needs}
+use Rattle.path_writer.proofs.segment_fault.Statement.{statement}
+use Rattle.path_writer.proofs.segment_fault.Tie as tie
+use Rattle.path_writer.proofs.segment_fault.Reads as reads
+use Rattle.path_writer.proofs.segment_fault.Lts as lts
+use Rattle.path_writer.proofs.all_fit.Reads as all-fit-reads
+use Rattle.paths.proofs.type_fault.Reads as type-fault-reads
+
+-- src/lib.rt:63:9
+type-fault-requires : tie.Need-type-fault-requires
+type-fault-requires c κs = search needs
+
+-- src/lib.rt:65:9
+returns : tie.Need-returns
+returns c = ?
+
+-- src/lib.rt:68:9
+returns-2 : tie.Need-returns-2
+returns-2 c = ?
+
+-- src/lib.rt:70:9
+all-fit-requires : tie.Need-all-fit-requires
+all-fit-requires c κs = search needs
+
+-- src/lib.rt:71:9
+returns-3 : tie.Need-returns-3
+returns-3 c = ?
+
+-- src/lib.rt:59:1
+returns-4 : tie.Need-returns-4
+returns-4 c = ?
+
+pub segment-fault-spec : {M : Type 1} → statement M
+segment-fault-spec =
+    tie.close (tie.spec type-fault-requires returns returns-2 all-fit-requires returns-3 returns-4)
