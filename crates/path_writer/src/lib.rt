@@ -120,3 +120,52 @@ fn put_numbers(numbers: &[u32], from: usize, n: usize, width: AsnLength, out: &m
         left = left - 1;
     }
 }
+
+// The bytes of a lent path that can be written and has room.
+fn write_segments(pairs: &[u32], numbers: &[u32], width: AsnLength, out: &mut [u8])
+    requires { ⌜ addsUp (now pairs) (length (now numbers)) ≡ true ⌝ }
+    requires { ⌜ lentPath knownType (widthOf width) (now pairs) (now numbers) .verdict ≡ 0 ⌝ }
+    requires { ⌜ length (bytesOf knownType (widthOf width) (now pairs) (now numbers)) ≤ length (now out) ⌝ }
+    ensures { λ _. ⌜ now (out .exit) ≡ laid (now (out .entry)) 0 (bytesOf knownType (widthOf width) (now (pairs .entry)) (now (numbers .entry))) ⌝ }
+{
+    let mut at: usize = 0;
+    let mut from: usize = 0;
+    let mut to: usize = 0;
+    while at < pairs.len() {
+        let count = pairs[at + 1];
+        put_head(out, to, pairs[at], count);
+        put_numbers(numbers, from, count as usize, width, out, to + 2);
+        to = to + (2 + paths::numbers_size(count as u16, width));
+        from = from + count as usize;
+        at = at + 2;
+    }
+}
+
+// A path lent as pairs of type and count, and as numbers back to back. The counts are compared with the numbers left, so no sum can wrap.
+pub fn encode_as_path(pairs: &[u32], numbers: &[u32], width: AsnLength, out: &mut [u8]) -> WriteAnswer
+    ensures answer { λ r. ⌜ r ≡ encodeAnswer knownType (widthOf width) (now (pairs .entry)) (now (numbers .entry)) (length (now (out .entry))) ⌝ }
+    ensures out { λ _. ⌜ now (out .exit) ≡ encodeLeft knownType (widthOf width) (now (pairs .entry)) (now (numbers .entry)) (now (out .entry)) ⌝ }
+{
+    if !adds_up(pairs, numbers.len()) {
+        return WriteAnswer::Refused(refusal::NOT_WRITABLE);
+    }
+    let fault = path_fault(pairs, numbers, width);
+    if fault != 0 {
+        return WriteAnswer::Refused(fault);
+    }
+    if wire::LIST_LIMIT < pairs.len() {
+        return WriteAnswer::Refused(refusal::TOO_LONG);
+    }
+    if wire::LIST_LIMIT < numbers.len() {
+        return WriteAnswer::Refused(refusal::TOO_LONG);
+    }
+    let size = pairs.len() + paths::numbers_size(numbers.len() as u16, width);
+    if wire::LIST_LIMIT < size {
+        return WriteAnswer::Refused(refusal::TOO_LONG);
+    }
+    if out.len() < size {
+        return WriteAnswer::Refused(refusal::NO_ROOM);
+    }
+    write_segments(pairs, numbers, width, out);
+    WriteAnswer::Written(size)
+}

@@ -1,3 +1,17 @@
+use borrow.Author.Needs.{needs}
+use native.Mathlib.Omega.{arith}
+use Prim.Native.Nat.{ℕ, _+_, _-_, _≤_, _<_, _^_}
+use mathlib.Core.Path.{_≡_, refl, sym, ap, ap₂, subst, _∙_}
+use mathlib.Core.List.{List, [], _∷_, _++_}
+use mathlib.Core.Bool.{true, false}
+use lib.ListN.{length, drop, take, getD, length-append}
+use Rattle.wire.specs.NumberLaws.{length-toBe}
+use Rattle.wire.specs.Number.{toBe}
+use Rattle.wire.specs.Store.{laid, Laying, laying-start, laying-long, laying-room, laying-step, laying-done}
+use Rattle.wire.specs.Walk.{flat}
+use Rattle.paths.specs.Segment.{widthOf}
+use Rattle.path_writer.specs.Write.{allFit}
+use Rattle.path_writer.specs.WriteLaws.{take-next, fit-here, bytes-length}
 use Rattle.path_writer.proofs.put_numbers.Statement.{statement}
 use Rattle.path_writer.proofs.put_numbers.Tie as tie
 use Rattle.path_writer.proofs.put_numbers.Reads as reads
@@ -6,34 +20,65 @@ use Rattle.paths.proofs.asn_bytes.Reads as asn-bytes-reads
 use Rattle.paths.proofs.put_number.Reads as put-number-reads
 
 abbrev Inv-loop : tie.InvT-loop
-Inv-loop numbers from n width out₀ start w at₀ to₀ left₀ out at to left = ?
+Inv-loop numbers from n width out₀ start w at₀ to₀ left₀ out at to left =
+    (w ≡ widthOf width) × (at + left ≤ length numbers) × (allFit (widthOf width) (take left (drop at numbers)) ≡ true)
+    × Laying out₀ start (flat (toBe (widthOf width)) (take n (drop from numbers))) out to (flat (toBe (widthOf width)) (take left (drop at numbers)))
 
 abbrev μ-loop : tie.MeasureT-loop
-μ-loop numbers from n width out₀ start w at₀ to₀ left₀ out at to left = ?
+μ-loop numbers from n width out₀ start w at₀ to₀ left₀ out at to left = left
+
+module _ (ns : List ℕ) (from w n : ℕ) (d₀ : List ℕ) (start : ℕ) (fits : start + length (flat (toBe w) (take n (drop from ns))) ≤ length d₀) where
+  module _ (at to left : ℕ) (d : List ℕ) (h : Laying d₀ start (flat (toBe w) (take n (drop from ns))) d to (flat (toBe w) (take left (drop at ns)))) where
+    long : length d ≡ length d₀
+    long = laying-long d₀ start (flat (toBe w) (take n (drop from ns))) fits d to (flat (toBe w) (take left (drop at ns))) h
+
+    end : left ≡ 0 → d ≡ laid d₀ start (flat (toBe w) (take n (drop from ns)))
+    unfolding flat
+    end e = laying-done d₀ start (flat (toBe w) (take n (drop from ns))) fits d to _ h (ap (λ (k : ℕ). flat (toBe w) (take k (drop at ns))) e)
+
+    module _ (pos : 0 < left) (inside : at + left ≤ length ns) where
+      next : flat (toBe w) (take left (drop at ns)) ≡ toBe w (getD ns at 0) ++ flat (toBe w) (take (left - 1) (drop (at + 1) ns))
+      unfolding flat
+      next = ap (flat (toBe w)) (take-next ns at left pos (omega arith))
+
+      here : (to + w ≤ length d) × (to + w ≤ length d₀)
+      here =
+          omega (arith, long, laying-room d₀ start (flat (toBe w) (take n (drop from ns))) fits d to (flat (toBe w) (take left (drop at ns))) h, ap length next,
+          length-append (toBe w (getD ns at 0)) (flat (toBe w) (take (left - 1) (drop (at + 1) ns))), length-toBe w (getD ns at 0))
+
+      turn : Laying d₀ start (flat (toBe w) (take n (drop from ns))) (laid d to (toBe w (getD ns at 0))) (to + w) (flat (toBe w) (take (left - 1) (drop (at + 1) ns)))
+      turn =
+          subst (λ (k : ℕ). Laying d₀ start (flat (toBe w) (take n (drop from ns))) (laid d to (toBe w (getD ns at 0))) (to + k) (flat (toBe w) (take (left - 1) (drop (at + 1) ns)))) (length-toBe w (getD ns at 0))
+          (laying-step d₀ start (flat (toBe w) (take n (drop from ns))) fits d to (flat (toBe w) (take left (drop at ns))) h (toBe w (getD ns at 0)) (flat (toBe w) (take (left - 1) (drop (at + 1) ns))) next)
+
+      fit : allFit w (take left (drop at ns)) ≡ true → (getD ns at 0 < 256 ^ w) × (allFit w (take (left - 1) (drop (at + 1) ns)) ≡ true)
+      fit e = fit-here w (getD ns at 0) (take (left - 1) (drop (at + 1) ns)) (sym (ap (allFit w) (take-next ns at left pos (omega arith))) ∙ e)
 
 -- src/lib.rt:112:9
 asn-bytes-requires : tie.Need-asn-bytes-requires Inv-loop μ-loop
-asn-bytes-requires c κs = ?
+asn-bytes-requires c κs = search needs
 
 -- src/lib.rt:116:5
 loop-holds : tie.Need-loop-holds Inv-loop μ-loop
-loop-holds c = ?
+loop-holds c =
+    let p = c .before .before .pre in
+    (c .asn-bytes .ensures, ?, ?, ?)
 
 -- src/lib.rt:117:36
 mul-put-number : tie.Need-mul-put-number Inv-loop μ-loop
-mul-put-number c = ?
+mul-put-number c = search needs
 
 -- src/lib.rt:117:36
 shared-slice-read-put-number : tie.Need-shared-slice-read-put-number Inv-loop μ-loop
-shared-slice-read-put-number c = ?
+shared-slice-read-put-number c = search needs
 
 -- src/lib.rt:117:9
 put-number-requires : tie.Need-put-number-requires Inv-loop μ-loop
-put-number-requires c κs = ?
+put-number-requires c κs = search needs
 
 -- src/lib.rt:118:14
 add-at : tie.Need-add-at Inv-loop μ-loop
-add-at c = ?
+add-at c = search needs
 
 -- src/lib.rt:119:14
 add-to : tie.Need-add-to Inv-loop μ-loop
@@ -41,11 +86,11 @@ add-to c = ?
 
 -- src/lib.rt:120:16
 sub-left : tie.Need-sub-left Inv-loop μ-loop
-sub-left c = ?
+sub-left c = search needs
 
 -- src/lib.rt:116:5
 loop-less : tie.Need-loop-less Inv-loop μ-loop
-loop-less c = ?
+loop-less c = search needs
 
 -- src/lib.rt:116:5
 loop-again : tie.Need-loop-again Inv-loop μ-loop

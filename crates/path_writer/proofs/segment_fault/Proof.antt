@@ -1,3 +1,8 @@
+use borrow.Author.Tests.{not-true, not-false}
+use native.Mathlib.Omega.{arith}
+use mathlib.Core.Path.{_≡_, sym, _∙_}
+use Rattle.paths.specs.Segment.{widthOf, knownType}
+use Rattle.path_writer.specs.WriteLaws.{fault-rule, fault-long, fault-wide, none-fault}
 use borrow.Author.Needs.{needs}
 use Rattle.path_writer.proofs.segment_fault.Statement.{statement}
 use Rattle.path_writer.proofs.segment_fault.Tie as tie
@@ -12,11 +17,11 @@ type-fault-requires c κs = search needs
 
 -- src/lib.rt:65:9
 returns : tie.Need-returns
-returns c = ?
+returns c = let a = c .before .before .before .args in fault-rule knownType (widthOf (a .width)) (a .kind) (a .count) _ _ (c .before .type-fault .ensures) (omega (arith, c .if1 .taken))
 
 -- src/lib.rt:68:9
 returns-2 : tie.Need-returns-2
-returns-2 c = ?
+returns-2 c = let a = c .before .before .before .before .args in fault-long knownType (widthOf (a .width)) (a .kind) (a .count) _ (sym (c .before .if1 .left) ∙ c .before .before .type-fault .ensures) (c .if2 .taken)
 
 -- src/lib.rt:70:9
 all-fit-requires : tie.Need-all-fit-requires
@@ -24,11 +29,15 @@ all-fit-requires c κs = search needs
 
 -- src/lib.rt:71:9
 returns-3 : tie.Need-returns-3
-returns-3 c = ?
+returns-3 c =
+    let a = c .before .before .before .before .before .before .args in
+    fault-wide knownType (widthOf (a .width)) (a .kind) (a .count) _ (sym (c .before .before .before .if1 .left) ∙ c .before .before .before .before .type-fault .ensures) (c .before .before .if2 .left) (sym (c .before .all-fit .ensures) ∙ not-true _ (c .if3 .taken))
 
 -- src/lib.rt:59:1
 returns-4 : tie.Need-returns-4
-returns-4 c = ?
+returns-4 c =
+    let a = c .before .before .before .before .before .before .args in
+    sym (none-fault knownType (widthOf (a .width)) (a .kind) (a .count) _ (sym (sym (c .before .before .before .if1 .left) ∙ c .before .before .before .before .type-fault .ensures)) (c .before .before .if2 .left) (sym (c .before .all-fit .ensures) ∙ not-false _ (c .if3 .left)))
 
 pub segment-fault-spec : {M : Type 1} → statement M
 segment-fault-spec =
