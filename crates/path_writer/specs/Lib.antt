@@ -2,3 +2,4 @@ pub mod Write
 pub mod Promises
 pub mod WriteLaws
 pub mod WriteTurn
+pub mod Lent

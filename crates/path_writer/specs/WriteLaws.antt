@@ -25,7 +25,7 @@ use Rattle.path_writer.specs.Write.{segmentBytes, addsUp, allFit, mostNu
 
 -- ---- what a test says
 
-holds : (t : Bool) (x : Bool) → pick t x false ≡ true → (t ≡ true) × (x ≡ true)
+pub holds : (t : Bool) (x : Bool) → pick t x false ≡ true → (t ≡ true) × (x ≡ true)
 holds true x e = (refl, e)
 holds false x e = let z : _≡_ {A = ℕ} 0 1 = cc in absurd (omega (arith, z))
 

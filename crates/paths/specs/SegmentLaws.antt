@@ -19,7 +19,7 @@ use Rattle.paths.specs.Size.{countIn}
 use Rattle.paths.specs.declared.AsnLength.{AsnLength}
 use Rattle.paths.specs.declared.AsnLength.the-variants.{Bits16, Bits32}
 use Rattle.paths.specs.declared.SegmentAnswer.the-variants.{Numbers, Refused}
-use Rattle.paths.specs.Segment.{Segment, widthOf, span, numbersOf, Rule, NoState, judged, segmentAt, segmentOf, asnsOf}
+use Rattle.paths.specs.Segment.{Segment, widthOf, span, numbersOf, Rule, typeFault, NoState, judged, segmentAt, segmentOf, asnsOf}
 
 -- ---- the bytes of numbers
 
@@ -72,6 +72,19 @@ pub numbers-next : (w n at : ℕ) (s : List ℕ) → 0 < n → numbersOf w n (dr
 unfolding numbersOf beAt
 numbers-next w zero at s h = absurd (not-suc-le-zero h)
 numbers-next w (suc n) at s h = rw (sub-one (suc n), drop-drop w at s)
+
+-- ---- types
+
+pub type-known : (kind : ℕ) → typeFault kind ≡ 0 → (1 ≤ kind) × (kind ≤ 4)
+unfolding typeFault
+type-known kind =
+    pick-leb (λ (x : ℕ). x ≡ 0 → (1 ≤ kind) × (kind ≤ 4)) 1 kind _ _
+    (λ h. pick-leb (λ (x : ℕ). x ≡ 0 → (1 ≤ kind) × (kind ≤ 4)) kind 4 _ _ (λ k _. (h, k)) (λ _ e. absurd (omega (arith, e))))
+    (λ _ e. absurd (omega (arith, e)))
+
+pub known-type : (kind : ℕ) → 1 ≤ kind → kind ≤ 4 → typeFault kind ≡ 0
+unfolding typeFault
+known-type kind h k = rw (le-leb 1 kind h, le-leb kind 4 k)
 
 -- ---- a segment that is taken
 

@@ -1,3 +1,5 @@
+use borrow.Author.Tests.{lt-ltb}
+use Rattle.paths.specs.AggregatorLaws.{put-room}
 use borrow.Author.Needs.{needs}
 use native.Mathlib.Omega.{arith}
 use Prim.Native.Nat.{ℕ, _+_, _-_, _≤_, _<_, _^_}
@@ -61,8 +63,9 @@ asn-bytes-requires c κs = search needs
 -- src/lib.rt:116:5
 loop-holds : tie.Need-loop-holds Inv-loop μ-loop
 loop-holds c =
-    let p = c .before .before .pre in
-    (c .asn-bytes .ensures, ?, ?, ?)
+    let a = c .before .before .before .args in
+    let p = c .before .before .before .pre in
+    (c .asn-bytes .ensures, p .0, p .1 .0, laying-start (a .out .now) (a .start) _ (p .1 .1))
 
 -- src/lib.rt:117:36
 mul-put-number : tie.Need-mul-put-number Inv-loop μ-loop
@@ -82,7 +85,10 @@ add-at c = search needs
 
 -- src/lib.rt:119:14
 add-to : tie.Need-add-to Inv-loop μ-loop
-add-to c = ?
+add-to c =
+    let l = c .before .before .before .before .before .before in
+    let a = l .before .before .before .before .args in
+    omega (arith, l .loop .inv .0, here (a .numbers .now) (a .from) (widthOf (a .width)) (a .n) (a .out .now) (a .start) (l .before .before .before .before .pre .1 .1) (l .loop .at) (l .loop .to) (l .loop .left) (l .loop .out) (l .loop .inv .3) (c .before .before .before .before .before .loop-test .taken) (l .loop .inv .1))
 
 -- src/lib.rt:120:16
 sub-left : tie.Need-sub-left Inv-loop μ-loop
@@ -94,15 +100,29 @@ loop-less c = search needs
 
 -- src/lib.rt:116:5
 loop-again : tie.Need-loop-again Inv-loop μ-loop
-loop-again c = ?
+loop-again c =
+    let l = c .before .before .before .before .before .before in
+    let a = l .before .before .before .before .args in
+    let pos = c .before .before .before .before .before .loop-test .taken in
+    let room = here (a .numbers .now) (a .from) (widthOf (a .width)) (a .n) (a .out .now) (a .start) (l .before .before .before .before .pre .1 .1) (l .loop .at) (l .loop .to) (l .loop .left) (l .loop .out) (l .loop .inv .3) pos (l .loop .inv .1) in
+    let f = fit (a .numbers .now) (a .from) (widthOf (a .width)) (a .n) (a .out .now) (a .start) (l .before .before .before .before .pre .1 .1) (l .loop .at) (l .loop .to) (l .loop .left) (l .loop .out) (l .loop .inv .3) pos (l .loop .inv .1) (l .loop .inv .2) in
+    let put : c .before .before .put-number .last .0 ≡ laid (l .loop .out) (l .loop .to) (toBe (widthOf (a .width)) (getD (a .numbers .now) (l .loop .at) 0)) =
+    c .before .before .put-number .ensures ∙ put-room (l .loop .out) (l .loop .to) _ (a .width) (lt-ltb _ _ (f .0)) (room .0) in
+    (l .loop .inv .0, omega (arith, l .loop .inv .1), f .1, rw (put, l .loop .inv .0) (turn (a .numbers .now) (a .from) (widthOf (a .width)) (a .n) (a .out .now) (a .start) (l .before .before .before .before .pre .1 .1) (l .loop .at) (l .loop .to) (l .loop .left) (l .loop .out) (l .loop .inv .3) pos (l .loop .inv .1)))
 
 -- src/lib.rt:106:1
 same-length : tie.Need-same-length Inv-loop μ-loop
-same-length c = ?
+same-length c =
+    let l = c .before in
+    let a = l .before .before .before .before .args in
+    long (a .numbers .now) (a .from) (widthOf (a .width)) (a .n) (a .out .now) (a .start) (l .before .before .before .before .pre .1 .1) (l .loop .at) (l .loop .to) (l .loop .left) (l .loop .out) (l .loop .inv .3)
 
 -- src/lib.rt:106:1
 returns : tie.Need-returns Inv-loop μ-loop
-returns c = ?
+returns c =
+    let l = c .before in
+    let a = l .before .before .before .before .args in
+    end (a .numbers .now) (a .from) (widthOf (a .width)) (a .n) (a .out .now) (a .start) (l .before .before .before .before .pre .1 .1) (l .loop .at) (l .loop .to) (l .loop .left) (l .loop .out) (l .loop .inv .3) (omega (arith, c .loop-test .left))
 
 pub put-numbers-spec : {M : Type 1} → statement M
 put-numbers-spec =
