@@ -3,3 +3,4 @@ pub mod Promises
 pub mod WriteLaws
 pub mod WriteTurn
 pub mod Lent
+pub mod PromiseLaws

@@ -1,0 +1,63 @@
+-- Laws of what writing a path answers and leaves.
+-- Assumes nothing.
+use Prim.Native.Nat.{ℕ, zero, suc, _+_, _≤_, _<_}
+use mathlib.Core.Path.{_≡_, refl, sym, ap, ap₂, _∙_}
+use mathlib.Core.List.{List}
+use mathlib.Core.Bool.{true, false}
+use native.Mathlib.Nat.{not-suc-le-zero}
+use native.Mathlib.Omega.{arith}
+use borrow.Author.Tests.{le-leb, lt-leb}
+use lib.ListN.{length}
+use Rattle.wire.specs.Refusal.{tooLong, noRoom, notWritable, listLimit}
+use Rattle.paths.specs.Segment.{Rule, span}
+use Rattle.paths.specs.Promises.{written}
+use Rattle.paths.specs.declared.WriteAnswer.{WriteAnswer}
+use Rattle.paths.specs.declared.WriteAnswer.the-variants.{Written, Refused}
+use Rattle.path_writer.specs.Write.{addsUp, lentPath}
+use Rattle.path_writer.specs.WriteLaws.{path-length}
+use Rattle.path_writer.specs.Lent.{lent-back}
+use Rattle.path_writer.specs.Promises.{sizedBy, bytesOf, encodeAnswer, encodeLeft}
+
+module _ (rule : Rule) (w : ℕ) (pairs numbers : List ℕ) where
+  -- an answer, and the output that goes with it
+  pub leave : (out : List ℕ) (x : WriteAnswer) → encodeAnswer rule w pairs numbers (length out) ≡ x
+      → (x ≡ encodeAnswer rule w pairs numbers (length out)) × (written x (bytesOf rule w pairs numbers) out ≡ encodeLeft rule w pairs numbers out)
+  unfolding encodeLeft
+  leave out x e = (sym e, ap (λ (y : WriteAnswer). written y (bytesOf rule w pairs numbers) out) (sym e))
+
+  module _ (places : ℕ) where
+    pub not-whole : addsUp pairs (length numbers) ≡ false → encodeAnswer rule w pairs numbers places ≡ Refused notWritable
+    unfolding encodeAnswer
+    not-whole e = rw e
+
+    module _ (adds : addsUp pairs (length numbers) ≡ true) where
+      pub bad-segment : (n : ℕ) → n ≡ lentPath rule w pairs numbers .verdict → 0 < n → encodeAnswer rule w pairs numbers places ≡ Refused n
+      unfolding encodeAnswer
+      bad-segment zero e pos = absurd (not-suc-le-zero pos)
+      bad-segment (suc n) e pos = rw (adds, ← e)
+
+      module _ (good : 0 ≡ lentPath rule w pairs numbers .verdict) where
+        -- the size, from the stores' lengths alone
+        pub size-is : length (bytesOf rule w pairs numbers) ≡ length pairs + span w (length numbers)
+        unfolding bytesOf
+        size-is =
+            let back = lent-back rule w pairs numbers adds (sym good) in
+            path-length w (lentPath rule w pairs numbers .rows) ∙ ap₂ (λ (p n : List ℕ). length p + span w (length n)) (back .1) (back .2)
+
+        by-size : (x : WriteAnswer) → sizedBy 0 (length pairs + span w (length numbers)) places ≡ x → encodeAnswer rule w pairs numbers places ≡ x
+        unfolding encodeAnswer
+        by-size x e = rw (adds, ← good, size-is) e
+
+        pub too-long : listLimit < length pairs + span w (length numbers) → encodeAnswer rule w pairs numbers places ≡ Refused tooLong
+        too-long h = by-size (Refused tooLong) (rw (lt-leb (length pairs + span w (length numbers)) listLimit h) refl)
+
+        pub no-place : length pairs + span w (length numbers) ≤ listLimit → places < length pairs + span w (length numbers) → encodeAnswer rule w pairs numbers places ≡ Refused noRoom
+        no-place h k =
+            by-size (Refused noRoom)
+            (rw (le-leb (length pairs + span w (length numbers)) listLimit h, lt-leb (length pairs + span w (length numbers)) places k) refl)
+
+        pub all-written : length pairs + span w (length numbers) ≤ listLimit → length pairs + span w (length numbers) ≤ places
+            → encodeAnswer rule w pairs numbers places ≡ Written (length pairs + span w (length numbers))
+        all-written h k =
+            by-size (Written (length pairs + span w (length numbers)))
+            (rw (le-leb (length pairs + span w (length numbers)) listLimit h, le-leb (length pairs + span w (length numbers)) places k) refl)
