@@ -34,7 +34,7 @@ empty : (l : List ℕ) → length l ≡ 0 → [] ≡ l
 empty [] e = refl
 empty (x ∷ l) e = absurd (omega (arith, e))
 
-two-more : (s : List ℕ) → 2 ≤ length s → getD s 0 0 ∷ getD s 1 0 ∷ drop 2 s ≡ s
+pub two-more : (s : List ℕ) → 2 ≤ length s → getD s 0 0 ∷ getD s 1 0 ∷ drop 2 s ≡ s
 two-more [] h = absurd (not-suc-le-zero h)
 two-more (x ∷ []) h = absurd (omega arith)
 two-more (x ∷ y ∷ s) h = refl

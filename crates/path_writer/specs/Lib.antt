@@ -4,3 +4,5 @@ pub mod WriteLaws
 pub mod WriteTurn
 pub mod Lent
 pub mod PromiseLaws
+pub mod WellFormed
+pub mod RoundTrip
