@@ -115,3 +115,120 @@ module _ (rule : Rule) (w : ℕ) where
       (omega (arith, n, length-append (segmentBytes w g) (flat (segmentBytes w) rows))) (omega (arith, n)) (written-taken g (flat (segmentBytes w) rows) h)
       ∙ ap (λ (l : List ℕ). more g (readAll (segmentOf rule w) tt l)) (drop-append-seam (segmentBytes w g) (flat (segmentBytes w) rows))
       ∙ ap (more g) (path-back rows hs)
+
+-- ---- cuttings
+
+-- a rule that finds no fault exactly where an idea of a segment allows it
+pub record Decides (rule : Rule) (allowed : ℕ → ℕ → Type 0) : Type 0 where
+  pub sound : (kind count : ℕ) → rule kind count ≡ 0 → allowed kind count
+  pub whole : (kind count : ℕ) → allowed kind count → rule kind count ≡ 0
+
+module _ (rule : Rule) (allowed : ℕ → ℕ → Type 0) (decides : Decides rule allowed) (w : ℕ) where
+  -- the bytes that a segment took are well formed
+  taken-formed : (s : List ℕ) (used : ℕ) (g : Segment) → Bytes s → Taken rule w s used g → WellFormed allowed w (segmentBytes w g)
+  taken-formed s used g b t =
+      let c : ℕ = getD s 1 0 in
+      let room : span w c ≤ length (drop 2 s) = omega (arith, t .size, t .room, length-drop 2 s) in
+      let bytes-is : segmentBytes w g ≡ take used s = taken-written rule w s used g b t .1 in
+      let split : take (2 + span w c) s ≡ getD s 0 0 ∷ c ∷ take (span w c) (drop 2 s) =
+      take-add 2 (span w c) s ∙ ap (λ (l : List ℕ). take 2 l ++ take (span w c) (drop 2 s)) (sym (two-more s (t .there))) in
+      record {
+        kind = getD s 0 0;
+        count = c;
+        body = take (span w c) (drop 2 s);
+        parts = bytes-is ∙ ap (λ (u : ℕ). take u s) (t .size) ∙ split;
+        octets = subst Bytes (sym bytes-is) (bytes-take used s b);
+        meant = decides .sound (getD s 0 0) c (t .fine);
+        long = length-take-le (span w c) (drop 2 s) room ∙ span-is w c;
+      }
+
+  -- what is accepted: its segments can be written, their bytes are well formed, and they are the bytes read
+  abbrev Accepted : List ℕ → Reading Segment → Type 0
+  Accepted s r =
+      Bytes s → r .verdict ≡ 0 → AllWritable rule w (r .rows) × (pathBytes w (r .rows) ≡ s) × Cutting allowed w s (map (segmentBytes w) (r .rows))
+
+  pub accepted : (s : List ℕ) → Accepted s (pathOf rule w s)
+  unfolding pathOf pathBytes flat joined
+  accepted s =
+      all-ind (segmentOf rule w) (segment-sound rule w) (λ _ t r. Accepted t r)
+      (λ _ _ _. (none, refl, record { each = F.none; whole = refl }))
+      (λ st t n pos e _ v. absurd (let lt : 0 < n = segment-sound rule w .names st t n e in omega (arith, lt, v)))
+      (λ st st′ t used g pos e ih b v.
+      let k = segment-taken rule w st st′ t used g e in
+      let h = taken-written rule w t used g b k in
+      let rest = ih (bytes-drop used t b) v in
+      (one (h .0) (rest .0),
+      ap₂ _++_ (h .1) (rest .1) ∙ take-append-drop used t,
+      record {
+        each = F.one (taken-formed t used g b k) (rest .2 .each);
+        whole = ap₂ _++_ (h .1) (rest .2 .whole) ∙ take-append-drop used t;
+      }))
+      tt s
+
+  -- ---- a cutting gives the segments
+
+  module _ (item : List ℕ) (f : WellFormed allowed w item) where
+    form-length : length item ≡ 2 + span w (getD item 1 0)
+    form-length =
+        let e : length (f .body) ≡ span w (getD item 1 0) = f .long ∙ sym (span-is w (f .count)) ∙ ap (λ (l : List ℕ). span w (getD l 1 0)) (sym (f .parts)) in
+        omega (arith, e, ap length (f .parts))
+
+    formed : Taken rule w item (length item) (segmentAt w item)
+    formed = record {
+      there = omega (arith, form-length);
+      size = form-length;
+      room = omega arith;
+      fine = ap (λ (l : List ℕ). rule (getD l 0 0) (getD l 1 0)) (f .parts) ∙ decides .whole (f .kind) (f .count) (f .meant);
+      is = refl;
+    }
+
+    pub form-written : Writable rule w (segmentAt w item) × (segmentBytes w (segmentAt w item) ≡ item)
+    form-written = let h = taken-written rule w item (length item) (segmentAt w item) (f .octets) formed in (h .0, h .1 ∙ take-length item)
+
+    pub form-pair : pairOf (segmentAt w item) ≡ headOf item
+    unfolding segmentAt
+    form-pair = ap (λ (k : ℕ). getD item 0 0 ∷ k ∷ []) (length-numbers w (getD item 1 0) (drop 2 item))
+
+    pub form-numbers : asnsOf (segmentAt w item) ≡ asNumbers w item
+    unfolding segmentAt
+    form-numbers = numbers-in w (getD item 1 0) (drop 2 item) (omega (arith, form-length, length-drop 2 item))
+
+  -- its segments: they can be written, their bytes are the items and so s, and they are lent as the items say
+  pub record Read (s : List ℕ) (items : List (List ℕ)) (rows : List Segment) : Type 0 where
+    pub good : AllWritable rule w rows
+    pub back : map (segmentBytes w) rows ≡ items
+    pub bytes : pathBytes w rows ≡ joined items
+    pub many : length rows ≡ length items
+    pub pairs : flat pairOf rows ≡ flat headOf items
+    pub numbers : flat asnsOf rows ≡ flat (asNumbers w) items
+
+  rows-of : (items : List (List ℕ)) → Each (WellFormed allowed w) items → Read (joined items) items (map (segmentAt w) items)
+  unfolding pathBytes flat joined
+  rows-of [] F.none = record { good = none; back = refl; bytes = refl; many = refl; pairs = refl; numbers = refl }
+  rows-of (item ∷ items) (F.one f fs) =
+      let h = form-written item f in
+      let ih = rows-of items fs in
+      record {
+        good = one (h .0) (ih .good);
+        back = ap₂ _∷_ (h .1) (ih .back);
+        bytes = ap₂ _++_ (h .1) (ih .bytes);
+        many = ap suc (ih .many);
+        pairs = ap₂ _++_ (form-pair item f) (ih .pairs);
+        numbers = ap₂ _++_ (form-numbers item f) (ih .numbers);
+      }
+
+  -- so the reading of s gives them, and no fault
+  pub cut-read : (s : List ℕ) (items : List (List ℕ)) → Cutting allowed w s items
+      → (rows : List Segment) × (pathOf rule w s ≡ record { rows = rows; verdict = 0 }) × Read s items rows
+  cut-read s items c =
+      let r = rows-of items (c .each) in
+      let e : pathBytes w (map (segmentAt w) items) ≡ s = r .bytes ∙ c .whole in
+      (map (segmentAt w) items, ap (pathOf rule w) (sym e) ∙ path-back rule w (map (segmentAt w) items) (r .good),
+      record { good = r .good; back = r .back; bytes = r .bytes; many = r .many; pairs = r .pairs; numbers = r .numbers })
+
+  pub cut-once : (s : List ℕ) (items items′ : List (List ℕ)) → Cutting allowed w s items → Cutting allowed w s items′ → items ≡ items′
+  cut-once s items items′ c c′ =
+      let a = cut-read s items c in
+      let b = cut-read s items′ c′ in
+      let same : a .0 ≡ b .0 = ap (λ (r : Reading Segment). r .rows) (sym (a .1) ∙ b .1) in
+      sym (a .2 .back) ∙ ap (map (segmentBytes w)) same ∙ b .2 .back
