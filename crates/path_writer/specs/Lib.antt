@@ -6,3 +6,4 @@ pub mod Lent
 pub mod PromiseLaws
 pub mod WellFormed
 pub mod RoundTrip
+pub mod RuleTheorems

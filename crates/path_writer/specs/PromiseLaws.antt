@@ -3,12 +3,14 @@
 use Prim.Native.Nat.{ℕ, zero, suc, _+_, _≤_, _<_}
 use mathlib.Core.Path.{_≡_, refl, sym, ap, ap₂, _∙_}
 use mathlib.Core.List.{List}
-use mathlib.Core.Bool.{true, false}
+use mathlib.Core.Bool.{Bool, true, false}
 use native.Mathlib.Nat.{not-suc-le-zero}
 use native.Mathlib.Omega.{arith}
 use borrow.Author.Tests.{le-leb, lt-leb}
 use lib.ListN.{length}
 use Rattle.wire.specs.Refusal.{tooLong, noRoom, notWritable, listLimit}
+use Rattle.wire.specs.Choice.{pick, pick-leb}
+use Rattle.wire.specs.Store.{laid}
 use Rattle.paths.specs.Segment.{Rule, span}
 use Rattle.paths.specs.Promises.{written}
 use Rattle.paths.specs.declared.WriteAnswer.{WriteAnswer}
@@ -61,3 +63,28 @@ module _ (rule : Rule) (w : ℕ) (pairs numbers : List ℕ) where
         all-written h k =
             by-size (Written (length pairs + span w (length numbers)))
             (rw (le-leb (length pairs + span w (length numbers)) listLimit h, le-leb (length pairs + span w (length numbers)) places k) refl)
+
+    -- what an accepted writing says
+    pub encode-written : (n : ℕ) → encodeAnswer rule w pairs numbers places ≡ Written n
+        → (addsUp pairs (length numbers) ≡ true) × (lentPath rule w pairs numbers .verdict ≡ 0) × (length (bytesOf rule w pairs numbers) ≡ n) × (n ≤ listLimit) × (n ≤ places)
+    unfolding encodeAnswer
+    encode-written n = by-adds (addsUp pairs (length numbers))
+      where
+        by-verdict : (v size : ℕ) → sizedBy v size places ≡ Written n → (v ≡ 0) × (size ≡ n) × (n ≤ listLimit) × (n ≤ places)
+        by-verdict zero size =
+            pick-leb (λ (x : WriteAnswer). x ≡ Written n → (_≡_ {A = ℕ} 0 0) × (size ≡ n) × (n ≤ listLimit) × (n ≤ places)) size listLimit _ _
+            (λ h. pick-leb (λ (x : WriteAnswer). x ≡ Written n → (_≡_ {A = ℕ} 0 0) × (size ≡ n) × (n ≤ listLimit) × (n ≤ places)) size places _ _
+            (λ k e. let a : size ≡ n = cc in (refl, a, rw a at h, rw a at k))
+            (λ _ e. let z : _≡_ {A = ℕ} 0 1 = cc in absurd (omega (arith, z))))
+            (λ _ e. let z : _≡_ {A = ℕ} 0 1 = cc in absurd (omega (arith, z)))
+        by-verdict (suc v) size = λ e. let z : _≡_ {A = ℕ} 0 1 = cc in absurd (omega (arith, z))
+
+        by-adds : (t : Bool) → pick t (sizedBy (lentPath rule w pairs numbers .verdict) (length (bytesOf rule w pairs numbers)) places) (Refused notWritable) ≡ Written n
+            → (t ≡ true) × (lentPath rule w pairs numbers .verdict ≡ 0) × (length (bytesOf rule w pairs numbers) ≡ n) × (n ≤ listLimit) × (n ≤ places)
+        by-adds true e = let h = by-verdict (lentPath rule w pairs numbers .verdict) (length (bytesOf rule w pairs numbers)) e in (refl, h .0, h .1, h .2, h .3)
+        by-adds false e = let z : _≡_ {A = ℕ} 0 1 = cc in absurd (omega (arith, z))
+
+  -- the output of an accepted writing
+  pub written-out : (out : List ℕ) (n : ℕ) → encodeAnswer rule w pairs numbers (length out) ≡ Written n → encodeLeft rule w pairs numbers out ≡ laid out 0 (bytesOf rule w pairs numbers)
+  unfolding encodeLeft
+  written-out out n e = ap (λ (y : WriteAnswer). written y (bytesOf rule w pairs numbers) out) e

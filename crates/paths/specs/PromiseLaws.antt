@@ -9,6 +9,7 @@ use borrow.Author.Tests.{le-leb, lt-leb}
 use lib.ListN.{length}
 use Rattle.wire.specs.Choice.{pick, pick-leb}
 use Rattle.wire.specs.Refusal.{tooLong, noRoom, listLimit}
+use Rattle.wire.specs.Store.{laid}
 use Rattle.wire.specs.Walk.{Reading, tally, flat}
 use Rattle.wire.specs.WalkLaws.{tally-one, tally-flat, flat-length}
 use Rattle.paths.specs.Segment.{Segment, pairOf, asnsOf}
@@ -74,3 +75,35 @@ no-numbers m n p q h k = rw (le-leb m (p / 2) h, lt-leb n q k)
 
 pub room : (m n p q : ℕ) → m ≤ p / 2 → n ≤ q → roomed (Path m n) p q ≡ Path m n
 room m n p q h k = rw (le-leb m (p / 2) h, le-leb n q k)
+
+-- what an accepted reading says: the count, and room for it
+pub roomed-path : (y : PathAnswer) (m n p q : ℕ) → roomed y p q ≡ Path m n → (y ≡ Path m n) × (m ≤ p / 2) × (n ≤ q)
+roomed-path (Path m′ n′) m n p q =
+    pick-leb (λ (x : PathAnswer). x ≡ Path m n → (Path m′ n′ ≡ Path m n) × (m ≤ p / 2) × (n ≤ q)) m′ (p / 2) _ _
+    (λ h. pick-leb (λ (x : PathAnswer). x ≡ Path m n → (Path m′ n′ ≡ Path m n) × (m ≤ p / 2) × (n ≤ q)) n′ q _ _
+    (λ k e. let a : m′ ≡ m = cc in let b : n′ ≡ n = cc in (e, rw a at h, rw b at k))
+    (λ _ e. let z : _≡_ {A = ℕ} 0 1 = cc in absurd (omega (arith, z))))
+    (λ _ e. let z : _≡_ {A = ℕ} 0 1 = cc in absurd (omega (arith, z)))
+roomed-path (Refused k) m n p q = λ e. let z : _≡_ {A = ℕ} 0 1 = cc in absurd (omega (arith, z))
+
+module _ (s : List ℕ) (r : Reading Segment) (m n p q : ℕ) where
+  pub read-path : readAnswer s r p q ≡ Path m n
+      → (length s ≤ listLimit) × (r .verdict ≡ 0) × (length (r .rows) ≡ m) × (length (flat asnsOf (r .rows)) ≡ n) × (2 * m ≤ p) × (n ≤ q)
+  unfolding readAnswer
+  read-path e =
+      let a = roomed-path (countAnswer s r) m n p q e in
+      let b = count-path s r m n (a .0) in
+      (b .0, b .1, b .2, b .3, omega (arith, a .1), a .2)
+
+  pub path-read : length s ≤ listLimit → r .verdict ≡ 0 → length (r .rows) ≡ m → length (flat asnsOf (r .rows)) ≡ n → 2 * m ≤ p → n ≤ q → readAnswer s r p q ≡ Path m n
+  unfolding readAnswer
+  path-read short v a b h k =
+      let c : countAnswer s r ≡ Path m n = sym (count-good s r m n short v (tally-one (r .rows) ∙ a) (tally-flat asnsOf (r .rows) ∙ b)) in
+      ap (λ (y : PathAnswer). roomed y p q) c ∙ room m n p q (omega arith) k
+
+-- the stores of an accepted reading
+pub path-stores : (s : List ℕ) (r : Reading Segment) (pairs numbers : List ℕ) (m n : ℕ) → readAnswer s r (length pairs) (length numbers) ≡ Path m n
+    → (pairsAfter s r pairs (length numbers) ≡ laid pairs 0 (flat pairOf (r .rows))) × (numbersAfter s r (length pairs) numbers ≡ laid numbers 0 (flat asnsOf (r .rows)))
+unfolding pairsAfter numbersAfter
+path-stores s r pairs numbers m n e =
+    (ap (λ (y : PathAnswer). filled y (flat pairOf (r .rows)) pairs) e, ap (λ (y : PathAnswer). filled y (flat asnsOf (r .rows)) numbers) e)
