@@ -7,3 +7,5 @@ pub mod PromiseLaws
 pub mod WellFormed
 pub mod RoundTrip
 pub mod RuleTheorems
+pub mod Theorems
+pub mod Tight

@@ -6,3 +6,4 @@ pub mod PromiseLaws
 pub mod PathTurn
 pub mod Aggregator
 pub mod AggregatorLaws
+pub mod Tight
