@@ -1,21 +1,20 @@
 -- Segments that can be written, and what is lent as pairs and numbers: one gives the other.
 -- Assumes nothing.
-use Prim.Native.Nat.{ℕ, zero, suc, _+_, _-_, _≤_, _<_}
-use mathlib.Core.Path.{_≡_, refl, sym, ap, ap₂, subst, _∙_}
+use Prim.Native.Nat.{ℕ, _+_, _-_, _≤_, _<_}
+use mathlib.Core.Path.{_≡_, refl, sym, ap, ap₂, _∙_}
 use mathlib.Core.List.{List, [], _∷_, _++_}
-use mathlib.Core.Bool.{Bool, true, false}
+use mathlib.Core.Bool.{true}
 use native.Mathlib.Nat.{not-suc-le-zero}
 use native.Mathlib.Omega.{arith}
-use borrow.Author.Tests.{leb-true, le-leb, eqb-true, eq-eqb}
+use borrow.Author.Tests.{leb-true, le-leb, eqb-true}
 use lib.ListN.{length, getD, take, drop, length-append, length-drop, take-append-drop}
 use lib.Seq.{length-take-le, take-at, drop-at}
-use lib.Dec.{leb, eqb}
-use Rattle.wire.specs.Choice.{pick}
-use Rattle.wire.specs.Walk.{took, stop, Reading, whole, refused, more, readAll, flat}
+use lib.Dec.{leb}
+use Rattle.wire.specs.Walk.{took, Reading, more, readAll, flat}
 use Rattle.wire.specs.WalkLaws.{all-nil, all-took, all-ind}
 use Rattle.paths.specs.Segment.{Segment, Rule, pairOf, asnsOf}
-use Rattle.path_writer.specs.Write.{addsUp, allFit, mostNumbers, lentSegment, lentOf, lentPath}
-use Rattle.path_writer.specs.WriteLaws.{holds, adds-pair, fault-none, none-fault, Lent, lent-took, took-lent, lent-names, lent-sound}
+use Rattle.path_writer.specs.Write.{addsUp, allFit, mostNumbers, lentOf, lentPath}
+use Rattle.path_writer.specs.WriteLaws.{holds, adds-pair, fault-none, none-fault, lent-took, took-lent, lent-names, lent-sound}
 
 -- ---- segments that can be written
 
@@ -64,11 +63,12 @@ module _ (rule : Rule) (w : ℕ) where
         fine = ap₂ rule kind-is len ∙ f .0;
         short = omega (arith, len, f .1);
         fit = ap (allFit w) asns-is ∙ f .2;
-      } in
-      (one good (rest .0),
-      ap₂ (λ (k n : ℕ). k ∷ n ∷ flat pairOf (readAll (lentOf rule w) st′ (drop used s) .rows)) kind-is len
-      ∙ ap (λ (l : List ℕ). getD s 0 0 ∷ c ∷ l) (rest .1 ∙ ap (λ (u : ℕ). drop u s) (t .size)) ∙ two-more s (t .there),
-      ap₂ _++_ asns-is (rest .2 ∙ t .after) ∙ take-append-drop c st)
+      } in (
+        one good (rest .0),
+        ap₂ (λ (k n : ℕ). k ∷ n ∷ flat pairOf (readAll (lentOf rule w) st′ (drop used s) .rows)) kind-is len
+            ∙ ap (λ (l : List ℕ). getD s 0 0 ∷ c ∷ l) (rest .1 ∙ ap (λ (u : ℕ). drop u s) (t .size)) ∙ two-more s (t .there),
+        ap₂ _++_ asns-is (rest .2 ∙ t .after) ∙ take-append-drop c st,
+      )
 
   pub lent-back : (pairs numbers : List ℕ) → addsUp pairs (length numbers) ≡ true → lentPath rule w pairs numbers .verdict ≡ 0
       → AllWritable rule w (lentPath rule w pairs numbers .rows)
@@ -105,7 +105,8 @@ module _ (rule : Rule) (w : ℕ) where
       let ih = lend rows hs in
       let n : length (asnsOf g ++ flat asnsOf rows) ≡ length (asnsOf g) + length (flat asnsOf rows) = length-append (asnsOf g) (flat asnsOf rows) in
       let le : length (asnsOf g) ≤ length (asnsOf g ++ flat asnsOf rows) = omega (arith, n) in
-      let rest : length (asnsOf g ++ flat asnsOf rows) - length (asnsOf g) ≡ length (flat asnsOf rows) = omega (arith, n) in
-      (all-took (lentOf rule w) (asnsOf g ++ flat asnsOf rows) (flat asnsOf rows) (pairOf g ++ flat pairOf rows) 2 g (omega arith) (omega arith) (lend-one g (flat pairOf rows) (flat asnsOf rows) h)
-      ∙ ap (more g) (ih .0),
-      rw (le-leb (length (asnsOf g)) (length (asnsOf g ++ flat asnsOf rows)) le, rest) (ih .1))
+      let rest : length (asnsOf g ++ flat asnsOf rows) - length (asnsOf g) ≡ length (flat asnsOf rows) = omega (arith, n) in (
+        all-took (lentOf rule w) (asnsOf g ++ flat asnsOf rows) (flat asnsOf rows) (pairOf g ++ flat pairOf rows) 2 g (omega arith) (omega arith) (lend-one g (flat pairOf rows) (flat asnsOf rows) h)
+            ∙ ap (more g) (ih .0),
+        rw (le-leb (length (asnsOf g)) (length (asnsOf g ++ flat asnsOf rows)) le, rest) (ih .1),
+      )

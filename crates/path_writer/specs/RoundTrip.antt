@@ -6,16 +6,16 @@ use mathlib.Core.List.{List, [], _∷_, _++_, map, append-assoc}
 use mathlib.Core.Bool.{true}
 use native.Mathlib.Nat.{zero-mul, suc-mul}
 use native.Mathlib.Omega.{arith}
-use lib.ListN.{length, getD, take, drop, length-append, length-take, length-drop, take-append-drop}
-use lib.Seq.{take-add, take-at, drop-at, take-length, drop-append-seam, length-take-le, take-append-le}
+use lib.ListN.{length, getD, take, drop, length-append, length-drop, take-append-drop}
+use lib.Seq.{take-add, take-at, drop-at, take-length, drop-append-seam, length-take-le}
 use Rattle.wire.specs.Number.{be, toBe, padded, beAt, Bytes}
 use Rattle.wire.specs.NumberLaws.{be-lt, be-toBe, toBe-be, length-toBe, length-padded, padded-take, bytes-drop, bytes-take, bytes-padded}
-use Rattle.wire.specs.Walk.{Reading, took, stop, more, readAll, flat}
+use Rattle.wire.specs.Walk.{Reading, took, more, readAll, flat}
 use Rattle.wire.specs.WalkLaws.{all-nil, all-took, all-ind}
-use Rattle.paths.specs.Segment.{Segment, NoState, span, numbersOf, Rule, segmentAt, segmentOf, pathOf, pairOf, asnsOf}
+use Rattle.paths.specs.Segment.{Segment, span, numbersOf, Rule, segmentAt, segmentOf, pathOf, pairOf, asnsOf}
 use Rattle.paths.specs.SegmentLaws.{length-numbers, Taken, segment-taken, taken-segment, segment-sound}
-use Rattle.path_writer.specs.Write.{segmentBytes, allFit, mostNumbers, pathBytes}
-use Rattle.path_writer.specs.WriteLaws.{fit-here, fit-cons, bytes-length, segment-length}
+use Rattle.path_writer.specs.Write.{segmentBytes, allFit, pathBytes}
+use Rattle.path_writer.specs.WriteLaws.{fit-here, fit-cons, segment-length}
 use Rattle.path_writer.specs.Lent.{Writable, AllWritable, none, one, two-more}
 use Rattle.path_writer.specs.WellFormed as F
 use Rattle.path_writer.specs.WellFormed.{WellFormed, Each, joined, Cutting, numbersIn, headOf, asNumbers}
@@ -84,15 +84,16 @@ module _ (rule : Rule) (w : ℕ) where
       let room : span w c ≤ length (drop 2 s) = omega (arith, t .size, t .room, length-drop 2 s) in
       let kind-is : g .kind ≡ getD s 0 0 = ap (λ (h : Segment). h .kind) (t .is) in
       let split : take (2 + span w c) s ≡ getD s 0 0 ∷ c ∷ take (span w c) (drop 2 s) =
-      take-add 2 (span w c) s ∙ ap (λ (l : List ℕ). take 2 l ++ take (span w c) (drop 2 s)) (sym (two-more s (t .there))) in
-      (record {
-        fine = ap₂ rule kind-is len ∙ t .fine;
-        short = omega (arith, len, b 1);
-        fit = ap (allFit w) asns-is ∙ numbers-fit w c (drop 2 s) (bytes-drop 2 s b);
-      },
-      ap₂ (λ (k n : ℕ). k ∷ n ∷ flat (toBe w) (g .asns)) kind-is len
-      ∙ ap (λ (l : List ℕ). getD s 0 0 ∷ c ∷ l) (ap (flat (toBe w)) asns-is ∙ numbers-bytes w c (drop 2 s) (bytes-drop 2 s b) room)
-      ∙ sym split ∙ ap (λ (u : ℕ). take u s) (sym (t .size)))
+      take-add 2 (span w c) s ∙ ap (λ (l : List ℕ). take 2 l ++ take (span w c) (drop 2 s)) (sym (two-more s (t .there))) in (
+        record {
+          fine = ap₂ rule kind-is len ∙ t .fine;
+          short = omega (arith, len, b 1);
+          fit = ap (allFit w) asns-is ∙ numbers-fit w c (drop 2 s) (bytes-drop 2 s b);
+        },
+        ap₂ (λ (k n : ℕ). k ∷ n ∷ flat (toBe w) (g .asns)) kind-is len
+            ∙ ap (λ (l : List ℕ). getD s 0 0 ∷ c ∷ l) (ap (flat (toBe w)) asns-is ∙ numbers-bytes w c (drop 2 s) (bytes-drop 2 s b) room)
+            ∙ sym split ∙ ap (λ (u : ℕ). take u s) (sym (t .size)),
+      )
 
   -- one that is written is taken back, whatever follows
   pub written-taken : (g : Segment) (t : List ℕ) → Writable rule w g → segmentOf rule w tt (segmentBytes w g ++ t) ≡ took (length (segmentBytes w g)) g tt
@@ -156,13 +157,14 @@ module _ (rule : Rule) (allowed : ℕ → ℕ → Type 0) (decides : Decides rul
       (λ st st′ t used g pos e ih b v.
       let k = segment-taken rule w st st′ t used g e in
       let h = taken-written rule w t used g b k in
-      let rest = ih (bytes-drop used t b) v in
-      (one (h .0) (rest .0),
-      ap₂ _++_ (h .1) (rest .1) ∙ take-append-drop used t,
-      record {
-        each = F.one (taken-formed t used g b k) (rest .2 .each);
-        whole = ap₂ _++_ (h .1) (rest .2 .whole) ∙ take-append-drop used t;
-      }))
+      let rest = ih (bytes-drop used t b) v in (
+        one (h .0) (rest .0),
+        ap₂ _++_ (h .1) (rest .1) ∙ take-append-drop used t,
+        record {
+          each = F.one (taken-formed t used g b k) (rest .2 .each);
+          whole = ap₂ _++_ (h .1) (rest .2 .whole) ∙ take-append-drop used t;
+        },
+      ))
       tt s
 
   -- ---- a cutting gives the segments
@@ -222,9 +224,11 @@ module _ (rule : Rule) (allowed : ℕ → ℕ → Type 0) (decides : Decides rul
       → (rows : List Segment) × (pathOf rule w s ≡ record { rows = rows; verdict = 0 }) × Read s items rows
   cut-read s items c =
       let r = rows-of items (c .each) in
-      let e : pathBytes w (map (segmentAt w) items) ≡ s = r .bytes ∙ c .whole in
-      (map (segmentAt w) items, ap (pathOf rule w) (sym e) ∙ path-back rule w (map (segmentAt w) items) (r .good),
-      record { good = r .good; back = r .back; bytes = r .bytes; many = r .many; pairs = r .pairs; numbers = r .numbers })
+      let e : pathBytes w (map (segmentAt w) items) ≡ s = r .bytes ∙ c .whole in (
+        map (segmentAt w) items,
+        ap (pathOf rule w) (sym e) ∙ path-back rule w (map (segmentAt w) items) (r .good),
+        record { good = r .good; back = r .back; bytes = r .bytes; many = r .many; pairs = r .pairs; numbers = r .numbers },
+      )
 
   pub cut-once : (s : List ℕ) (items items′ : List (List ℕ)) → Cutting allowed w s items → Cutting allowed w s items′ → items ≡ items′
   cut-once s items items′ c c′ =

@@ -1,8 +1,8 @@
 -- The five theorems of a path, over any rule and the idea of a segment that it decides, and over the width: the proofs behind Theorems.
 -- Assumes nothing.
 use Prim.Native.Nat.{ℕ, _+_, _*_, _≤_}
-use mathlib.Core.Path.{_≡_, refl, sym, ap, ap₂, _∙_}
-use mathlib.Core.List.{List, [], _∷_, _++_, map}
+use mathlib.Core.Path.{_≡_, sym, ap, ap₂, _∙_}
+use mathlib.Core.List.{List, map}
 use native.Mathlib.Omega.{arith}
 use lib.ListN.{length, take}
 use lib.Seq.{take-append-seam}
@@ -10,18 +10,17 @@ use Rattle.wire.specs.Number.{Bytes}
 use Rattle.wire.specs.Refusal.{listLimit}
 use Rattle.wire.specs.Store.{laid}
 use Rattle.wire.specs.Walk.{Reading, flat}
-use Rattle.paths.specs.Segment.{Segment, widthOf, span, Rule, pathOf, pairOf, asnsOf}
+use Rattle.paths.specs.Segment.{Segment, span, Rule, pathOf, pairOf, asnsOf}
 use Rattle.paths.specs.Promises.{readAnswer, pairsAfter, numbersAfter}
 use Rattle.paths.specs.PromiseLaws.{read-path, path-read, path-stores, pairs-length}
-use Rattle.paths.specs.declared.AsnLength.{AsnLength}
 use Rattle.paths.specs.declared.PathAnswer.the-variants.{Path}
 use Rattle.paths.specs.declared.WriteAnswer.the-variants.{Written}
-use Rattle.path_writer.specs.Write.{segmentBytes, addsUp, lentPath, pathBytes}
-use Rattle.path_writer.specs.Lent.{AllWritable, lent-back, lend}
+use Rattle.path_writer.specs.Write.{segmentBytes, lentPath, pathBytes}
+use Rattle.path_writer.specs.Lent.{lent-back, lend}
 use Rattle.path_writer.specs.Promises.{bytesOf, encodeAnswer, encodeLeft}
 use Rattle.path_writer.specs.PromiseLaws.{size-is, all-written, encode-written, written-out}
 use Rattle.path_writer.specs.WellFormed.{Cutting, headOf, asNumbers}
-use Rattle.path_writer.specs.RoundTrip.{Decides, accepted, path-back, cut-read, cut-once}
+use Rattle.path_writer.specs.RoundTrip.{Decides, accepted, path-back, cut-read}
 
 -- what was laid at the front
 front : (d vs : List ℕ) (n : ℕ) → length vs ≡ n → take n (laid d 0 vs) ≡ vs
@@ -88,9 +87,10 @@ module _ (rule : Rule) (allowed : ℕ → ℕ → Type 0) (decides : Decides rul
           let bytes : bytesOf rule w p q ≡ s = ap (λ (x : Reading Segment). pathBytes w (x .rows)) (l .0) ∙ a .1 in
           let size : length p + span w (length q) ≡ length s = sym (size-is rule w p q (length out) (l .1) good) ∙ ap length bytes in
           let answer : encodeAnswer rule w p q (length out) ≡ Written (length s) =
-          all-written rule w p q (length out) (l .1) good (omega (arith, size, r .0)) (omega (arith, size)) ∙ ap Written size in
-          (ap₂ (λ (x y : List ℕ). encodeAnswer rule w x y (length out)) p-is q-is ∙ answer,
-          ap₂ (λ (x y : List ℕ). encodeLeft rule w x y out) p-is q-is ∙ written-out rule w p q out (length s) answer ∙ ap (laid out 0) bytes)
+          all-written rule w p q (length out) (l .1) good (omega (arith, size, r .0)) (omega (arith, size)) ∙ ap Written size in (
+            ap₂ (λ (x y : List ℕ). encodeAnswer rule w x y (length out)) p-is q-is ∙ answer,
+            ap₂ (λ (x y : List ℕ). encodeLeft rule w x y out) p-is q-is ∙ written-out rule w p q out (length s) answer ∙ ap (laid out 0) bytes,
+          )
 
   -- ---- what is written stands for one input alone
 

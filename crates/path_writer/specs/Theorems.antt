@@ -59,10 +59,11 @@ module _ (width : AsnLength) where
   pub accepted-exactly : (s : List ℕ) (p q : ℕ) → Bytes s
       → ((m n : ℕ) → parsed s p q ≡ Path m n → (items : List (List ℕ)) × Fitting s p q items)
       × ((items : List (List ℕ)) → Fitting s p q items → parsed s p q ≡ Path (length items) (length (asns items)))
-  accepted-exactly s p q b =
-      (λ m n e. let c = general.accepted-cut knownType Known known (widthOf width) s p q m n b e in
-      (c .0, record { cutting = c .1; short = c .2; pairRoom = c .3 .0; numberRoom = c .3 .1 }),
-      λ items h. general.cut-accepted knownType Known known (widthOf width) s items (h .cutting) p q (h .short) (h .pairRoom, h .numberRoom))
+  accepted-exactly s p q b = (
+    λ m n e. let c = general.accepted-cut knownType Known known (widthOf width) s p q m n b e in
+        (c .0, record { cutting = c .1; short = c .2; pairRoom = c .3 .0; numberRoom = c .3 .1 }),
+    λ items h. general.cut-accepted knownType Known known (widthOf width) s items (h .cutting) p q (h .short) (h .pairRoom, h .numberRoom),
+  )
 
   -- 2. two cuttings of the same bytes are equal
   pub one-cutting : (s : List ℕ) (items items′ : List (List ℕ)) → Cutting Known (widthOf width) s items → Cutting Known (widthOf width) s items′ → items ≡ items′

@@ -1,27 +1,26 @@
 -- Laws of writing a path: whole pairs, numbers that fit, and the step over the pairs, over any rule and any width.
 -- Assumes nothing.
-use Prim.Native.Nat.{ℕ, zero, suc, _+_, _-_, _*_, _^_, _≤_, _<_}
+use Prim.Native.Nat.{ℕ, zero, suc, _+_, _-_, _^_, _≤_, _<_}
 use mathlib.Core.Path.{_≡_, refl, sym, ap, ap₂, _∙_}
-use mathlib.Core.List.{List, [], _∷_, _++_, append-assoc}
+use mathlib.Core.List.{List, [], _∷_, _++_}
 use mathlib.Core.Bool.{Bool, true, false}
-use native.Mathlib.Nat.{not-suc-le-zero}
+use native.Mathlib.Nat.{not-suc-le-zero, lt-of-not-le}
 use native.Mathlib.Numerals.{add-one, sub-one}
 use native.Mathlib.Omega.{arith}
 use native.Mathlib.Decide.{decLe}
-use native.Mathlib.Nat.{lt-of-not-le}
 use borrow.Author.Tests.{le-leb, lt-leb, leb-true, lt-ltb, ltb-true}
-use lib.ListN.{length, getD, take, drop, length-append, length-drop, drop-of-length-le, take-append-drop}
-use lib.Seq.{drop-cons, drop-drop, getD-drop, length-take-le}
+use lib.ListN.{length, getD, take, drop, length-append, length-drop, drop-of-length-le}
+use lib.Seq.{drop-cons, drop-drop, getD-drop}
 use lib.Dec.{leb, ltb, eqb}
 use Rattle.wire.specs.Choice.{pick, pick-leb}
 use Rattle.wire.specs.Number.{toBe}
 use Rattle.wire.specs.NumberLaws.{length-toBe}
 use Rattle.wire.specs.Refusal.{longSegment, wideNumber}
-use Rattle.wire.specs.Walk.{Step, took, stop, Reading, flat}
-use Rattle.wire.specs.WalkLaws.{Sound, all-ind}
+use Rattle.wire.specs.Walk.{Step, took, stop, flat}
+use Rattle.wire.specs.WalkLaws.{Sound}
 use Rattle.paths.specs.Segment.{Segment, span, Rule, judged, pairOf, asnsOf}
 use Rattle.paths.specs.SegmentLaws.{span-add}
-use Rattle.path_writer.specs.Write.{segmentBytes, addsUp, allFit, mostNumbers, either, writeFault, lentSegment, lentOf, lentPath, pathBytes}
+use Rattle.path_writer.specs.Write.{segmentBytes, addsUp, allFit, mostNumbers, either, writeFault, lentSegment, lentOf, pathBytes}
 
 -- ---- what a test says
 

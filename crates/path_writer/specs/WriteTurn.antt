@@ -1,8 +1,8 @@
 -- The loops over lent pairs: what holds at the head of the one that judges and of the one that writes, and what a turn makes of it.
 -- Assumes nothing.
-use Prim.Native.Nat.{ℕ, _+_, _-_, _*_, _≤_, _<_}
-use mathlib.Core.Path.{_≡_, refl, sym, ap, ap₂, subst, _∙_}
-use mathlib.Core.List.{List, [], _∷_, _++_}
+use Prim.Native.Nat.{ℕ, _+_, _-_, _≤_, _<_}
+use mathlib.Core.Path.{_≡_, sym, ap, ap₂, subst, _∙_}
+use mathlib.Core.List.{List, [], _∷_}
 use mathlib.Core.Bool.{true}
 use native.Mathlib.Nat.{add-zero}
 use native.Mathlib.Omega.{arith}
@@ -74,9 +74,10 @@ module _ (rule : Rule) (w : ℕ) (pairs numbers : List ℕ) where
       judged-fits = (lending-there pairs numbers at from (h .0) lt, lending-next pairs numbers at from (h .0) lt .0)
 
       pub judged-next : 0 ≡ faultFrom at from → Judged (at + 2) (from + getD pairs (at + 1) 0)
-      judged-next e =
-          (lending-next pairs numbers at from (h .0) lt .1,
-          count-step (lentOf rule w) (lent-sound rule w) (λ _. 0) 0 no-weight numbers pairs (drop from numbers) at 0 (h .1) _ 2 _ (step-takes at from (judged-fits .0) e))
+      judged-next e = (
+        lending-next pairs numbers at from (h .0) lt .1,
+        count-step (lentOf rule w) (lent-sound rule w) (λ _. 0) 0 no-weight numbers pairs (drop from numbers) at 0 (h .1) _ 2 _ (step-takes at from (judged-fits .0) e),
+      )
 
       pub judged-stop : (n : ℕ) → n ≡ faultFrom at from → 0 < n → n ≡ lentPath rule w pairs numbers .verdict
       unfolding lentPath
@@ -146,7 +147,8 @@ module _ (rule : Rule) (w : ℕ) (pairs numbers : List ℕ) where
             let next = fill-step (lentOf rule w) (lent-sound rule w) (segmentBytes w) numbers pairs d₀ (drop from numbers) at to d (h .1) _ 2 _ taken in
             let same : laid d to (segmentBytes w (segmentFrom at from)) ≡ laid (laid d to head) (to + 2) body =
             ap (laid d to) (sym bytes-is) ∙ sym (laid-laid d to head body (omega (arith, writing-fits, body-length))) in
-            let place : to + length (segmentBytes w (segmentFrom at from)) ≡ to + (2 + span w (getD pairs (at + 1) 0)) = ap (λ (k : ℕ). to + k) size-is in
-            (lending-next pairs numbers at from (h .0) lt .1,
-            subst (λ (l : List ℕ). Filled (lentOf rule w) (lent-sound rule w) (segmentBytes w) numbers pairs d₀ (drop (from + getD pairs (at + 1) 0) numbers) (at + 2) (to + (2 + span w (getD pairs (at + 1) 0))) l) same
-            (subst (λ (k : ℕ). Filled (lentOf rule w) (lent-sound rule w) (segmentBytes w) numbers pairs d₀ (drop (from + getD pairs (at + 1) 0) numbers) (at + 2) k (laid d to (segmentBytes w (segmentFrom at from)))) place next))
+            let place : to + length (segmentBytes w (segmentFrom at from)) ≡ to + (2 + span w (getD pairs (at + 1) 0)) = ap (λ (k : ℕ). to + k) size-is in (
+              lending-next pairs numbers at from (h .0) lt .1,
+              subst (λ (l : List ℕ). Filled (lentOf rule w) (lent-sound rule w) (segmentBytes w) numbers pairs d₀ (drop (from + getD pairs (at + 1) 0) numbers) (at + 2) (to + (2 + span w (getD pairs (at + 1) 0))) l) same
+                  (subst (λ (k : ℕ). Filled (lentOf rule w) (lent-sound rule w) (segmentBytes w) numbers pairs d₀ (drop (from + getD pairs (at + 1) 0) numbers) (at + 2) k (laid d to (segmentBytes w (segmentFrom at from)))) place next),
+            )

@@ -103,7 +103,14 @@ fn put_head(out: &mut [u8], to: usize, kind: u32, count: u32)
 }
 
 // n numbers from a place on that fit the width, to a place of the output.
-fn put_numbers(numbers: &[u32], from: usize, n: usize, width: AsnLength, out: &mut [u8], start: usize)
+fn put_numbers(
+    numbers: &[u32],
+    from: usize,
+    n: usize,
+    width: AsnLength,
+    out: &mut [u8],
+    start: usize,
+)
     requires { ⌜ from + n ≤ length (now numbers) ⌝ }
     requires { ⌜ allFit (widthOf width) (take n (drop from (now numbers))) ≡ true ⌝ }
     requires { ⌜ start + length (flat (toBe (widthOf width)) (take n (drop from (now numbers)))) ≤ length (now out) ⌝ }
@@ -142,7 +149,12 @@ fn write_segments(pairs: &[u32], numbers: &[u32], width: AsnLength, out: &mut [u
 }
 
 // A path lent as pairs of type and count, and as numbers back to back. The counts are compared with the numbers left, so no sum can wrap.
-pub fn encode_as_path(pairs: &[u32], numbers: &[u32], width: AsnLength, out: &mut [u8]) -> WriteAnswer
+pub fn encode_as_path(
+    pairs: &[u32],
+    numbers: &[u32],
+    width: AsnLength,
+    out: &mut [u8],
+) -> WriteAnswer
     ensures answer { λ r. ⌜ r ≡ encodeAnswer knownType (widthOf width) (now (pairs .entry)) (now (numbers .entry)) (length (now (out .entry))) ⌝ }
     ensures out { λ _. ⌜ now (out .exit) ≡ encodeLeft knownType (widthOf width) (now (pairs .entry)) (now (numbers .entry)) (now (out .entry)) ⌝ }
 {

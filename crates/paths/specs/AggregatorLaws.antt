@@ -1,14 +1,13 @@
 -- Laws of an AGGREGATOR's bytes and of the calls that write one.
 -- Assumes nothing.
 use Prim.Native.Nat.{ℕ, _+_, _^_, _≤_, _<_}
-use mathlib.Core.Path.{_≡_, refl, sym, ap, ap₂, _∙_}
-use mathlib.Core.List.{List, [], _∷_, _++_}
-use mathlib.Core.Bool.{Bool, true, false}
+use mathlib.Core.Path.{_≡_, sym, ap, ap₂, _∙_}
+use mathlib.Core.List.{List}
+use mathlib.Core.Bool.{true, false}
 use native.Mathlib.Omega.{arith}
 use borrow.Author.Tests.{le-leb, lt-leb, ltb-true}
 use lib.ListN.{length, take, length-append}
 use lib.Seq.{take-all}
-use Rattle.wire.specs.Choice.{pick}
 use Rattle.wire.specs.Number.{toBe}
 use Rattle.wire.specs.NumberLaws.{length-toBe}
 use Rattle.wire.specs.Refusal.{noRoom, wideNumber}
@@ -17,7 +16,7 @@ use Rattle.paths.specs.Segment.{widthOf}
 use Rattle.paths.specs.Aggregator.{fitsWidth, withNumber, aggregatorBytes, aggregatorWritten, aggregatorLeft}
 use Rattle.paths.specs.Promises.{written}
 use Rattle.paths.specs.declared.AsnLength.{AsnLength}
-use Rattle.paths.specs.declared.AsnLength.the-variants.{Bits16, Bits32}
+use Rattle.paths.specs.declared.AsnLength.the-variants.{Bits32}
 use Rattle.paths.specs.declared.WriteAnswer.{WriteAnswer}
 use Rattle.paths.specs.declared.WriteAnswer.the-variants.{Written, Refused}
 

@@ -1,16 +1,16 @@
 -- The loops over a path: what holds at the head of the one that counts and of the one that fills, and what a turn makes of it.
 -- Assumes nothing.
 use Prim.Native.Nat.{ℕ, _+_, _-_, _≤_, _<_}
-use mathlib.Core.Path.{_≡_, refl, sym, ap, ap₂, subst, _∙_}
+use mathlib.Core.Path.{_≡_, sym, ap, ap₂, subst, _∙_}
 use mathlib.Core.List.{List, [], _∷_}
 use native.Mathlib.Omega.{arith}
-use lib.ListN.{length, take, drop, getD, length-drop}
+use lib.ListN.{length, take, drop, getD}
 use lib.Seq.{getD-drop, drop-drop}
 use native.Mathlib.Nat.{add-zero}
 use Rattle.wire.specs.Refusal.{listLimit}
-use Rattle.wire.specs.Walk.{took, stop, flat}
+use Rattle.wire.specs.Walk.{took, flat}
 use Rattle.wire.specs.Store.{laid}
-use Rattle.wire.specs.Turn.{rest, turn-fits, Counted, count-start, count-step, count-stop, count-done, Filled, fill-start, fill-fits, fill-step, fill-takes, fill-done}
+use Rattle.wire.specs.Turn.{rest, Counted, count-start, count-step, count-stop, count-done, Filled, fill-start, fill-fits, fill-step, fill-takes, fill-done}
 use Rattle.paths.specs.Segment.{Segment, span, numbersOf, Rule, segmentAt, segmentOf, pathOf, pairOf, asnsOf}
 use Rattle.paths.specs.SegmentLaws.{segment-sound, segment-taken, counted-taken, counted-refused, light-segments, light-numbers, length-numbers}
 use Rattle.paths.specs.Size.{countIn}
@@ -29,9 +29,10 @@ CountedPath rule w s at m n =
 
 module _ (rule : Rule) (w : ℕ) (pos : 0 < w) (s : List ℕ) where
   pub path-start : CountedPath rule w s 0 0 0
-  path-start =
-      (count-start (segmentOf rule w) (segment-sound rule w) (λ _. 1) 1 (light-segments rule w) tt s,
-      count-start (segmentOf rule w) (segment-sound rule w) (λ g. length (asnsOf g)) 1 (light-numbers rule w pos) tt s)
+  path-start = (
+    count-start (segmentOf rule w) (segment-sound rule w) (λ _. 1) 1 (light-segments rule w) tt s,
+    count-start (segmentOf rule w) (segment-sound rule w) (λ g. length (asnsOf g)) 1 (light-numbers rule w pos) tt s,
+  )
 
   -- what a call on the part from `at` on says of the step there
   pub path-at : (at : ℕ) (r x : SegmentAnswer) → r ≡ countIn (segmentOf rule w tt (take (length s - at) (drop at s))) → r ≡ x → countIn (segmentOf rule w tt (drop at s)) ≡ x
@@ -79,9 +80,10 @@ module _ (rule : Rule) (w : ℕ) (s p₀ n₀ : List ℕ) where
   module _ (at pair to : ℕ) (pairs numbers : List ℕ) (h : FilledPath rule w s p₀ n₀ at pair to pairs numbers) where
     pub filling-done : length s ≤ at → (pairs ≡ laid p₀ 0 (flat pairOf (pathOf rule w s .rows))) × (numbers ≡ laid n₀ 0 (flat asnsOf (pathOf rule w s .rows)))
     unfolding pathOf
-    filling-done le =
-        (fill-done (segmentOf rule w) (segment-sound rule w) pairOf tt s p₀ tt at pair pairs (h .0) le,
-        fill-done (segmentOf rule w) (segment-sound rule w) asnsOf tt s n₀ tt at to numbers (h .1) le)
+    filling-done le = (
+      fill-done (segmentOf rule w) (segment-sound rule w) pairOf tt s p₀ tt at pair pairs (h .0) le,
+      fill-done (segmentOf rule w) (segment-sound rule w) asnsOf tt s n₀ tt at to numbers (h .1) le,
+    )
 
     module _ (lt : at < length s) where
       count-is : getD (drop at s) 1 0 ≡ getD s (at + 1) 0
@@ -118,7 +120,8 @@ module _ (rule : Rule) (w : ℕ) (s p₀ n₀ : List ℕ) where
       filling-next =
           let size : ℕ = 2 + span w (getD s (at + 1) 0) in
           let p = fill-step (segmentOf rule w) (segment-sound rule w) pairOf tt s p₀ tt at pair pairs (h .0) tt _ _ taken in
-          let n = fill-step (segmentOf rule w) (segment-sound rule w) asnsOf tt s n₀ tt at to numbers (h .1) tt _ _ taken in
-          (subst (λ (l : List ℕ). Filled (segmentOf rule w) (segment-sound rule w) pairOf tt s p₀ tt (at + size) (pair + 2) (laid pairs pair l)) pair-is p,
-          subst (λ (l : List ℕ). Filled (segmentOf rule w) (segment-sound rule w) asnsOf tt s n₀ tt (at + size) (to + getD s (at + 1) 0) (laid numbers to l)) asns-is
-          (subst (λ (k : ℕ). Filled (segmentOf rule w) (segment-sound rule w) asnsOf tt s n₀ tt (at + size) (to + k) (laid numbers to (asnsOf (segmentAt w (drop at s))))) asns-length n))
+          let n = fill-step (segmentOf rule w) (segment-sound rule w) asnsOf tt s n₀ tt at to numbers (h .1) tt _ _ taken in (
+            subst (λ (l : List ℕ). Filled (segmentOf rule w) (segment-sound rule w) pairOf tt s p₀ tt (at + size) (pair + 2) (laid pairs pair l)) pair-is p,
+            subst (λ (l : List ℕ). Filled (segmentOf rule w) (segment-sound rule w) asnsOf tt s n₀ tt (at + size) (to + getD s (at + 1) 0) (laid numbers to l)) asns-is
+                (subst (λ (k : ℕ). Filled (segmentOf rule w) (segment-sound rule w) asnsOf tt s n₀ tt (at + size) (to + k) (laid numbers to (asnsOf (segmentAt w (drop at s))))) asns-length n),
+          )

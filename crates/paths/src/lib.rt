@@ -183,7 +183,12 @@ fn fill(value: &[u8], width: AsnLength, pairs: &mut [u32], numbers: &mut [u32])
 }
 
 // A path into two lent stores: a pair of type and count for each segment, and the numbers back to back.
-pub fn parse_as_path(value: &[u8], width: AsnLength, pairs: &mut [u32], numbers: &mut [u32]) -> PathAnswer
+pub fn parse_as_path(
+    value: &[u8],
+    width: AsnLength,
+    pairs: &mut [u32],
+    numbers: &mut [u32],
+) -> PathAnswer
     ensures answer { λ r. ⌜ r ≡ readAnswer (now (value .entry)) (pathOf knownType (widthOf width) (now (value .entry))) (length (now (pairs .entry))) (length (now (numbers .entry))) ⌝ }
     ensures pairs { λ _. ⌜ now (pairs .exit) ≡ pairsAfter (now (value .entry)) (pathOf knownType (widthOf width) (now (value .entry))) (now (pairs .entry)) (length (now (numbers .entry))) ⌝ }
     ensures numbers { λ _. ⌜ now (numbers .exit) ≡ numbersAfter (now (value .entry)) (pathOf knownType (widthOf width) (now (value .entry))) (length (now (pairs .entry))) (now (numbers .entry)) ⌝ }
@@ -200,7 +205,10 @@ pub fn parse_as_path(value: &[u8], width: AsnLength, pairs: &mut [u32], numbers:
                 return PathAnswer::Refused(refusal::NO_ROOM);
             }
             fill(value, width, pairs, numbers);
-            PathAnswer::Path { segments, numbers: n }
+            PathAnswer::Path {
+                segments,
+                numbers: n,
+            }
         }
         PathAnswer::Refused(n) => PathAnswer::Refused(n),
     }

@@ -102,13 +102,25 @@ fn show_aggregator_back(asn: u32, identifier: u32, width: AsnLength, out: &mut [
 }
 
 fn main() {
-    show_path(b"\x02\x02\x00\x00\xFD\xE9\x00\x00\xFD\xEA", AsnLength::Bits32);
-    show_path(b"\x02\x02\x00\x00\xFD\xE9\x00\x00\xFD\xEA", AsnLength::Bits16);
+    show_path(
+        b"\x02\x02\x00\x00\xFD\xE9\x00\x00\xFD\xEA",
+        AsnLength::Bits32,
+    );
+    show_path(
+        b"\x02\x02\x00\x00\xFD\xE9\x00\x00\xFD\xEA",
+        AsnLength::Bits16,
+    );
     show_path(b"\x02\x00", AsnLength::Bits32);
     show_path(b"\x05\x01", AsnLength::Bits32);
     show_path(b"\x05\x00", AsnLength::Bits32);
-    show_count(b"\x02\x02\x00\x00\xFD\xE9\x00\x00\xFD\xEA", AsnLength::Bits32);
-    show_count(b"\x02\x02\x00\x00\xFD\xE9\x00\x00\xFD\xEA", AsnLength::Bits16);
+    show_count(
+        b"\x02\x02\x00\x00\xFD\xE9\x00\x00\xFD\xEA",
+        AsnLength::Bits32,
+    );
+    show_count(
+        b"\x02\x02\x00\x00\xFD\xE9\x00\x00\xFD\xEA",
+        AsnLength::Bits16,
+    );
     show_sequence(1, &[65536u32; 1], AsnLength::Bits16);
     show_sequence(255, &[65001u32; 255], AsnLength::Bits32);
     show_sequence(256, &[65001u32; 256], AsnLength::Bits32);

@@ -1,14 +1,12 @@
 use borrow.Author.Needs.{needs}
 use native.Mathlib.Omega.{arith}
-use Prim.Native.Nat.{ℕ, _+_, _-_, _≤_, _<_}
-use mathlib.Core.Path.{_≡_, refl, sym, ap, _∙_}
-use lib.ListN.{length, drop, getD}
+use Prim.Native.Nat.{_+_, _-_, _≤_}
+use mathlib.Core.Path.{_≡_, sym, _∙_}
+use lib.ListN.{length, drop}
 use Rattle.path_writer.specs.Write.{addsUp}
 use Rattle.path_writer.specs.WriteLaws.{adds-end, adds-short, adds-over, adds-on}
 use Rattle.path_writer.proofs.adds_up.Statement.{statement}
 use Rattle.path_writer.proofs.adds_up.Tie as tie
-use Rattle.path_writer.proofs.adds_up.Reads as reads
-use Rattle.path_writer.proofs.adds_up.Lts as lts
 
 abbrev Inv-loop : tie.InvT-loop
 Inv-loop pairs n at₀ left₀ at left =
@@ -17,56 +15,45 @@ Inv-loop pairs n at₀ left₀ at left =
 abbrev μ-loop : tie.MeasureT-loop
 μ-loop pairs n at₀ left₀ at left = length pairs - at
 
--- src/lib.rt:27:5
 loop-holds : tie.Need-loop-holds Inv-loop μ-loop
 loop-holds c = search needs
 
--- src/lib.rt:28:12
 sub-if1 : tie.Need-sub-if1 Inv-loop μ-loop
 sub-if1 c = search needs
 
--- src/lib.rt:29:13
 returns : tie.Need-returns Inv-loop μ-loop
 returns c = let l = c .before .before in sym (l .loop .inv .1 ∙ adds-short _ _ _ (c .before .loop-test .taken) (c .if1 .taken))
 
--- src/lib.rt:31:27
 add-count : tie.Need-add-count Inv-loop μ-loop
 add-count c = search needs
 
--- src/lib.rt:31:21
 mul-count : tie.Need-mul-count Inv-loop μ-loop
 mul-count c = search needs
 
--- src/lib.rt:31:21
 shared-slice-read-count : tie.Need-shared-slice-read-count Inv-loop μ-loop
 shared-slice-read-count c = search needs
 
--- src/lib.rt:31:21
 cast-count : tie.Need-cast-count Inv-loop μ-loop
 cast-count c = omega (arith, c .shared-slice-known .given (c .before .before .before .loop .at + 1))
 
--- src/lib.rt:33:13
 returns-2 : tie.Need-returns-2 Inv-loop μ-loop
 returns-2 c =
     let l = c .before .before .before .before in
     sym (l .loop .inv .1 ∙ adds-over (l .before .args .pairs .now) (l .loop .at) (l .loop .left) (omega (arith, c .before .before .if1 .left, l .loop .inv .0)) (c .if2 .taken))
 
--- src/lib.rt:36:14
 add-at : tie.Need-add-at Inv-loop μ-loop
 add-at c = search needs
 
--- src/lib.rt:27:5
 loop-less : tie.Need-loop-less Inv-loop μ-loop
 loop-less c = search needs
 
--- src/lib.rt:27:5
 loop-again : tie.Need-loop-again Inv-loop μ-loop
 loop-again c =
-    let l = c .before .before .before .before in
-    (omega (arith, c .before .before .if1 .left, l .loop .inv .0),
-    l .loop .inv .1 ∙ adds-on (l .before .args .pairs .now) (l .loop .at) (l .loop .left) (omega (arith, c .before .before .if1 .left, l .loop .inv .0)) (c .if2 .left))
+    let l = c .before .before .before .before in (
+      omega (arith, c .before .before .if1 .left, l .loop .inv .0),
+      l .loop .inv .1 ∙ adds-on (l .before .args .pairs .now) (l .loop .at) (l .loop .left) (omega (arith, c .before .before .if1 .left, l .loop .inv .0)) (c .if2 .left),
+    )
 
--- src/lib.rt:22:1
 returns-3 : tie.Need-returns-3 Inv-loop μ-loop
 returns-3 c = let l = c .before in sym (l .loop .inv .1 ∙ adds-end _ _ _ (c .loop-test .left))
 

@@ -3,7 +3,7 @@ use borrow.Author.Tests.{not-true, not-false}
 use native.Mathlib.Omega.{arith}
 use Prim.Native.Nat.{ℕ, _+_, _-_, _^_, _≤_, _<_}
 use mathlib.Core.Path.{_≡_, refl, sym, ap, _∙_}
-use mathlib.Core.List.{List, [], _∷_}
+use mathlib.Core.List.{List, _∷_}
 use mathlib.Core.Bool.{true, false}
 use lib.Dec.{ltb}
 use lib.ListN.{length, drop, take, getD}
@@ -12,9 +12,6 @@ use Rattle.path_writer.specs.Write.{allFit}
 use Rattle.path_writer.specs.WriteLaws.{take-next}
 use Rattle.path_writer.proofs.all_fit.Statement.{statement}
 use Rattle.path_writer.proofs.all_fit.Tie as tie
-use Rattle.path_writer.proofs.all_fit.Reads as reads
-use Rattle.path_writer.proofs.all_fit.Lts as lts
-use Rattle.paths.proofs.fits_width.Reads as fits-width-reads
 
 abbrev Inv-loop : tie.InvT-loop
 Inv-loop numbers from n width at₀ left₀ at left =
@@ -36,50 +33,41 @@ module _ (w : ℕ) (ns : List ℕ) (at left : ℕ) (pos : 0 < left) (h : at + le
   unfolding allFit
   fine e = ap (allFit w) next ∙ rw e refl
 
--- src/lib.rt:48:5
 loop-holds : tie.Need-loop-holds Inv-loop μ-loop
 loop-holds c = search needs
 
--- src/lib.rt:49:31
 mul-fits-width : tie.Need-mul-fits-width Inv-loop μ-loop
 mul-fits-width c = search needs
 
--- src/lib.rt:49:31
 shared-slice-read-fits-width : tie.Need-shared-slice-read-fits-width Inv-loop μ-loop
 shared-slice-read-fits-width c = search needs
 
--- src/lib.rt:49:13
 fits-width-requires : tie.Need-fits-width-requires Inv-loop μ-loop
 fits-width-requires c κs = search needs
 
--- src/lib.rt:50:13
 returns : tie.Need-returns Inv-loop μ-loop
 returns c =
     let l = c .before .before .before .before in
     let a = l .before .before .args in
     sym (l .loop .inv .1 ∙ wide (widthOf (a .width)) (a .numbers .now) (l .loop .at) (l .loop .left) (c .before .before .before .loop-test .taken) (l .loop .inv .0) (sym (c .before .fits-width .ensures) ∙ not-true _ (c .if1 .taken)))
 
--- src/lib.rt:52:14
 add-at : tie.Need-add-at Inv-loop μ-loop
 add-at c = search needs
 
--- src/lib.rt:53:16
 sub-left : tie.Need-sub-left Inv-loop μ-loop
 sub-left c = search needs
 
--- src/lib.rt:48:5
 loop-less : tie.Need-loop-less Inv-loop μ-loop
 loop-less c = search needs
 
--- src/lib.rt:48:5
 loop-again : tie.Need-loop-again Inv-loop μ-loop
 loop-again c =
     let l = c .before .before .before .before in
-    let a = l .before .before .args in
-    (omega (arith, l .loop .inv .0, c .before .before .before .loop-test .taken),
-    l .loop .inv .1 ∙ fine (widthOf (a .width)) (a .numbers .now) (l .loop .at) (l .loop .left) (c .before .before .before .loop-test .taken) (l .loop .inv .0) (sym (c .before .fits-width .ensures) ∙ not-false _ (c .if1 .left)))
+    let a = l .before .before .args in (
+      omega (arith, l .loop .inv .0, c .before .before .before .loop-test .taken),
+      l .loop .inv .1 ∙ fine (widthOf (a .width)) (a .numbers .now) (l .loop .at) (l .loop .left) (c .before .before .before .loop-test .taken) (l .loop .inv .0) (sym (c .before .fits-width .ensures) ∙ not-false _ (c .if1 .left)),
+    )
 
--- src/lib.rt:42:1
 returns-2 : tie.Need-returns-2 Inv-loop μ-loop
 unfolding allFit
 returns-2 c =

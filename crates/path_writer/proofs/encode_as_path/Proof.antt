@@ -1,10 +1,10 @@
 use borrow.Author.Tests.{not-true, not-false}
 use native.Mathlib.Omega.{arith}
-use Prim.Native.Nat.{ℕ, _+_, _≤_}
+use Prim.Native.Nat.{ℕ, _+_}
 use mathlib.Core.Path.{_≡_, sym, ap, _∙_}
 use mathlib.Core.Bool.{true}
 use lib.ListN.{length}
-use Rattle.paths.specs.Segment.{widthOf, span, knownType}
+use Rattle.paths.specs.Segment.{widthOf, knownType}
 use Rattle.paths.specs.SegmentLaws.{span-many, span-most, width-pos}
 use Rattle.paths.specs.declared.WriteAnswer.the-variants.{Written}
 use Rattle.path_writer.specs.Write.{addsUp, lentPath}
@@ -12,18 +12,10 @@ use Rattle.path_writer.specs.PromiseLaws.{leave, not-whole, bad-segment,
 use borrow.Author.Needs.{needs}
 use Rattle.path_writer.proofs.encode_as_path.Statement.{statement}
 use Rattle.path_writer.proofs.encode_as_path.Tie as tie
-use Rattle.path_writer.proofs.encode_as_path.Reads as reads
-use Rattle.path_writer.proofs.encode_as_path.Lts as lts
-use Rattle.path_writer.proofs.adds_up.Reads as adds-up-reads
-use Rattle.path_writer.proofs.path_fault.Reads as path-fault-reads
-use Rattle.path_writer.proofs.write_segments.Reads as write-segments-reads
-use Rattle.paths.proofs.numbers_size.Reads as numbers-size-reads
 
--- src/lib.rt:149:9
 adds-up-requires : tie.Need-adds-up-requires
 adds-up-requires c κs = search needs
 
--- src/lib.rt:150:9
 returns : tie.Need-returns
 returns c = let a = c .before .before .before .before .before .args in leave knownType (widthOf (a .width)) (a .pairs .now) (a .numbers .now) (a .out .now) _ (not-whole knownType (widthOf (a .width)) (a .pairs .now) (a .numbers .now) (length (a .out .now)) (sym (c .before .adds-up .ensures) ∙ not-true _ (c .if1 .taken)))
 
@@ -34,55 +26,45 @@ whole k = sym (k .before .adds-up .ensures) ∙ not-false _ (k .if1 .left)
 good : (k : tie.Else2) → let a = k .before .before .before .before .before .before .before .args in 0 ≡ lentPath knownType (widthOf (a .width)) (a .pairs .now) (a .numbers .now) .verdict
 good k = sym (k .if2 .left) ∙ k .before .path-fault .ensures
 
--- src/lib.rt:152:9
 path-fault-requires : tie.Need-path-fault-requires
 path-fault-requires c κs = whole c
 
--- src/lib.rt:154:9
 returns-2 : tie.Need-returns-2
 returns-2 c =
     let a = c .before .before .before .before .before .before .before .args in
     leave knownType (widthOf (a .width)) (a .pairs .now) (a .numbers .now) (a .out .now) _ (bad-segment knownType (widthOf (a .width)) (a .pairs .now) (a .numbers .now) (length (a .out .now)) (whole (c .before .before)) _ (c .before .path-fault .ensures) (omega (arith, c .if2 .taken)))
 
--- src/lib.rt:157:9
 returns-3 : tie.Need-returns-3
 returns-3 c =
     let a = c .before .before .before .before .before .before .before .before .args in
     leave knownType (widthOf (a .width)) (a .pairs .now) (a .numbers .now) (a .out .now) _ (too-long knownType (widthOf (a .width)) (a .pairs .now) (a .numbers .now) (length (a .out .now)) (whole (c .before .before .before)) (good (c .before)) (omega (arith, c .if3 .taken)))
 
--- src/lib.rt:160:9
 returns-4 : tie.Need-returns-4
 returns-4 c =
     let a = c .before .before .before .before .before .before .before .before .before .args in
     leave knownType (widthOf (a .width)) (a .pairs .now) (a .numbers .now) (a .out .now) _
     (too-long knownType (widthOf (a .width)) (a .pairs .now) (a .numbers .now) (length (a .out .now)) (whole (c .before .before .before .before)) (good (c .before .before)) (omega (arith, c .if4 .taken, span-many (widthOf (a .width)) (length (a .numbers .now)) (width-pos (a .width)))))
 
--- src/lib.rt:162:50
 cast-numbers-size : tie.Need-cast-numbers-size
 cast-numbers-size c = search needs
 
--- src/lib.rt:162:30
 numbers-size-requires : tie.Need-numbers-size-requires
 numbers-size-requires c κs = search needs
 
--- src/lib.rt:162:16
 add-size : tie.Need-add-size
 add-size c = let a = c .before .before .before .before .before .before .before .before .before .before .args in omega (arith, c .numbers-size .ensures, span-most (a .width) (length (a .numbers .now)))
 
--- src/lib.rt:164:9
 returns-5 : tie.Need-returns-5
 returns-5 c =
     let a = c .before .before .before .before .before .before .before .before .before .before .before .args in
     leave knownType (widthOf (a .width)) (a .pairs .now) (a .numbers .now) (a .out .now) _ (too-long knownType (widthOf (a .width)) (a .pairs .now) (a .numbers .now) (length (a .out .now)) (whole (c .before .before .before .before .before .before)) (good (c .before .before .before .before)) (omega (arith, c .if5 .taken, c .before .numbers-size .ensures)))
 
--- src/lib.rt:167:9
 returns-6 : tie.Need-returns-6
 returns-6 c =
     let a = c .before .before .before .before .before .before .before .before .before .before .before .before .args in
     leave knownType (widthOf (a .width)) (a .pairs .now) (a .numbers .now) (a .out .now) _
     (no-place knownType (widthOf (a .width)) (a .pairs .now) (a .numbers .now) (length (a .out .now)) (whole (c .before .before .before .before .before .before .before)) (good (c .before .before .before .before .before)) (omega (arith, c .before .if5 .left, c .before .before .numbers-size .ensures)) (omega (arith, c .if6 .taken, c .before .before .numbers-size .ensures)))
 
--- src/lib.rt:169:5
 write-segments-requires : tie.Need-write-segments-requires
 write-segments-requires c κs =
     let a = c .before .before .before .before .before .before .before .before .before .before .before .before .before .args in
@@ -90,11 +72,9 @@ write-segments-requires c κs =
     let g = good (c .before .before .before .before .before .before) in
     (w, (sym g, omega (arith, size-is knownType (widthOf (a .width)) (a .pairs .now) (a .numbers .now) (length (a .out .now)) w g, c .before .if6 .left, c .before .before .before .numbers-size .ensures)))
 
--- src/lib.rt:145:1
 same-length : tie.Need-same-length
 same-length c = search needs
 
--- src/lib.rt:145:1
 returns-7 : tie.Need-returns-7
 returns-7 c =
     let a = c .before .before .before .before .before .before .before .before .before .before .before .before .before .before .before .before .args in

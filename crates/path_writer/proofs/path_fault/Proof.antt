@@ -1,15 +1,11 @@
-use borrow.Author.Needs.{needs}
 use native.Mathlib.Omega.{arith}
-use Prim.Native.Nat.{ℕ, _+_, _-_, _≤_, _<_}
-use mathlib.Core.Path.{_≡_, refl, sym, ap, _∙_}
-use lib.ListN.{length, drop, getD}
+use Prim.Native.Nat.{_+_, _-_, _≤_}
+use mathlib.Core.Path.{sym, _∙_}
+use lib.ListN.{length, getD}
 use Rattle.paths.specs.Segment.{widthOf, knownType}
 use Rattle.path_writer.specs.WriteTurn.{Judged, judged-start, judged-fits, judged-next, judged-stop, judged-done}
 use Rattle.path_writer.proofs.path_fault.Statement.{statement}
 use Rattle.path_writer.proofs.path_fault.Tie as tie
-use Rattle.path_writer.proofs.path_fault.Reads as reads
-use Rattle.path_writer.proofs.path_fault.Lts as lts
-use Rattle.path_writer.proofs.segment_fault.Reads as segment-fault-reads
 
 abbrev Inv-loop : tie.InvT-loop
 Inv-loop pairs numbers width at₀ from₀ at from = Judged knownType (widthOf width) pairs numbers at from
@@ -17,7 +13,6 @@ Inv-loop pairs numbers width at₀ from₀ at from = Judged knownType (widthOf w
 abbrev μ-loop : tie.MeasureT-loop
 μ-loop pairs numbers width at₀ from₀ at from = length pairs - at
 
--- src/lib.rt:83:5
 loop-holds : tie.Need-loop-holds Inv-loop μ-loop
 loop-holds c = let a = c .before .before .args in judged-start knownType (widthOf (a .width)) (a .pairs .now) (a .numbers .now) (c .before .before .pre)
 
@@ -31,61 +26,48 @@ fits k =
     let a = l .before .before .before .args in
     judged-fits knownType (widthOf (a .width)) (a .pairs .now) (a .numbers .now) (l .loop .at) (l .loop .from) (l .loop .inv) (k .loop-test .taken)
 
--- src/lib.rt:84:27
 add-count : tie.Need-add-count Inv-loop μ-loop
 add-count c = omega (arith, fits c)
 
--- src/lib.rt:84:21
 mul-count : tie.Need-mul-count Inv-loop μ-loop
 mul-count c = omega (arith, fits c)
 
--- src/lib.rt:84:21
 shared-slice-read-count : tie.Need-shared-slice-read-count Inv-loop μ-loop
 shared-slice-read-count c = omega (arith, fits (c .before))
 
--- src/lib.rt:85:35
 mul-segment-fault : tie.Need-mul-segment-fault Inv-loop μ-loop
 mul-segment-fault c = omega (arith, fits (c .before))
 
--- src/lib.rt:85:35
 shared-slice-read-segment-fault : tie.Need-shared-slice-read-segment-fault Inv-loop μ-loop
 shared-slice-read-segment-fault c = omega (arith, fits (c .before .before))
 
--- src/lib.rt:85:13
 segment-fault-requires : tie.Need-segment-fault-requires Inv-loop μ-loop
 segment-fault-requires c κs = fits (c .before .before) .1
 
--- src/lib.rt:87:13
 returns : tie.Need-returns Inv-loop μ-loop
 returns c =
     let l = c .before .before .before .before .before in
     let a = l .before .before .before .args in
     judged-stop knownType (widthOf (a .width)) (a .pairs .now) (a .numbers .now) (l .loop .at) (l .loop .from) (l .loop .inv) (c .before .before .before .before .loop-test .taken) _ (c .before .segment-fault .ensures) (omega (arith, c .if1 .taken))
 
--- src/lib.rt:89:23
 cast-from : tie.Need-cast-from Inv-loop μ-loop
 cast-from c = omega (arith, fits (c .before .before .before .before))
 
--- src/lib.rt:89:16
 add-from : tie.Need-add-from Inv-loop μ-loop
 add-from c = omega (arith, fits (c .before .before .before .before))
 
--- src/lib.rt:90:14
 add-at : tie.Need-add-at Inv-loop μ-loop
 add-at c = omega (arith, fits (c .before .before .before .before))
 
--- src/lib.rt:83:5
 loop-less : tie.Need-loop-less Inv-loop μ-loop
 loop-less c = omega (arith, fits (c .before .before .before .before))
 
--- src/lib.rt:83:5
 loop-again : tie.Need-loop-again Inv-loop μ-loop
 loop-again c =
     let l = c .before .before .before .before .before in
     let a = l .before .before .before .args in
     judged-next knownType (widthOf (a .width)) (a .pairs .now) (a .numbers .now) (l .loop .at) (l .loop .from) (l .loop .inv) (c .before .before .before .before .loop-test .taken) (sym (c .if1 .left) ∙ c .before .segment-fault .ensures)
 
--- src/lib.rt:77:1
 returns-2 : tie.Need-returns-2 Inv-loop μ-loop
 returns-2 c =
     let l = c .before in

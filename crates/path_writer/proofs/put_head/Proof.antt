@@ -5,34 +5,25 @@ use Rattle.wire.specs.Store.{puts-laid}
 use borrow.Author.Needs.{needs}
 use Rattle.path_writer.proofs.put_head.Statement.{statement}
 use Rattle.path_writer.proofs.put_head.Tie as tie
-use Rattle.path_writer.proofs.put_head.Reads as reads
-use Rattle.path_writer.proofs.put_head.Lts as lts
 
--- src/lib.rt:101:15
 cast-out : tie.Need-cast-out
 cast-out c = search needs
 
--- src/lib.rt:101:5
 slice-write-out : tie.Need-slice-write-out
 slice-write-out c = search needs
 
--- src/lib.rt:102:19
 cast-out-2 : tie.Need-cast-out-2
 cast-out-2 c = search needs
 
--- src/lib.rt:102:9
 add-out : tie.Need-add-out
 add-out c = search needs
 
--- src/lib.rt:102:5
 slice-write-out-2 : tie.Need-slice-write-out-2
 slice-write-out-2 c = simp length-set (omega arith)
 
--- src/lib.rt:96:1
 same-length : tie.Need-same-length
 same-length c = search needs
 
--- src/lib.rt:96:1
 returns : tie.Need-returns
 returns c = let a = c .args in puts-laid (a .out .now) (a .to) (a .kind ∷ a .count ∷ []) (omega (arith, c .pre .0))
 

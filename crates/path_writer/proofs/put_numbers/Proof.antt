@@ -3,9 +3,9 @@ use Rattle.paths.specs.AggregatorLaws.{put-room}
 use borrow.Author.Needs.{needs}
 use native.Mathlib.Omega.{arith}
 use Prim.Native.Nat.{ℕ, _+_, _-_, _≤_, _<_, _^_}
-use mathlib.Core.Path.{_≡_, refl, sym, ap, ap₂, subst, _∙_}
-use mathlib.Core.List.{List, [], _∷_, _++_}
-use mathlib.Core.Bool.{true, false}
+use mathlib.Core.Path.{_≡_, sym, ap, subst, _∙_}
+use mathlib.Core.List.{List, _++_}
+use mathlib.Core.Bool.{true}
 use lib.ListN.{length, drop, take, getD, length-append}
 use Rattle.wire.specs.NumberLaws.{length-toBe}
 use Rattle.wire.specs.Number.{toBe}
@@ -13,13 +13,9 @@ use Rattle.wire.specs.Store.{laid, Laying, laying-start, laying-long, laying-ro
 use Rattle.wire.specs.Walk.{flat}
 use Rattle.paths.specs.Segment.{widthOf}
 use Rattle.path_writer.specs.Write.{allFit}
-use Rattle.path_writer.specs.WriteLaws.{take-next, fit-here, bytes-length}
+use Rattle.path_writer.specs.WriteLaws.{take-next, fit-here}
 use Rattle.path_writer.proofs.put_numbers.Statement.{statement}
 use Rattle.path_writer.proofs.put_numbers.Tie as tie
-use Rattle.path_writer.proofs.put_numbers.Reads as reads
-use Rattle.path_writer.proofs.put_numbers.Lts as lts
-use Rattle.paths.proofs.asn_bytes.Reads as asn-bytes-reads
-use Rattle.paths.proofs.put_number.Reads as put-number-reads
 
 abbrev Inv-loop : tie.InvT-loop
 Inv-loop numbers from n width out₀ start w at₀ to₀ left₀ out at to left =
@@ -45,8 +41,14 @@ module _ (ns : List ℕ) (from w n : ℕ) (d₀ : List ℕ) (start : ℕ) (fits 
 
       here : (to + w ≤ length d) × (to + w ≤ length d₀)
       here =
-          omega (arith, long, laying-room d₀ start (flat (toBe w) (take n (drop from ns))) fits d to (flat (toBe w) (take left (drop at ns))) h, ap length next,
-          length-append (toBe w (getD ns at 0)) (flat (toBe w) (take (left - 1) (drop (at + 1) ns))), length-toBe w (getD ns at 0))
+          omega (
+            arith,
+            long,
+            laying-room d₀ start (flat (toBe w) (take n (drop from ns))) fits d to (flat (toBe w) (take left (drop at ns))) h,
+            ap length next,
+            length-append (toBe w (getD ns at 0)) (flat (toBe w) (take (left - 1) (drop (at + 1) ns))),
+            length-toBe w (getD ns at 0),
+          )
 
       turn : Laying d₀ start (flat (toBe w) (take n (drop from ns))) (laid d to (toBe w (getD ns at 0))) (to + w) (flat (toBe w) (take (left - 1) (drop (at + 1) ns)))
       turn =
@@ -56,49 +58,39 @@ module _ (ns : List ℕ) (from w n : ℕ) (d₀ : List ℕ) (start : ℕ) (fits 
       fit : allFit w (take left (drop at ns)) ≡ true → (getD ns at 0 < 256 ^ w) × (allFit w (take (left - 1) (drop (at + 1) ns)) ≡ true)
       fit e = fit-here w (getD ns at 0) (take (left - 1) (drop (at + 1) ns)) (sym (ap (allFit w) (take-next ns at left pos (omega arith))) ∙ e)
 
--- src/lib.rt:112:9
 asn-bytes-requires : tie.Need-asn-bytes-requires Inv-loop μ-loop
 asn-bytes-requires c κs = search needs
 
--- src/lib.rt:116:5
 loop-holds : tie.Need-loop-holds Inv-loop μ-loop
 loop-holds c =
     let a = c .before .before .before .args in
     let p = c .before .before .before .pre in
     (c .asn-bytes .ensures, p .0, p .1 .0, laying-start (a .out .now) (a .start) _ (p .1 .1))
 
--- src/lib.rt:117:36
 mul-put-number : tie.Need-mul-put-number Inv-loop μ-loop
 mul-put-number c = search needs
 
--- src/lib.rt:117:36
 shared-slice-read-put-number : tie.Need-shared-slice-read-put-number Inv-loop μ-loop
 shared-slice-read-put-number c = search needs
 
--- src/lib.rt:117:9
 put-number-requires : tie.Need-put-number-requires Inv-loop μ-loop
 put-number-requires c κs = search needs
 
--- src/lib.rt:118:14
 add-at : tie.Need-add-at Inv-loop μ-loop
 add-at c = search needs
 
--- src/lib.rt:119:14
 add-to : tie.Need-add-to Inv-loop μ-loop
 add-to c =
     let l = c .before .before .before .before .before .before in
     let a = l .before .before .before .before .args in
     omega (arith, l .loop .inv .0, here (a .numbers .now) (a .from) (widthOf (a .width)) (a .n) (a .out .now) (a .start) (l .before .before .before .before .pre .1 .1) (l .loop .at) (l .loop .to) (l .loop .left) (l .loop .out) (l .loop .inv .3) (c .before .before .before .before .before .loop-test .taken) (l .loop .inv .1))
 
--- src/lib.rt:120:16
 sub-left : tie.Need-sub-left Inv-loop μ-loop
 sub-left c = search needs
 
--- src/lib.rt:116:5
 loop-less : tie.Need-loop-less Inv-loop μ-loop
 loop-less c = search needs
 
--- src/lib.rt:116:5
 loop-again : tie.Need-loop-again Inv-loop μ-loop
 loop-again c =
     let l = c .before .before .before .before .before .before in
@@ -110,14 +102,12 @@ loop-again c =
     c .before .before .put-number .ensures ∙ put-room (l .loop .out) (l .loop .to) _ (a .width) (lt-ltb _ _ (f .0)) (room .0) in
     (l .loop .inv .0, omega (arith, l .loop .inv .1), f .1, rw (put, l .loop .inv .0) (turn (a .numbers .now) (a .from) (widthOf (a .width)) (a .n) (a .out .now) (a .start) (l .before .before .before .before .pre .1 .1) (l .loop .at) (l .loop .to) (l .loop .left) (l .loop .out) (l .loop .inv .3) pos (l .loop .inv .1)))
 
--- src/lib.rt:106:1
 same-length : tie.Need-same-length Inv-loop μ-loop
 same-length c =
     let l = c .before in
     let a = l .before .before .before .before .args in
     long (a .numbers .now) (a .from) (widthOf (a .width)) (a .n) (a .out .now) (a .start) (l .before .before .before .before .pre .1 .1) (l .loop .at) (l .loop .to) (l .loop .left) (l .loop .out) (l .loop .inv .3)
 
--- src/lib.rt:106:1
 returns : tie.Need-returns Inv-loop μ-loop
 returns c =
     let l = c .before in

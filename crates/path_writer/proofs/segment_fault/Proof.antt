@@ -1,39 +1,29 @@
 use borrow.Author.Tests.{not-true, not-false}
 use native.Mathlib.Omega.{arith}
-use mathlib.Core.Path.{_≡_, sym, _∙_}
+use mathlib.Core.Path.{sym, _∙_}
 use Rattle.paths.specs.Segment.{widthOf, knownType}
 use Rattle.path_writer.specs.WriteLaws.{fault-rule, fault-long, fault-wide, none-fault}
 use borrow.Author.Needs.{needs}
 use Rattle.path_writer.proofs.segment_fault.Statement.{statement}
 use Rattle.path_writer.proofs.segment_fault.Tie as tie
-use Rattle.path_writer.proofs.segment_fault.Reads as reads
-use Rattle.path_writer.proofs.segment_fault.Lts as lts
-use Rattle.path_writer.proofs.all_fit.Reads as all-fit-reads
-use Rattle.paths.proofs.type_fault.Reads as type-fault-reads
 
--- src/lib.rt:63:9
 type-fault-requires : tie.Need-type-fault-requires
 type-fault-requires c κs = search needs
 
--- src/lib.rt:65:9
 returns : tie.Need-returns
 returns c = let a = c .before .before .before .args in fault-rule knownType (widthOf (a .width)) (a .kind) (a .count) _ _ (c .before .type-fault .ensures) (omega (arith, c .if1 .taken))
 
--- src/lib.rt:68:9
 returns-2 : tie.Need-returns-2
 returns-2 c = let a = c .before .before .before .before .args in fault-long knownType (widthOf (a .width)) (a .kind) (a .count) _ (sym (c .before .if1 .left) ∙ c .before .before .type-fault .ensures) (c .if2 .taken)
 
--- src/lib.rt:70:9
 all-fit-requires : tie.Need-all-fit-requires
 all-fit-requires c κs = search needs
 
--- src/lib.rt:71:9
 returns-3 : tie.Need-returns-3
 returns-3 c =
     let a = c .before .before .before .before .before .before .args in
     fault-wide knownType (widthOf (a .width)) (a .kind) (a .count) _ (sym (c .before .before .before .if1 .left) ∙ c .before .before .before .before .type-fault .ensures) (c .before .before .if2 .left) (sym (c .before .all-fit .ensures) ∙ not-true _ (c .if3 .taken))
 
--- src/lib.rt:59:1
 returns-4 : tie.Need-returns-4
 returns-4 c =
     let a = c .before .before .before .before .before .before .args in

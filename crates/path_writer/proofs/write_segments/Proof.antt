@@ -2,22 +2,15 @@ use Rattle.paths.specs.SegmentLaws.{type-known}
 use borrow.Author.Needs.{needs}
 use native.Mathlib.Omega.{arith}
 use Prim.Native.Nat.{ℕ, _+_, _-_, _≤_, _<_}
-use mathlib.Core.Path.{_≡_, refl, sym, ap, ap₂, _∙_}
+use mathlib.Core.Path.{_≡_, ap, _∙_}
 use mathlib.Core.List.{List, [], _∷_}
-use lib.ListN.{length, drop, take, getD}
-use Rattle.wire.specs.Number.{toBe}
-use Rattle.wire.specs.Store.{laid, length-laid}
-use Rattle.wire.specs.Walk.{flat}
-use Rattle.paths.specs.Segment.{widthOf, span, knownType, typeFault}
+use lib.ListN.{length, getD}
+use Rattle.wire.specs.Store.{length-laid}
+use Rattle.paths.specs.Segment.{widthOf, span, knownType}
 use Rattle.path_writer.specs.Promises.{bytesOf}
 use Rattle.path_writer.specs.WriteTurn.{Writing, writing-start, writing-inside, writing-fine, writing-fits, body-length, writing-next, writing-done}
 use Rattle.path_writer.proofs.write_segments.Statement.{statement}
 use Rattle.path_writer.proofs.write_segments.Tie as tie
-use Rattle.path_writer.proofs.write_segments.Reads as reads
-use Rattle.path_writer.proofs.write_segments.Lts as lts
-use Rattle.path_writer.proofs.put_head.Reads as put-head-reads
-use Rattle.path_writer.proofs.put_numbers.Reads as put-numbers-reads
-use Rattle.paths.proofs.numbers_size.Reads as numbers-size-reads
 
 abbrev Inv-loop : tie.InvT-loop
 Inv-loop pairs numbers width out₀ at₀ from₀ to₀ out at from to = Writing knownType (widthOf width) pairs numbers out₀ at from to out
@@ -25,7 +18,6 @@ Inv-loop pairs numbers width out₀ at₀ from₀ to₀ out at from to = Writing
 abbrev μ-loop : tie.MeasureT-loop
 μ-loop pairs numbers width out₀ at₀ from₀ to₀ out at from to = length pairs - at
 
--- src/lib.rt:134:5
 loop-holds : tie.Need-loop-holds Inv-loop μ-loop
 unfolding bytesOf
 loop-holds c =
@@ -52,41 +44,32 @@ fits k =
     let t = type-known (getD (a .pairs .now) (l .loop .at) 0) (g .0) in
     (f .0, writing-inside knownType (widthOf (a .width)) (a .pairs .now) (a .numbers .now) (a .out .now) (l .loop .at) (l .loop .from) (l .loop .to) (l .loop .out) (l .loop .inv) (k .loop-test .taken), f .1, l .loop .inv .1 .long, omega (arith, t), omega (arith, g .1))
 
--- src/lib.rt:135:27
 add-count : tie.Need-add-count Inv-loop μ-loop
 add-count c = omega (arith, fits c)
 
--- src/lib.rt:135:21
 mul-count : tie.Need-mul-count Inv-loop μ-loop
 mul-count c = omega (arith, fits c)
 
--- src/lib.rt:135:21
 shared-slice-read-count : tie.Need-shared-slice-read-count Inv-loop μ-loop
 shared-slice-read-count c = omega (arith, fits (c .before))
 
--- src/lib.rt:136:27
 mul-put-head : tie.Need-mul-put-head Inv-loop μ-loop
 mul-put-head c = omega (arith, fits (c .before .before))
 
--- src/lib.rt:136:27
 shared-slice-read-put-head : tie.Need-shared-slice-read-put-head Inv-loop μ-loop
 shared-slice-read-put-head c = omega (arith, fits (c .before .before .before))
 
--- src/lib.rt:136:9
 put-head-requires : tie.Need-put-head-requires Inv-loop μ-loop
 put-head-requires c κs =
     let f = fits (c .before .before .before) in
     (omega (arith, f), (f .4, f .5))
 
--- src/lib.rt:137:36
 cast-put-numbers : tie.Need-cast-put-numbers Inv-loop μ-loop
 cast-put-numbers c = omega (arith, fits (c .before .before .before .before .before .before))
 
--- src/lib.rt:137:64
 add-put-numbers : tie.Need-add-put-numbers Inv-loop μ-loop
 add-put-numbers c = omega (arith, fits (c .before .before .before .before .before .before .before))
 
--- src/lib.rt:137:9
 put-numbers-requires : tie.Need-put-numbers-requires Inv-loop μ-loop
 put-numbers-requires c κs =
     let k = c .before .before .before .before .before .before .before in
@@ -97,39 +80,30 @@ put-numbers-requires c κs =
     let len : length (c .before .before .before .put-head .last .0) ≡ length (l .loop .out) = ap length (c .before .before .before .put-head .ensures) ∙ length-laid (l .loop .out) (l .loop .to) head (omega (arith, f)) in
     (f .1, (writing-fine knownType (widthOf (a .width)) (a .pairs .now) (a .numbers .now) (a .out .now) (l .loop .at) (l .loop .from) (l .loop .to) (l .loop .out) (l .loop .inv) (k .loop-test .taken) .2, omega (arith, len, f, body-length knownType (widthOf (a .width)) (a .pairs .now) (a .numbers .now) (a .out .now) (l .loop .at) (l .loop .from) (l .loop .to) (l .loop .out) (l .loop .inv) (k .loop-test .taken))))
 
--- src/lib.rt:138:44
 cast-numbers-size : tie.Need-cast-numbers-size Inv-loop μ-loop
 cast-numbers-size c = omega (arith, fits (c .before .before .before .before .before .before .before .before .before .before))
 
--- src/lib.rt:138:24
 numbers-size-requires : tie.Need-numbers-size-requires Inv-loop μ-loop
 numbers-size-requires c κs = search needs
 
--- src/lib.rt:138:20
 add-to : tie.Need-add-to Inv-loop μ-loop
 add-to c = omega (arith, fits (c .before .before .before .before .before .before .before .before .before .before .before), c .numbers-size .ensures)
 
--- src/lib.rt:138:14
 add-to-2 : tie.Need-add-to-2 Inv-loop μ-loop
 add-to-2 c = omega (arith, fits (c .before .before .before .before .before .before .before .before .before .before .before), c .numbers-size .ensures)
 
--- src/lib.rt:139:23
 cast-from : tie.Need-cast-from Inv-loop μ-loop
 cast-from c = omega (arith, fits (c .before .before .before .before .before .before .before .before .before .before .before))
 
--- src/lib.rt:139:16
 add-from : tie.Need-add-from Inv-loop μ-loop
 add-from c = omega (arith, fits (c .before .before .before .before .before .before .before .before .before .before .before))
 
--- src/lib.rt:140:14
 add-at : tie.Need-add-at Inv-loop μ-loop
 add-at c = omega (arith, fits (c .before .before .before .before .before .before .before .before .before .before .before))
 
--- src/lib.rt:134:5
 loop-less : tie.Need-loop-less Inv-loop μ-loop
 loop-less c = omega (arith, fits (c .before .before .before .before .before .before .before .before .before .before .before))
 
--- src/lib.rt:134:5
 loop-again : tie.Need-loop-again Inv-loop μ-loop
 loop-again c =
     let k = c .before .before .before .before .before .before .before .before .before .before .before in
@@ -137,11 +111,9 @@ loop-again c =
     let a = l .before .before .before .before .args in
     rw (c .before .before .before .put-numbers .ensures, c .before .before .before .before .before .before .before .put-head .ensures, c .numbers-size .ensures) (writing-next knownType (widthOf (a .width)) (a .pairs .now) (a .numbers .now) (a .out .now) (l .loop .at) (l .loop .from) (l .loop .to) (l .loop .out) (l .loop .inv) (k .loop-test .taken))
 
--- src/lib.rt:125:1
 same-length : tie.Need-same-length Inv-loop μ-loop
 same-length c = c .before .loop .inv .1 .long
 
--- src/lib.rt:125:1
 returns : tie.Need-returns Inv-loop μ-loop
 unfolding bytesOf
 returns c =

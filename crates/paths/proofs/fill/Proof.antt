@@ -1,21 +1,14 @@
 use borrow.Author.Needs.{needs}
 use native.Mathlib.Omega.{arith}
-use Prim.Native.Nat.{ℕ, _+_, _-_, _≤_, _<_}
-use mathlib.Core.Path.{_≡_, sym, ap, ap₂, _∙_}
+use Prim.Native.Nat.{ℕ, _+_, _-_, _≤_}
+use mathlib.Core.Path.{_≡_, ap₂, _∙_}
 use mathlib.Core.List.{List, [], _∷_}
-use lib.ListN.{length, drop, getD}
+use lib.ListN.{length, getD}
 use Rattle.wire.specs.Store.{laid}
-use Rattle.paths.specs.Segment.{widthOf, span, numbersOf, knownType}
-use Rattle.paths.specs.SegmentLaws.{span-most}
+use Rattle.paths.specs.Segment.{widthOf, span, knownType}
 use Rattle.paths.specs.PathTurn.{FilledPath, filling-start, filling-fits, filling-next, filling-done}
 use Rattle.paths.proofs.fill.Statement.{statement}
 use Rattle.paths.proofs.fill.Tie as tie
-use Rattle.paths.proofs.fill.Reads as reads
-use Rattle.paths.proofs.fill.Lts as lts
-use Rattle.paths.proofs.numbers_size.Reads as numbers-size-reads
-use Rattle.paths.proofs.put_numbers.Reads as put-numbers-reads
-use Rattle.paths.proofs.put_pair.Reads as put-pair-reads
-use Rattle.wire.proofs.wide.Reads as wide-reads
 
 abbrev Inv-loop : tie.InvT-loop
 Inv-loop value width pairs₀ numbers₀ at₀ pair₀ to₀ pairs numbers at pair to = FilledPath knownType (widthOf width) value pairs₀ numbers₀ at pair to pairs numbers
@@ -23,7 +16,6 @@ Inv-loop value width pairs₀ numbers₀ at₀ pair₀ to₀ pairs numbers at pa
 abbrev μ-loop : tie.MeasureT-loop
 μ-loop value width pairs₀ numbers₀ at₀ pair₀ to₀ pairs numbers at pair to = length value - at
 
--- src/lib.rt:174:5
 loop-holds : tie.Need-loop-holds Inv-loop μ-loop
 loop-holds c =
     let a = c .before .before .before .args in
@@ -46,77 +38,59 @@ fits k =
     let f = filling-fits knownType (widthOf (a .width)) (a .value .now) (a .pairs .now) (a .numbers .now) (l .loop .at) (l .loop .pair) (l .loop .to) (l .loop .pairs) (l .loop .numbers) (l .loop .inv) (k .loop-test .taken) in
     (f .0, f .1, f .2, l .loop .inv .0 .long, l .loop .inv .1 .long)
 
--- src/lib.rt:175:27
 add-count : tie.Need-add-count Inv-loop μ-loop
 add-count c = omega (arith, fits c)
 
--- src/lib.rt:175:21
 shared-slice-read-count : tie.Need-shared-slice-read-count Inv-loop μ-loop
 shared-slice-read-count c = omega (arith, fits (c .before))
 
--- src/lib.rt:176:42
 shared-slice-read-wide : tie.Need-shared-slice-read-wide Inv-loop μ-loop
 shared-slice-read-wide c = search needs
 
--- src/lib.rt:176:31
 wide-requires : tie.Need-wide-requires Inv-loop μ-loop
 wide-requires c κs = search needs
 
--- src/lib.rt:176:54
 wide-requires-2 : tie.Need-wide-requires-2 Inv-loop μ-loop
 wide-requires-2 c κs = search needs
 
--- src/lib.rt:176:9
 put-pair-requires : tie.Need-put-pair-requires Inv-loop μ-loop
 put-pair-requires c κs = fits (c .before .before .before .before .before) .1
 
--- src/lib.rt:177:28
 add-put-numbers : tie.Need-add-put-numbers Inv-loop μ-loop
 add-put-numbers c = omega (arith, fits (c .before .before .before .before .before .before .before .before))
 
--- src/lib.rt:177:36
 cast-put-numbers : tie.Need-cast-put-numbers Inv-loop μ-loop
 cast-put-numbers c = search needs
 
--- src/lib.rt:177:9
 put-numbers-requires : tie.Need-put-numbers-requires Inv-loop μ-loop
 put-numbers-requires c κs =
     let f = fits (c .before .before .before .before .before .before .before .before .before) in
     (omega (arith, f), f .2)
 
--- src/lib.rt:178:37
 cast-numbers-size : tie.Need-cast-numbers-size Inv-loop μ-loop
 cast-numbers-size c = omega (arith, c .before .before .before .before .before .before .before .before .before .before .before .shared-slice-known2 .given (c .before .before .before .before .before .before .before .before .before .before .before .before .before .loop .at + 1))
 
--- src/lib.rt:178:24
 numbers-size-requires : tie.Need-numbers-size-requires Inv-loop μ-loop
 numbers-size-requires c κs = search needs
 
--- src/lib.rt:178:20
 add-at : tie.Need-add-at Inv-loop μ-loop
 add-at c = omega (arith, fits (c .before .before .before .before .before .before .before .before .before .before .before .before .before), c .numbers-size .ensures)
 
--- src/lib.rt:178:14
 add-at-2 : tie.Need-add-at-2 Inv-loop μ-loop
 add-at-2 c = omega (arith, fits (c .before .before .before .before .before .before .before .before .before .before .before .before .before), c .numbers-size .ensures)
 
--- src/lib.rt:179:16
 add-pair : tie.Need-add-pair Inv-loop μ-loop
 add-pair c = omega (arith, fits (c .before .before .before .before .before .before .before .before .before .before .before .before .before))
 
--- src/lib.rt:180:19
 cast-to : tie.Need-cast-to Inv-loop μ-loop
 cast-to c = search needs
 
--- src/lib.rt:180:14
 add-to : tie.Need-add-to Inv-loop μ-loop
 add-to c = omega (arith, fits (c .before .before .before .before .before .before .before .before .before .before .before .before .before))
 
--- src/lib.rt:174:5
 loop-less : tie.Need-loop-less Inv-loop μ-loop
 loop-less c = omega (arith, fits (c .before .before .before .before .before .before .before .before .before .before .before .before .before), c .numbers-size .ensures)
 
--- src/lib.rt:174:5
 loop-again : tie.Need-loop-again Inv-loop μ-loop
 loop-again c =
     let l = c .before .before .before .before .before .before .before .before .before .before .before .before .before .before in
@@ -127,15 +101,12 @@ loop-again c =
     rw (p, n, c .numbers-size .ensures)
     (filling-next knownType (widthOf (a .width)) (a .value .now) (a .pairs .now) (a .numbers .now) (l .loop .at) (l .loop .pair) (l .loop .to) (l .loop .pairs) (l .loop .numbers) (l .loop .inv) (c .before .before .before .before .before .before .before .before .before .before .before .before .before .loop-test .taken))
 
--- src/lib.rt:164:1
 same-length : tie.Need-same-length Inv-loop μ-loop
 same-length c = c .before .loop .inv .0 .long
 
--- src/lib.rt:164:1
 same-length-2 : tie.Need-same-length-2 Inv-loop μ-loop
 same-length-2 c = c .before .loop .inv .1 .long
 
--- src/lib.rt:164:1
 returns : tie.Need-returns Inv-loop μ-loop
 returns c =
     let l = c .before in

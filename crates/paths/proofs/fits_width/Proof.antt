@@ -1,26 +1,19 @@
-use mathlib.Core.Path.{sym, ap}
+use mathlib.Core.Path.{sym}
 use native.Mathlib.Omega.{arith}
-use Rattle.paths.specs.Aggregator.{fitsWidth}
 use Rattle.paths.specs.AggregatorLaws.{fits-four}
 use borrow.Author.Needs.{needs}
 use Rattle.paths.proofs.fits_width.Statement.{statement}
 use Rattle.paths.proofs.fits_width.Tie as tie
-use Rattle.paths.proofs.fits_width.Reads as reads
-use Rattle.paths.proofs.fits_width.Lts as lts
 
--- src/lib.rt:254:30
 enum-told : tie.Need-enum-told
 enum-told c = search needs
 
--- src/lib.rt:255:30
 enum-told-2 : tie.Need-enum-told-2
 enum-told-2 c = search needs
 
--- src/lib.rt:250:1
 returns : tie.Need-returns
 returns c = rw (c .enum-told .given .1)
 
--- src/lib.rt:250:1
 returns-2 : tie.Need-returns-2
 returns-2 c = rw (c .enum-told2 .given .1) (sym (fits-four (c .before .before .args .asn) (omega arith)))
 

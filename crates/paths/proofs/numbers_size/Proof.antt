@@ -1,32 +1,23 @@
-use Rattle.paths.specs.Segment.{widthOf, span}
 use Rattle.paths.specs.SegmentLaws.{span-two, span-four}
 use borrow.Author.Needs.{needs}
 use Rattle.paths.proofs.numbers_size.Statement.{statement}
 use Rattle.paths.proofs.numbers_size.Tie as tie
-use Rattle.paths.proofs.numbers_size.Reads as reads
-use Rattle.paths.proofs.numbers_size.Lts as lts
 
--- src/lib.rt:62:30
 enum-told : tie.Need-enum-told
 enum-told c = search needs
 
--- src/lib.rt:62:30
 mul-result : tie.Need-mul-result
 mul-result c = search needs
 
--- src/lib.rt:63:30
 enum-told-2 : tie.Need-enum-told-2
 enum-told-2 c = search needs
 
--- src/lib.rt:63:30
 mul-result-2 : tie.Need-mul-result-2
 mul-result-2 c = search needs
 
--- src/lib.rt:58:1
 returns : tie.Need-returns
 returns c = rw (c .enum-told .given .1) (span-two (c .before .before .args .n))
 
--- src/lib.rt:58:1
 returns-2 : tie.Need-returns-2
 returns-2 c = rw (c .enum-told2 .given .1) (span-four (c .before .before .args .n))
 

@@ -1,55 +1,39 @@
 use borrow.Author.Tests.{le-leb, lt-leb, eq-eqb, ne-eqb}
-use mathlib.Core.Path.{_≡_, sym, ap, _∙_}
 use Rattle.paths.specs.Aggregator.{aggregatorOf}
 use borrow.Author.Needs.{needs}
 use Rattle.paths.proofs.parse_aggregator.Statement.{statement}
 use Rattle.paths.proofs.parse_aggregator.Tie as tie
-use Rattle.paths.proofs.parse_aggregator.Reads as reads
-use Rattle.paths.proofs.parse_aggregator.Lts as lts
-use Rattle.paths.proofs.differs.Reads as differs-reads
-use Rattle.wire.proofs.u16_at.Reads as u16-at-reads
-use Rattle.wire.proofs.u32_at.Reads as u32-at-reads
 
--- src/lib.rt:214:9
 returns : tie.Need-returns
 unfolding aggregatorOf
 returns c = simp (lt-leb _ _ (c .if1 .taken))
 
--- src/lib.rt:218:18
 u32-at-requires : tie.Need-u32-at-requires
 u32-at-requires c κs = search needs
 
--- src/lib.rt:219:25
 u32-at-requires-2 : tie.Need-u32-at-requires-2
 u32-at-requires-2 c κs = search needs
 
--- src/lib.rt:220:22
 differs-requires : tie.Need-differs-requires
 differs-requires c κs = search needs
 
--- src/lib.rt:217:9
 returns-2 : tie.Need-returns-2
 unfolding aggregatorOf
 returns-2 c = simp (le-leb _ _ (c .before .before .before .before .if1 .left), eq-eqb _ _ (c .before .before .before .if2 .taken)) cc
 
--- src/lib.rt:225:18
 u16-at-requires : tie.Need-u16-at-requires
 u16-at-requires c κs = search needs
 
--- src/lib.rt:226:25
 u32-at-requires-3 : tie.Need-u32-at-requires-3
 u32-at-requires-3 c κs = search needs
 
--- src/lib.rt:227:22
 differs-requires-2 : tie.Need-differs-requires-2
 differs-requires-2 c κs = search needs
 
--- src/lib.rt:224:9
 returns-3 : tie.Need-returns-3
 unfolding aggregatorOf
 returns-3 c = simp (le-leb _ _ (c .before .before .before .before .before .if1 .left), ne-eqb _ _ (c .before .before .before .before .if2 .left), eq-eqb _ _ (c .before .before .before .if3 .taken)) cc
 
--- src/lib.rt:210:1
 returns-4 : tie.Need-returns-4
 unfolding aggregatorOf
 returns-4 c = simp (le-leb _ _ (c .before .before .if1 .left), ne-eqb _ _ (c .before .if2 .left), ne-eqb _ _ (c .if3 .left))

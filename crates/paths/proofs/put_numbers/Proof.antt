@@ -1,19 +1,15 @@
 use borrow.Author.Needs.{needs}
 use native.Mathlib.Omega.{arith}
 use Prim.Native.Nat.{ℕ, _+_, _-_, _≤_, _<_}
-use mathlib.Core.Path.{_≡_, sym, ap, ap₂, _∙_}
-use mathlib.Core.List.{List, [], _∷_}
+use mathlib.Core.Path.{_≡_, sym, ap, _∙_}
+use mathlib.Core.List.{List, _∷_}
 use lib.ListN.{length, drop, set}
 use Rattle.wire.specs.Number.{beAt}
-use Rattle.wire.specs.Store.{Laying, laying-start, laying-long, laying-room, laying-set, laying-done, puts-laid, laid}
+use Rattle.wire.specs.Store.{Laying, laying-start, laying-long, laying-room, laying-set, laying-done, laid}
 use Rattle.paths.specs.Segment.{widthOf, span, numbersOf}
 use Rattle.paths.specs.SegmentLaws.{span-less, length-numbers, numbers-next}
 use Rattle.paths.proofs.put_numbers.Statement.{statement}
 use Rattle.paths.proofs.put_numbers.Tie as tie
-use Rattle.paths.proofs.put_numbers.Reads as reads
-use Rattle.paths.proofs.put_numbers.Lts as lts
-use Rattle.paths.proofs.asn_bytes.Reads as asn-bytes-reads
-use Rattle.paths.proofs.number_at.Reads as number-at-reads
 
 abbrev Inv-loop : tie.InvT-loop
 Inv-loop s from n width numbers₀ start w at₀ to₀ left₀ numbers at to left =
@@ -38,67 +34,58 @@ module _ (s : List ℕ) (from w n : ℕ) (d₀ : List ℕ) (start : ℕ) (fits :
     turn : (v : ℕ) → 0 < left → v ≡ beAt s at w
         → (at + w + span w (left - 1) ≤ length s)
         × Laying d₀ start (numbersOf w n (drop from s)) (set d to v) (to + 1) (numbersOf w (left - 1) (drop (at + w) s))
-    turn v pos e =
-        (omega (arith, span-less w left pos),
-        laying-set d₀ start (numbersOf w n (drop from s)) all-fit d to (numbersOf w left (drop at s)) h v (numbersOf w (left - 1) (drop (at + w) s))
-        (numbers-next w left at s pos ∙ ap (λ (x : ℕ). x ∷ numbersOf w (left - 1) (drop (at + w) s)) (sym e)))
+    turn v pos e = (
+      omega (arith, span-less w left pos),
+      laying-set d₀ start (numbersOf w n (drop from s)) all-fit d to (numbersOf w left (drop at s)) h v (numbersOf w (left - 1) (drop (at + w) s))
+          (numbers-next w left at s pos ∙ ap (λ (x : ℕ). x ∷ numbersOf w (left - 1) (drop (at + w) s)) (sym e)),
+    )
 
     end : left ≡ 0 → d ≡ laid d₀ start (numbersOf w n (drop from s))
     unfolding numbersOf
     end e = laying-done d₀ start (numbersOf w n (drop from s)) all-fit d to (numbersOf w left (drop at s)) h (ap (λ (k : ℕ). numbersOf w k (drop at s)) e)
 
--- src/lib.rt:151:9
 asn-bytes-requires : tie.Need-asn-bytes-requires Inv-loop μ-loop
 asn-bytes-requires c κs = search needs
 
--- src/lib.rt:155:5
 loop-holds : tie.Need-loop-holds Inv-loop μ-loop
 loop-holds c =
     let a = c .before .before .before .args in
     let p = c .before .before .before .pre in
     (search needs, search needs, laying-start (a .numbers .now) (a .start) _ (all-fit (a .s .now) (a .from) (widthOf (a .width)) (a .n) (a .numbers .now) (a .start) (p .1)))
 
--- src/lib.rt:156:23
 number-at-requires : tie.Need-number-at-requires Inv-loop μ-loop
 number-at-requires c κs = search needs
 
--- src/lib.rt:156:9
 mul-numbers : tie.Need-mul-numbers Inv-loop μ-loop
 mul-numbers c =
     let l = c .before .before in
     let a = l .before .before .before .before .args in
     omega (arith, here (a .s .now) (a .from) (widthOf (a .width)) (a .n) (a .numbers .now) (a .start) (l .before .before .before .before .pre .1) (l .loop .at) (l .loop .to) (l .loop .left) (l .loop .numbers) (l .loop .inv .1) (l .loop .inv .2))
 
--- src/lib.rt:156:9
 slice-write-numbers : tie.Need-slice-write-numbers Inv-loop μ-loop
 slice-write-numbers c =
     let l = c .before .before in
     let a = l .before .before .before .before .args in
     omega (arith, here (a .s .now) (a .from) (widthOf (a .width)) (a .n) (a .numbers .now) (a .start) (l .before .before .before .before .pre .1) (l .loop .at) (l .loop .to) (l .loop .left) (l .loop .numbers) (l .loop .inv .1) (l .loop .inv .2))
 
--- src/lib.rt:157:14
 add-at : tie.Need-add-at Inv-loop μ-loop
 add-at c =
     let l = c .before .before in
     let a = l .before .before .before .before .args in
     omega (arith, l .loop .inv .0, l .loop .inv .1, span-less (widthOf (a .width)) (l .loop .left) (c .before .loop-test .taken))
 
--- src/lib.rt:158:14
 add-to : tie.Need-add-to Inv-loop μ-loop
 add-to c =
     let l = c .before .before in
     let a = l .before .before .before .before .args in
     omega (arith, here (a .s .now) (a .from) (widthOf (a .width)) (a .n) (a .numbers .now) (a .start) (l .before .before .before .before .pre .1) (l .loop .at) (l .loop .to) (l .loop .left) (l .loop .numbers) (l .loop .inv .1) (l .loop .inv .2))
 
--- src/lib.rt:159:16
 sub-left : tie.Need-sub-left Inv-loop μ-loop
 sub-left c = search needs
 
--- src/lib.rt:155:5
 loop-less : tie.Need-loop-less Inv-loop μ-loop
 loop-less c = search needs
 
--- src/lib.rt:155:5
 loop-again : tie.Need-loop-again Inv-loop μ-loop
 loop-again c =
     let l = c .before .before in
@@ -107,14 +94,12 @@ loop-again c =
     (l .loop .at) (l .loop .to) (l .loop .left) (l .loop .numbers) (l .loop .inv .1) (l .loop .inv .2) (c .number-at .result) (c .before .loop-test .taken) (c .number-at .ensures) in
     (l .loop .inv .0, rw (l .loop .inv .0) (next .0), rw (l .loop .inv .0) (next .1))
 
--- src/lib.rt:146:1
 same-length : tie.Need-same-length Inv-loop μ-loop
 same-length c =
     let l = c .before in
     let a = l .before .before .before .before .args in
     long (a .s .now) (a .from) (widthOf (a .width)) (a .n) (a .numbers .now) (a .start) (l .before .before .before .before .pre .1) (l .loop .at) (l .loop .to) (l .loop .left) (l .loop .numbers) (l .loop .inv .1) (l .loop .inv .2)
 
--- src/lib.rt:146:1
 returns : tie.Need-returns Inv-loop μ-loop
 returns c =
     let l = c .before in

@@ -5,34 +5,25 @@ use Rattle.wire.specs.Store.{puts-laid}
 use borrow.Author.Needs.{needs}
 use Rattle.paths.proofs.put_pair.Statement.{statement}
 use Rattle.paths.proofs.put_pair.Tie as tie
-use Rattle.paths.proofs.put_pair.Reads as reads
-use Rattle.paths.proofs.put_pair.Lts as lts
 
--- src/lib.rt:141:5
 mul-pairs : tie.Need-mul-pairs
 mul-pairs c = search needs
 
--- src/lib.rt:141:5
 slice-write-pairs : tie.Need-slice-write-pairs
 slice-write-pairs c = search needs
 
--- src/lib.rt:142:11
 add-pairs : tie.Need-add-pairs
 add-pairs c = search needs
 
--- src/lib.rt:142:5
 mul-pairs-2 : tie.Need-mul-pairs-2
 mul-pairs-2 c = search needs
 
--- src/lib.rt:142:5
 slice-write-pairs-2 : tie.Need-slice-write-pairs-2
 slice-write-pairs-2 c = simp length-set (omega arith)
 
--- src/lib.rt:137:1
 same-length : tie.Need-same-length
 same-length c = search needs
 
--- src/lib.rt:137:1
 returns : tie.Need-returns
 returns c = let a = c .args in puts-laid (a .pairs .now) (a .to) (a .kind ∷ a .count ∷ []) (omega (arith, c .pre))
 

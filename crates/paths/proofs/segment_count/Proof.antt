@@ -12,55 +12,42 @@ use Rattle.paths.specs.Size.{countIn}
 use borrow.Author.Needs.{needs}
 use Rattle.paths.proofs.segment_count.Statement.{statement}
 use Rattle.paths.proofs.segment_count.Tie as tie
-use Rattle.paths.proofs.segment_count.Reads as reads
-use Rattle.paths.proofs.segment_count.Lts as lts
-use Rattle.paths.proofs.numbers_size.Reads as numbers-size-reads
-use Rattle.paths.proofs.type_fault.Reads as type-fault-reads
 
 -- the bytes that the segment takes are there
 fits : (width : AsnLength) (s : List ℕ) (r : ℕ) → r ≡ span (widthOf width) (getD s 1 0) → 2 + r ≤ length s → 2 + span (widthOf width) (getD s 1 0) ≤ length s
 fits width s r e h = rw e at h
 
--- src/lib.rt:97:9
 returns : tie.Need-returns
 unfolding segmentOf
 returns c = simp (lt-leb _ _ (c .if1 .taken))
 
--- src/lib.rt:99:17
 shared-slice-read-count : tie.Need-shared-slice-read-count
 shared-slice-read-count c = search needs
 
--- src/lib.rt:100:33
 cast-numbers-size : tie.Need-cast-numbers-size
 cast-numbers-size c = omega (arith, c .shared-slice-known2 .given 1)
 
--- src/lib.rt:100:20
 numbers-size-requires : tie.Need-numbers-size-requires
 numbers-size-requires c κs = search needs
 
--- src/lib.rt:100:16
 add-size : tie.Need-add-size
 add-size c =
     let a = c .before .before .before .before .args in
     omega (arith, c .numbers-size .ensures, span-most (a .width) (getD (a .s .now) 1 0), c .before .shared-slice-known2 .given 1)
 
--- src/lib.rt:102:9
 returns-2 : tie.Need-returns-2
 unfolding segmentOf
 returns-2 c = rw (← c .before .numbers-size .ensures) (simp (le-leb _ _ (c .before .before .before .if1 .left), lt-leb _ _ (c .if2 .taken)))
 
--- src/lib.rt:104:28
 shared-slice-read-wide : tie.Need-shared-slice-read-wide
 shared-slice-read-wide c = search needs
 
 wide-requires : tie.Need-wide-requires
 wide-requires c κs = search needs
 
--- src/lib.rt:104:9
 type-fault-requires : tie.Need-type-fault-requires
 type-fault-requires c κs = search needs
 
--- src/lib.rt:106:9
 returns-3 : tie.Need-returns-3
 returns-3 c =
     let k = c .before .before .before .before in
@@ -71,7 +58,6 @@ returns-3 c =
     let e : segmentOf knownType (widthOf (a .width)) tt (a .s .now) ≡ stop n = fault-segment knownType (widthOf (a .width)) (a .s .now) n (k .before .before .before .if1 .left) room (c .before .type-fault .ensures ∙ ap typeFault (c .before .before .wide .ensures)) pos in
     sym (ap countIn e)
 
--- src/lib.rt:93:1
 returns-4 : tie.Need-returns-4
 returns-4 c =
     let k = c .before .before .before .before in

@@ -2,20 +2,15 @@ use borrow.Author.Tests.{le-leb, lt-leb}
 use Rattle.paths.specs.Segment.{typeFault}
 use Rattle.paths.proofs.type_fault.Statement.{statement}
 use Rattle.paths.proofs.type_fault.Tie as tie
-use Rattle.paths.proofs.type_fault.Reads as reads
-use Rattle.paths.proofs.type_fault.Lts as lts
 
--- src/lib.rt:82:9
 returns : tie.Need-returns
 unfolding typeFault
 returns c = simp (lt-leb _ _ (c .if1 .taken))
 
--- src/lib.rt:85:9
 returns-2 : tie.Need-returns-2
 unfolding typeFault
 returns-2 c = simp (le-leb _ _ (c .before .if1 .left), lt-leb _ _ (c .if2 .taken))
 
--- src/lib.rt:78:1
 returns-3 : tie.Need-returns-3
 unfolding typeFault
 returns-3 c = simp (le-leb _ _ (c .before .if1 .left), le-leb _ _ (c .if2 .left))
