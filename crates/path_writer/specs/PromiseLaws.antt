@@ -11,10 +11,10 @@ use lib.ListN.{length}
 use Rattle.wire.specs.Refusal.{tooLong, noRoom, notWritable, listLimit}
 use Rattle.wire.specs.Choice.{pick, pick-leb}
 use Rattle.wire.specs.Store.{laid}
-use Rattle.paths.specs.Segment.{Rule, span}
-use Rattle.paths.specs.Promises.{written}
-use Rattle.paths.specs.declared.WriteAnswer.{WriteAnswer}
-use Rattle.paths.specs.declared.WriteAnswer.the-variants.{Written, Refused}
+use Rattle.asns.specs.Asn.{span, written}
+use Rattle.paths.specs.Segment.{Rule}
+use Rattle.asns.specs.declared.WriteAnswer.{WriteAnswer}
+use Rattle.asns.specs.declared.WriteAnswer.the-variants.{Written, Refused}
 use Rattle.path_writer.specs.Write.{addsUp, lentPath}
 use Rattle.path_writer.specs.WriteLaws.{path-length}
 use Rattle.path_writer.specs.Lent.{lent-back}

@@ -6,9 +6,9 @@ use lib.Dec.{leb}
 use Rattle.wire.specs.Choice.{pick}
 use Rattle.wire.specs.Refusal.{tooLong, noRoom, notWritable, listLimit}
 use Rattle.paths.specs.Segment.{Rule}
-use Rattle.paths.specs.Promises.{written}
-use Rattle.paths.specs.declared.WriteAnswer.{WriteAnswer}
-use Rattle.paths.specs.declared.WriteAnswer.the-variants.{Written, Refused}
+use Rattle.asns.specs.Asn.{written}
+use Rattle.asns.specs.declared.WriteAnswer.{WriteAnswer}
+use Rattle.asns.specs.declared.WriteAnswer.the-variants.{Written, Refused}
 use Rattle.path_writer.specs.Write.{addsUp, lentPath, pathBytes}
 
 -- by the verdict on the segments: the number, or then 1 and 11 by the size

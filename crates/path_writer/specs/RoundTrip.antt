@@ -1,10 +1,9 @@
 -- What is accepted is what segments are written as, in one way only: over any rule, any idea of a segment that it decides, and any width.
 -- Assumes nothing.
-use Prim.Native.Nat.{ℕ, zero, suc, _+_, _*_, _^_, _≤_, _<_}
+use Prim.Native.Nat.{ℕ, zero, suc, _+_, _^_, _≤_, _<_}
 use mathlib.Core.Path.{_≡_, refl, sym, ap, ap₂, subst, _∙_}
 use mathlib.Core.List.{List, [], _∷_, _++_, map, append-assoc}
 use mathlib.Core.Bool.{true}
-use native.Mathlib.Nat.{zero-mul, suc-mul}
 use native.Mathlib.Omega.{arith}
 use lib.ListN.{length, getD, take, drop, length-append, length-drop, take-append-drop}
 use lib.Seq.{take-add, take-at, drop-at, take-length, drop-append-seam, length-take-le}
@@ -12,7 +11,9 @@ use Rattle.wire.specs.Number.{be, toBe, padded, beAt, Bytes}
 use Rattle.wire.specs.NumberLaws.{be-lt, be-toBe, toBe-be, length-toBe, length-padded, padded-take, bytes-drop, bytes-take, bytes-padded}
 use Rattle.wire.specs.Walk.{Reading, took, more, readAll, flat}
 use Rattle.wire.specs.WalkLaws.{all-nil, all-took, all-ind}
-use Rattle.paths.specs.Segment.{Segment, span, numbersOf, Rule, segmentAt, segmentOf, pathOf, pairOf, asnsOf}
+use Rattle.asns.specs.Asn.{span}
+use Rattle.asns.specs.AsnLaws.{span-is}
+use Rattle.paths.specs.Segment.{Segment, numbersOf, Rule, segmentAt, segmentOf, pathOf, pairOf, asnsOf}
 use Rattle.paths.specs.SegmentLaws.{length-numbers, Taken, segment-taken, taken-segment, segment-sound}
 use Rattle.path_writer.specs.Write.{segmentBytes, allFit, pathBytes}
 use Rattle.path_writer.specs.WriteLaws.{fit-here, fit-cons, segment-length}
@@ -21,11 +22,6 @@ use Rattle.path_writer.specs.WellFormed as F
 use Rattle.path_writer.specs.WellFormed.{WellFormed, Each, joined, Cutting, numbersIn, headOf, asNumbers}
 
 -- ---- numbers
-
-pub span-is : (w n : ℕ) → span w n ≡ n * w
-unfolding span
-span-is w zero = sym (zero-mul w)
-span-is w (suc n) = omega (arith, span-is w n, suc-mul n w)
 
 module _ (w : ℕ) where
   number-bytes : (s : List ℕ) → Bytes s → w ≤ length s → toBe w (beAt s 0 w) ≡ take w s

@@ -10,11 +10,12 @@ use Rattle.wire.specs.Number.{Bytes}
 use Rattle.wire.specs.Refusal.{listLimit}
 use Rattle.wire.specs.Store.{laid}
 use Rattle.wire.specs.Walk.{Reading, flat}
-use Rattle.paths.specs.Segment.{Segment, span, Rule, pathOf, pairOf, asnsOf}
+use Rattle.asns.specs.Asn.{span}
+use Rattle.paths.specs.Segment.{Segment, Rule, pathOf, pairOf, asnsOf}
 use Rattle.paths.specs.Promises.{readAnswer, pairsAfter, numbersAfter}
 use Rattle.paths.specs.PromiseLaws.{read-path, path-read, path-stores, pairs-length}
 use Rattle.paths.specs.declared.PathAnswer.the-variants.{Path}
-use Rattle.paths.specs.declared.WriteAnswer.the-variants.{Written}
+use Rattle.asns.specs.declared.WriteAnswer.the-variants.{Written}
 use Rattle.path_writer.specs.Write.{segmentBytes, lentPath, pathBytes}
 use Rattle.path_writer.specs.Lent.{lent-back, lend}
 use Rattle.path_writer.specs.Promises.{bytesOf, encodeAnswer, encodeLeft}

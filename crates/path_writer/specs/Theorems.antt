@@ -10,14 +10,15 @@ use Rattle.wire.specs.Number.{Bytes}
 use Rattle.wire.specs.Refusal.{listLimit}
 use Rattle.wire.specs.Store.{laid}
 use Rattle.wire.specs.Walk.{flat}
-use Rattle.paths.specs.Segment.{widthOf, knownType, pathOf}
+use Rattle.asns.specs.Asn.{widthOf}
+use Rattle.paths.specs.Segment.{knownType, pathOf}
 use Rattle.paths.specs.SegmentLaws.{type-known, known-type}
 use Rattle.paths.specs.Promises.{readAnswer, pairsAfter, numbersAfter}
-use Rattle.paths.specs.declared.AsnLength.{AsnLength}
+use Rattle.asns.specs.declared.AsnLength.{AsnLength}
 use Rattle.paths.specs.declared.PathAnswer.{PathAnswer}
 use Rattle.paths.specs.declared.PathAnswer.the-variants.{Path}
-use Rattle.paths.specs.declared.WriteAnswer.{WriteAnswer}
-use Rattle.paths.specs.declared.WriteAnswer.the-variants.{Written}
+use Rattle.asns.specs.declared.WriteAnswer.{WriteAnswer}
+use Rattle.asns.specs.declared.WriteAnswer.the-variants.{Written}
 use Rattle.path_writer.specs.Promises.{encodeAnswer, encodeLeft}
 use Rattle.path_writer.specs.WellFormed.{Known, Cutting, headOf, asNumbers}
 use Rattle.path_writer.specs.RoundTrip.{Decides, cut-once}

@@ -18,8 +18,9 @@ use Rattle.wire.specs.NumberLaws.{length-toBe}
 use Rattle.wire.specs.Refusal.{longSegment, wideNumber}
 use Rattle.wire.specs.Walk.{Step, took, stop, flat}
 use Rattle.wire.specs.WalkLaws.{Sound}
-use Rattle.paths.specs.Segment.{Segment, span, Rule, judged, pairOf, asnsOf}
-use Rattle.paths.specs.SegmentLaws.{span-add}
+use Rattle.asns.specs.Asn.{span}
+use Rattle.paths.specs.Segment.{Segment, Rule, judged, pairOf, asnsOf}
+use Rattle.asns.specs.AsnLaws.{span-add}
 use Rattle.path_writer.specs.Write.{segmentBytes, addsUp, allFit, mostNumbers, either, writeFault, lentSegment, lentOf, pathBytes}
 
 -- ---- what a test says

@@ -12,7 +12,8 @@ use Rattle.wire.specs.Number.{toBe}
 use Rattle.wire.specs.Store.{laid, laid-laid}
 use Rattle.wire.specs.Walk.{took, stop, flat}
 use Rattle.wire.specs.Turn.{Light, Counted, count-start, count-step, count-stop, count-done, Filled, fill-start, fill-fits, fill-step, fill-takes, fill-done}
-use Rattle.paths.specs.Segment.{Segment, span, Rule}
+use Rattle.asns.specs.Asn.{span}
+use Rattle.paths.specs.Segment.{Segment, Rule}
 use Rattle.path_writer.specs.Write.{segmentBytes, addsUp, allFit, mostNumbers, writeFault, lentSegment, lentOf, lentPath, pathBytes}
 use Rattle.path_writer.specs.WriteLaws.{Lending, lending-start, lending-there, lending-next, fault-none, segment-length, bytes-length, lent-sound, lent-took, took-lent, stop-lent}
 

@@ -2,17 +2,18 @@
 // leaves the output as it was on every refusal.
 ghost use mathlib.Core.Path.{_≡_};
 ghost use mathlib.Core.Bool.{true};
-ghost use Prim.Native.Nat.{_+_, _^_, _≤_, _<_};
+ghost use Prim.Native.Nat.{_+_, _≤_, _<_};
 ghost use mathlib.Core.List.{[], _∷_};
 ghost use lib.ListN.{length, take, drop};
 ghost use Rattle.wire.specs.Number.{toBe};
 ghost use Rattle.wire.specs.Store.{laid};
 ghost use Rattle.wire.specs.Walk.{flat};
-ghost use Rattle.paths.specs.Segment.{widthOf, span, knownType};
-ghost use Rattle.path_writer.specs.Write.{segmentBytes, addsUp, allFit, writeFault, lentPath, pathBytes};
+ghost use Rattle.asns.specs.Asn.{widthOf};
+ghost use Rattle.paths.specs.Segment.{knownType};
+ghost use Rattle.path_writer.specs.Write.{addsUp, allFit, writeFault, lentPath};
 ghost use Rattle.path_writer.specs.Promises.{bytesOf, encodeAnswer, encodeLeft};
-use paths::AsnLength;
-use paths::WriteAnswer;
+use asns::AsnLength;
+use asns::WriteAnswer;
 use wire::refusal;
 
 // The count byte's largest value.
@@ -46,7 +47,7 @@ fn all_fit(numbers: &[u32], from: usize, n: usize, width: AsnLength) -> bool
     let mut at = from;
     let mut left = n;
     while 0 < left {
-        if !paths::fits_width(numbers[at], width) {
+        if !asns::fits_width(numbers[at], width) {
             return false;
         }
         at = at + 1;
@@ -116,12 +117,12 @@ fn put_numbers(
     requires { ⌜ start + length (flat (toBe (widthOf width)) (take n (drop from (now numbers)))) ≤ length (now out) ⌝ }
     ensures { λ _. ⌜ now (out .exit) ≡ laid (now (out .entry)) start (flat (toBe (widthOf width)) (take n (drop from (now (numbers .entry))))) ⌝ }
 {
-    let w = paths::asn_bytes(width);
+    let w = asns::asn_bytes(width);
     let mut at = from;
     let mut to = start;
     let mut left = n;
     while 0 < left {
-        paths::put_number(out, to, numbers[at], width);
+        asns::put_number(out, to, numbers[at], width);
         at = at + 1;
         to = to + w;
         left = left - 1;
@@ -142,7 +143,7 @@ fn write_segments(pairs: &[u32], numbers: &[u32], width: AsnLength, out: &mut [u
         let count = pairs[at + 1];
         put_head(out, to, pairs[at], count);
         put_numbers(numbers, from, count as usize, width, out, to + 2);
-        to = to + (2 + paths::numbers_size(count as u16, width));
+        to = to + (2 + asns::numbers_size(count as u16, width));
         from = from + count as usize;
         at = at + 2;
     }
@@ -171,7 +172,7 @@ pub fn encode_as_path(
     if wire::LIST_LIMIT < numbers.len() {
         return WriteAnswer::Refused(refusal::TOO_LONG);
     }
-    let size = pairs.len() + paths::numbers_size(numbers.len() as u16, width);
+    let size = pairs.len() + asns::numbers_size(numbers.len() as u16, width);
     if wire::LIST_LIMIT < size {
         return WriteAnswer::Refused(refusal::TOO_LONG);
     }

@@ -4,6 +4,4 @@ pub mod SegmentLaws
 pub mod Promises
 pub mod PromiseLaws
 pub mod PathTurn
-pub mod Aggregator
-pub mod AggregatorLaws
 pub mod Tight

@@ -11,7 +11,8 @@ use Rattle.wire.specs.Refusal.{listLimit}
 use Rattle.wire.specs.Walk.{took, flat}
 use Rattle.wire.specs.Store.{laid}
 use Rattle.wire.specs.Turn.{rest, Counted, count-start, count-step, count-stop, count-done, Filled, fill-start, fill-fits, fill-step, fill-takes, fill-done}
-use Rattle.paths.specs.Segment.{Segment, span, numbersOf, Rule, segmentAt, segmentOf, pathOf, pairOf, asnsOf}
+use Rattle.asns.specs.Asn.{span}
+use Rattle.paths.specs.Segment.{Segment, numbersOf, Rule, segmentAt, segmentOf, pathOf, pairOf, asnsOf}
 use Rattle.paths.specs.SegmentLaws.{segment-sound, segment-taken, counted-taken, counted-refused, light-segments, light-numbers, length-numbers}
 use Rattle.paths.specs.Size.{countIn}
 use Rattle.paths.specs.Promises.{countAnswer}

@@ -1,4 +1,4 @@
--- What the calls answer and leave: on a path, from the bytes and from the reading of them that `Segment` defines; and what a writer leaves.
+-- What the calls on a path answer and leave, from the bytes and from the reading of them that `Segment` defines.
 use Prim.Native.Nat.{ℕ, zero, suc, _/_}
 use mathlib.Core.List.{List}
 use lib.ListN.{length}
@@ -10,8 +10,6 @@ use Rattle.wire.specs.Walk.{Reading, flat}
 use Rattle.paths.specs.Segment.{Segment, pairOf, asnsOf}
 use Rattle.paths.specs.declared.PathAnswer.{PathAnswer}
 use Rattle.paths.specs.declared.PathAnswer.the-variants.{Path, Refused}
-use Rattle.paths.specs.declared.WriteAnswer.{WriteAnswer}
-use Rattle.paths.specs.declared.WriteAnswer.the-variants as W
 
 -- the counts where the verdict is 0, and else the verdict
 abbrev pub answerBy : ℕ → ℕ → ℕ → PathAnswer
@@ -41,10 +39,3 @@ pairsAfter s r pairs numberPlaces = filled (readAnswer s r (length pairs) number
 
 unfoldable pub numbersAfter : List ℕ → Reading Segment → ℕ → List ℕ → List ℕ
 numbersAfter s r pairPlaces numbers = filled (readAnswer s r pairPlaces (length numbers)) (flat asnsOf (r .rows)) numbers
-
--- ---- writers
-
--- an output afterwards: the bytes from its front where they were written, and else as it was
-abbrev pub written : WriteAnswer → List ℕ → List ℕ → List ℕ
-written (W.Written n) bytes out = laid out 0 bytes
-written (W.Refused n) bytes out = out

@@ -7,24 +7,13 @@ use lib.Dec.{leb}
 use Rattle.wire.specs.Choice.{pick}
 use Rattle.wire.specs.Number.{beAt}
 use Rattle.wire.specs.Refusal.{truncated, segmentType}
+use Rattle.asns.specs.Asn.{span}
 use Rattle.wire.specs.Walk.{Step, took, stop, Reading, readAll}
-use Rattle.paths.specs.declared.AsnLength.{AsnLength}
-use Rattle.paths.specs.declared.AsnLength.the-variants.{Bits16, Bits32}
 
 -- a segment: its type, and its AS numbers in order
 pub record Segment : Type 0 where
   pub kind : ℕ
   pub asns : List ℕ
-
--- the bytes of an AS number
-abbrev pub widthOf : AsnLength → ℕ
-widthOf Bits16 = 2
-widthOf Bits32 = 4
-
--- the bytes of n AS numbers of w bytes; by recursion, since both are unknown
-unfoldable pub span : ℕ → ℕ → ℕ
-span w zero = 0
-span w (suc n) = w + span w n
 
 -- the n numbers of w bytes at the front
 unfoldable pub numbersOf : ℕ → ℕ → List ℕ → List ℕ

@@ -1,6 +1,6 @@
 -- Laws of one segment and of a path, over any rule and any width.
 -- Assumes nothing.
-use Prim.Native.Nat.{ℕ, zero, suc, _+_, _-_, _*_, _≤_, _<_}
+use Prim.Native.Nat.{ℕ, zero, suc, _+_, _-_, _≤_, _<_}
 use mathlib.Core.Path.{_≡_, refl, sym, ap, ap₂, _∙_}
 use mathlib.Core.List.{List, _∷_}
 use native.Mathlib.Nat.{not-suc-le-zero}
@@ -10,54 +10,15 @@ use borrow.Author.Tests.{le-leb}
 use lib.ListN.{length, getD, drop}
 use lib.Seq.{drop-drop}
 use Rattle.wire.specs.Choice.{pick-leb}
+use Rattle.asns.specs.AsnLaws.{span-many}
 use Rattle.wire.specs.Number.{beAt}
 use Rattle.wire.specs.Walk.{Step, took, stop}
 use Rattle.wire.specs.WalkLaws.{Sound}
 use Rattle.wire.specs.Turn.{Light}
 use Rattle.paths.specs.Size.{countIn}
-use Rattle.paths.specs.declared.AsnLength.{AsnLength}
-use Rattle.paths.specs.declared.AsnLength.the-variants.{Bits16, Bits32}
 use Rattle.paths.specs.declared.SegmentAnswer.the-variants.{Numbers, Refused}
-use Rattle.paths.specs.Segment.{Segment, widthOf, span, numbersOf, Rule, typeFault, NoState, judged, segmentAt, segmentOf, asnsOf}
-
--- ---- the bytes of numbers
-
-pub span-two : (n : ℕ) → n * 2 ≡ span 2 n
-unfolding span
-span-two zero = refl
-span-two (suc n) = omega (arith, span-two n)
-
-pub span-four : (n : ℕ) → n * 4 ≡ span 4 n
-unfolding span
-span-four zero = refl
-span-four (suc n) = omega (arith, span-four n)
-
-pub span-less : (w n : ℕ) → 0 < n → span w n ≡ w + span w (n - 1)
-unfolding span
-span-less w zero h = absurd (not-suc-le-zero h)
-span-less w (suc n) h = rw (sub-one (suc n))
-
-pub span-add : (w m n : ℕ) → span w (m + n) ≡ span w m + span w n
-unfolding span
-span-add w zero n = let e : 0 + n ≡ n = omega arith in rw e (omega arith)
-span-add w (suc m) n = let e : suc m + n ≡ suc (m + n) = omega arith in rw e (omega (arith, span-add w m n))
-
-pub span-many : (w n : ℕ) → 0 < w → n ≤ span w n
-unfolding span
-span-many w zero h = omega arith
-span-many w (suc n) h = omega (arith, span-many w n h)
-
-pub span-most : (width : AsnLength) (n : ℕ) → span (widthOf width) n ≤ 4 * n
-span-most Bits16 n = omega (arith, span-two n)
-span-most Bits32 n = omega (arith, span-four n)
-
-pub width-pos : (width : AsnLength) → 0 < widthOf width
-width-pos Bits16 = omega arith
-width-pos Bits32 = omega arith
-
-pub width-most : (width : AsnLength) → widthOf width ≤ 4
-width-most Bits16 = omega arith
-width-most Bits32 = omega arith
+use Rattle.asns.specs.Asn.{span}
+use Rattle.paths.specs.Segment.{Segment, numbersOf, Rule, typeFault, NoState, judged, segmentAt, segmentOf, asnsOf}
 
 -- ---- numbers
 

@@ -1,8 +1,8 @@
 // The path and AGGREGATOR examples of document 01, through the calls themselves: what it prints is compared with the file stdout.
-use paths::AggregatorAnswer;
-use paths::AsnLength;
+use asns::AggregatorAnswer;
+use asns::AsnLength;
+use asns::WriteAnswer;
 use paths::PathAnswer;
-use paths::WriteAnswer;
 
 // A word before a number, and then the number.
 fn say(word: &[u8], n: u64) {
@@ -78,7 +78,7 @@ fn show_sequence(count: u32, numbers: &[u32], width: AsnLength) {
 
 // An AGGREGATOR that is read: its number, its identifier's four bytes as one number, and whether the width differs.
 fn show_aggregator(value: &[u8], width: AsnLength) {
-    match paths::parse_aggregator(value, width) {
+    match asns::parse_aggregator(value, width) {
         AggregatorAnswer::Aggregator {
             asn,
             identifier,
@@ -97,7 +97,7 @@ fn show_aggregator(value: &[u8], width: AsnLength) {
 
 // An AGGREGATOR that is written into an output of its size, and read again from there.
 fn show_aggregator_back(asn: u32, identifier: u32, width: AsnLength, out: &mut [u8]) {
-    show_written(paths::encode_aggregator(asn, identifier, width, out));
+    show_written(asns::encode_aggregator(asn, identifier, width, out));
     show_aggregator(out, width);
 }
 

@@ -7,7 +7,7 @@ use mathlib.Core.List.{List, _∷_}
 use mathlib.Core.Bool.{true, false}
 use lib.Dec.{ltb}
 use lib.ListN.{length, drop, take, getD}
-use Rattle.paths.specs.Segment.{widthOf}
+use Rattle.asns.specs.Asn.{widthOf}
 use Rattle.path_writer.specs.Write.{allFit}
 use Rattle.path_writer.specs.WriteLaws.{take-next}
 use Rattle.path_writer.proofs.all_fit.Statement.{statement}

@@ -4,9 +4,10 @@ use Prim.Native.Nat.{ℕ, _+_}
 use mathlib.Core.Path.{_≡_, sym, ap, _∙_}
 use mathlib.Core.Bool.{true}
 use lib.ListN.{length}
-use Rattle.paths.specs.Segment.{widthOf, knownType}
-use Rattle.paths.specs.SegmentLaws.{span-many, span-most, width-pos}
-use Rattle.paths.specs.declared.WriteAnswer.the-variants.{Written}
+use Rattle.asns.specs.Asn.{widthOf}
+use Rattle.paths.specs.Segment.{knownType}
+use Rattle.asns.specs.AsnLaws.{span-many, span-most, width-pos}
+use Rattle.asns.specs.declared.WriteAnswer.the-variants.{Written}
 use Rattle.path_writer.specs.Write.{addsUp, lentPath}
 use Rattle.path_writer.specs.PromiseLaws.{leave, not-whole, bad-segment, size-is, too-long, no-place, all-written}
 use borrow.Author.Needs.{needs}

@@ -2,7 +2,8 @@ use native.Mathlib.Omega.{arith}
 use Prim.Native.Nat.{_+_, _-_, _≤_}
 use mathlib.Core.Path.{sym, _∙_}
 use lib.ListN.{length, getD}
-use Rattle.paths.specs.Segment.{widthOf, knownType}
+use Rattle.asns.specs.Asn.{widthOf}
+use Rattle.paths.specs.Segment.{knownType}
 use Rattle.path_writer.specs.WriteTurn.{Judged, judged-start, judged-fits, judged-next, judged-stop, judged-done}
 use Rattle.path_writer.proofs.path_fault.Statement.{statement}
 use Rattle.path_writer.proofs.path_fault.Tie as tie

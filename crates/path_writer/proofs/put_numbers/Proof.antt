@@ -1,5 +1,5 @@
 use borrow.Author.Tests.{lt-ltb}
-use Rattle.paths.specs.AggregatorLaws.{put-room}
+use Rattle.asns.specs.AsnLaws.{put-room}
 use borrow.Author.Needs.{needs}
 use native.Mathlib.Omega.{arith}
 use Prim.Native.Nat.{ℕ, _+_, _-_, _≤_, _<_, _^_}
@@ -11,7 +11,7 @@ use Rattle.wire.specs.NumberLaws.{length-toBe}
 use Rattle.wire.specs.Number.{toBe}
 use Rattle.wire.specs.Store.{laid, Laying, laying-start, laying-long, laying-room, laying-step, laying-done}
 use Rattle.wire.specs.Walk.{flat}
-use Rattle.paths.specs.Segment.{widthOf}
+use Rattle.asns.specs.Asn.{widthOf}
 use Rattle.path_writer.specs.Write.{allFit}
 use Rattle.path_writer.specs.WriteLaws.{take-next, fit-here}
 use Rattle.path_writer.proofs.put_numbers.Statement.{statement}

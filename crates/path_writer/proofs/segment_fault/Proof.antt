@@ -1,7 +1,8 @@
 use borrow.Author.Tests.{not-true, not-false}
 use native.Mathlib.Omega.{arith}
 use mathlib.Core.Path.{sym, _∙_}
-use Rattle.paths.specs.Segment.{widthOf, knownType}
+use Rattle.asns.specs.Asn.{widthOf}
+use Rattle.paths.specs.Segment.{knownType}
 use Rattle.path_writer.specs.WriteLaws.{fault-rule, fault-long, fault-wide, none-fault}
 use borrow.Author.Needs.{needs}
 use Rattle.path_writer.proofs.segment_fault.Statement.{statement}

@@ -6,7 +6,8 @@ use mathlib.Core.Path.{_≡_, ap, _∙_}
 use mathlib.Core.List.{List, [], _∷_}
 use lib.ListN.{length, getD}
 use Rattle.wire.specs.Store.{length-laid}
-use Rattle.paths.specs.Segment.{widthOf, span, knownType}
+use Rattle.asns.specs.Asn.{widthOf, span}
+use Rattle.paths.specs.Segment.{knownType}
 use Rattle.path_writer.specs.Promises.{bytesOf}
 use Rattle.path_writer.specs.WriteTurn.{Writing, writing-start, writing-inside, writing-fine, writing-fits, body-length, writing-next, writing-done}
 use Rattle.path_writer.proofs.write_segments.Statement.{statement}

@@ -4,8 +4,9 @@ use native.Mathlib.Omega.{arith}
 use Prim.Native.Nat.{_+_, _-_, _≤_}
 use lib.ListN.{length}
 use Rattle.wire.specs.Walk.{took}
-use Rattle.paths.specs.Segment.{widthOf, knownType}
-use Rattle.paths.specs.SegmentLaws.{width-pos}
+use Rattle.asns.specs.Asn.{widthOf}
+use Rattle.paths.specs.Segment.{knownType}
+use Rattle.asns.specs.AsnLaws.{width-pos}
 use Rattle.paths.specs.PromiseLaws.{count-long}
 use Rattle.paths.proofs.count_as_path.Statement.{statement}
 use Rattle.paths.proofs.count_as_path.Tie as tie

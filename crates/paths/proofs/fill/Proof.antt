@@ -5,7 +5,8 @@ use mathlib.Core.Path.{_≡_, ap₂, _∙_}
 use mathlib.Core.List.{List, [], _∷_}
 use lib.ListN.{length, getD}
 use Rattle.wire.specs.Store.{laid}
-use Rattle.paths.specs.Segment.{widthOf, span, knownType}
+use Rattle.asns.specs.Asn.{widthOf, span}
+use Rattle.paths.specs.Segment.{knownType}
 use Rattle.paths.specs.PathTurn.{FilledPath, filling-start, filling-fits, filling-next, filling-done}
 use Rattle.paths.proofs.fill.Statement.{statement}
 use Rattle.paths.proofs.fill.Tie as tie

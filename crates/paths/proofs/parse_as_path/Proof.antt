@@ -1,7 +1,8 @@
 use mathlib.Core.Path.{_≡_, refl, sym, _∙_}
 use native.Mathlib.Omega.{arith}
 use lib.ListN.{length}
-use Rattle.paths.specs.Segment.{widthOf, knownType, pathOf}
+use Rattle.asns.specs.Asn.{widthOf}
+use Rattle.paths.specs.Segment.{knownType, pathOf}
 use Rattle.paths.specs.Promises.{countAnswer}
 use Rattle.paths.specs.PromiseLaws.{count-path, leave, pairs-length, no-pairs, no-numbers, room}
 use Rattle.paths.specs.declared.PathAnswer.the-variants.{Path}

@@ -6,8 +6,10 @@ use mathlib.Core.List.{List, _∷_}
 use lib.ListN.{length, drop, set}
 use Rattle.wire.specs.Number.{beAt}
 use Rattle.wire.specs.Store.{Laying, laying-start, laying-long, laying-room, laying-set, laying-done, laid}
-use Rattle.paths.specs.Segment.{widthOf, span, numbersOf}
-use Rattle.paths.specs.SegmentLaws.{span-less, length-numbers, numbers-next}
+use Rattle.asns.specs.Asn.{widthOf, span}
+use Rattle.paths.specs.Segment.{numbersOf}
+use Rattle.asns.specs.AsnLaws.{span-less}
+use Rattle.paths.specs.SegmentLaws.{length-numbers, numbers-next}
 use Rattle.paths.proofs.put_numbers.Statement.{statement}
 use Rattle.paths.proofs.put_numbers.Tie as tie
 

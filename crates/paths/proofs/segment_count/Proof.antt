@@ -5,9 +5,11 @@ use lib.ListN.{getD, length}
 use Prim.Native.Nat.{ℕ, _+_, _≤_, _<_}
 use Rattle.wire.specs.Walk.{stop}
 use mathlib.Core.List.{List}
-use Rattle.paths.specs.declared.AsnLength.{AsnLength}
-use Rattle.paths.specs.Segment.{segmentOf, typeFault, knownType, widthOf, span}
-use Rattle.paths.specs.SegmentLaws.{span-most, fault-segment, count-taken}
+use Rattle.asns.specs.declared.AsnLength.{AsnLength}
+use Rattle.asns.specs.Asn.{widthOf, span}
+use Rattle.paths.specs.Segment.{segmentOf, typeFault, knownType}
+use Rattle.asns.specs.AsnLaws.{span-most}
+use Rattle.paths.specs.SegmentLaws.{fault-segment, count-taken}
 use Rattle.paths.specs.Size.{countIn}
 use borrow.Author.Needs.{needs}
 use Rattle.paths.proofs.segment_count.Statement.{statement}

@@ -1,46 +1,23 @@
 -- Laws of an AGGREGATOR's bytes and of the calls that write one.
 -- Assumes nothing.
-use Prim.Native.Nat.{ℕ, _+_, _^_, _≤_, _<_}
+use Prim.Native.Nat.{ℕ, _+_, _≤_, _<_}
 use mathlib.Core.Path.{_≡_, sym, ap, ap₂, _∙_}
 use mathlib.Core.List.{List}
 use mathlib.Core.Bool.{true, false}
 use native.Mathlib.Omega.{arith}
-use borrow.Author.Tests.{le-leb, lt-leb, ltb-true}
+use borrow.Author.Tests.{le-leb, lt-leb}
 use lib.ListN.{length, take, length-append}
 use lib.Seq.{take-all}
 use Rattle.wire.specs.Number.{toBe}
 use Rattle.wire.specs.NumberLaws.{length-toBe}
 use Rattle.wire.specs.Refusal.{noRoom, wideNumber}
 use Rattle.wire.specs.Store.{laid, placed, placed-fits, laid-laid, length-laid}
-use Rattle.paths.specs.Segment.{widthOf}
-use Rattle.paths.specs.Aggregator.{fitsWidth, withNumber, aggregatorBytes, aggregatorWritten, aggregatorLeft}
-use Rattle.paths.specs.Promises.{written}
-use Rattle.paths.specs.declared.AsnLength.{AsnLength}
-use Rattle.paths.specs.declared.AsnLength.the-variants.{Bits32}
-use Rattle.paths.specs.declared.WriteAnswer.{WriteAnswer}
-use Rattle.paths.specs.declared.WriteAnswer.the-variants.{Written, Refused}
-
-pub fits-lt : (asn : ℕ) (width : AsnLength) → fitsWidth asn width ≡ true → asn < 256 ^ widthOf width
-fits-lt asn width e = ltb-true asn (256 ^ widthOf width) e
-
--- every number of 32 bits fits four bytes
-pub fits-four : (asn : ℕ) → asn < 2 ^ 32 → fitsWidth asn Bits32 ≡ true
-fits-four asn h = le-leb _ _ h
-
--- ---- a number put
-
-pub put-not : (out : List ℕ) (to asn : ℕ) (width : AsnLength) → fitsWidth asn width ≡ false → out ≡ withNumber out to asn width
-unfolding withNumber
-put-not out to asn width e = rw e
-
-pub put-fits : (out : List ℕ) (to asn : ℕ) (width : AsnLength) → fitsWidth asn width ≡ true → placed out to (toBe (widthOf width) asn) ≡ withNumber out to asn width
-unfolding withNumber
-put-fits out to asn width e = rw e
-
-pub put-room : (out : List ℕ) (to asn : ℕ) (width : AsnLength) → fitsWidth asn width ≡ true → to + widthOf width ≤ length out
-    → withNumber out to asn width ≡ laid out to (toBe (widthOf width) asn)
-put-room out to asn width e h =
-    sym (put-fits out to asn width e) ∙ placed-fits out to (toBe (widthOf width) asn) (omega (arith, length-toBe (widthOf width) asn))
+use Rattle.asns.specs.Asn.{widthOf, fitsWidth, withNumber, written}
+use Rattle.asns.specs.AsnLaws.{put-room}
+use Rattle.asns.specs.Aggregator.{aggregatorBytes, aggregatorWritten, aggregatorLeft}
+use Rattle.asns.specs.declared.AsnLength.{AsnLength}
+use Rattle.asns.specs.declared.WriteAnswer.{WriteAnswer}
+use Rattle.asns.specs.declared.WriteAnswer.the-variants.{Written, Refused}
 
 -- ---- an AGGREGATOR written
 

@@ -1,9 +1,9 @@
 use mathlib.Core.Path.{sym}
 use native.Mathlib.Omega.{arith}
-use Rattle.paths.specs.AggregatorLaws.{fits-four}
+use Rattle.asns.specs.AsnLaws.{fits-four}
 use borrow.Author.Needs.{needs}
-use Rattle.paths.proofs.fits_width.Statement.{statement}
-use Rattle.paths.proofs.fits_width.Tie as tie
+use Rattle.asns.proofs.fits_width.Statement.{statement}
+use Rattle.asns.proofs.fits_width.Tie as tie
 
 enum-told : tie.Need-enum-told
 enum-told c = search needs

@@ -3,17 +3,16 @@ use mathlib.Core.Path.{_≡_, sym, ap, _∙_}
 use native.Mathlib.Omega.{arith}
 use Prim.Native.Nat.{ℕ, _<_}
 use mathlib.Core.Bool.{true}
-use Rattle.paths.specs.Aggregator.{fitsWidth}
-use Rattle.paths.specs.declared.AsnLength.{AsnLength}
-use Rattle.paths.specs.declared.AsnLength.the-variants.{Bits16}
+use Rattle.asns.specs.Asn.{fitsWidth, widthOf}
+use Rattle.asns.specs.declared.AsnLength.{AsnLength}
+use Rattle.asns.specs.declared.AsnLength.the-variants.{Bits16}
 use lib.Seq.{take-all}
 use Rattle.wire.specs.Number.{toBe}
 use Rattle.wire.specs.Store.{placed}
-use Rattle.paths.specs.Segment.{widthOf}
-use Rattle.paths.specs.AggregatorLaws.{fits-lt, put-not, put-fits}
+use Rattle.asns.specs.AsnLaws.{fits-lt, put-not, put-fits}
 use borrow.Author.Needs.{needs}
-use Rattle.paths.proofs.put_number.Statement.{statement}
-use Rattle.paths.proofs.put_number.Tie as tie
+use Rattle.asns.proofs.put_number.Statement.{statement}
+use Rattle.asns.proofs.put_number.Tie as tie
 
 fits-width-requires : tie.Need-fits-width-requires
 fits-width-requires c κs = search needs

@@ -1,6 +1,6 @@
 use borrow.Author.Needs.{needs}
-use Rattle.paths.proofs.number_at.Statement.{statement}
-use Rattle.paths.proofs.number_at.Tie as tie
+use Rattle.asns.proofs.number_at.Statement.{statement}
+use Rattle.asns.proofs.number_at.Tie as tie
 
 enum-told : tie.Need-enum-told
 enum-told c = search needs

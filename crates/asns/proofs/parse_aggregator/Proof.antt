@@ -1,8 +1,8 @@
 use borrow.Author.Tests.{le-leb, lt-leb, eq-eqb, ne-eqb}
-use Rattle.paths.specs.Aggregator.{aggregatorOf}
+use Rattle.asns.specs.Aggregator.{aggregatorOf}
 use borrow.Author.Needs.{needs}
-use Rattle.paths.proofs.parse_aggregator.Statement.{statement}
-use Rattle.paths.proofs.parse_aggregator.Tie as tie
+use Rattle.asns.proofs.parse_aggregator.Statement.{statement}
+use Rattle.asns.proofs.parse_aggregator.Tie as tie
 
 returns : tie.Need-returns
 unfolding aggregatorOf

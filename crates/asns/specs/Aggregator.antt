@@ -1,21 +1,19 @@
 -- AGGREGATOR. RFC 4271 section 4.3: an AS number of two octets and an identifier of four. RFC 6793 section 4.1: an AS number of four.
-use Prim.Native.Nat.{ℕ, _^_}
+use Prim.Native.Nat.{ℕ}
 use mathlib.Core.List.{List, _++_}
 use mathlib.Core.Bool.{Bool, true, false}
 use lib.ListN.{length}
-use lib.Dec.{leb, ltb, eqb}
+use lib.Dec.{leb, eqb}
 use Rattle.wire.specs.Choice.{pick}
 use Rattle.wire.specs.Number.{beAt, toBe}
 use Rattle.wire.specs.Refusal.{tooLong, aggregatorLength, noRoom, wideNumber, listLimit}
-use Rattle.wire.specs.Store.{placed}
-use Rattle.paths.specs.Segment.{widthOf}
-use Rattle.paths.specs.Promises.{written}
-use Rattle.paths.specs.declared.AsnLength.{AsnLength}
-use Rattle.paths.specs.declared.AsnLength.the-variants.{Bits16, Bits32}
-use Rattle.paths.specs.declared.AggregatorAnswer.{AggregatorAnswer}
-use Rattle.paths.specs.declared.AggregatorAnswer.the-variants as A
-use Rattle.paths.specs.declared.WriteAnswer.{WriteAnswer}
-use Rattle.paths.specs.declared.WriteAnswer.the-variants as W
+use Rattle.asns.specs.Asn.{widthOf, fitsWidth, written}
+use Rattle.asns.specs.declared.AsnLength.{AsnLength}
+use Rattle.asns.specs.declared.AsnLength.the-variants.{Bits16, Bits32}
+use Rattle.asns.specs.declared.AggregatorAnswer.{AggregatorAnswer}
+use Rattle.asns.specs.declared.AggregatorAnswer.the-variants as A
+use Rattle.asns.specs.declared.WriteAnswer.{WriteAnswer}
+use Rattle.asns.specs.declared.WriteAnswer.the-variants as W
 
 -- ---- reading
 
@@ -40,14 +38,6 @@ aggregatorOf s width =
     (A.Refused tooLong)
 
 -- ---- writing
-
--- the width's bytes hold the number
-abbrev pub fitsWidth : ℕ → AsnLength → Bool
-fitsWidth asn width = ltb asn (256 ^ widthOf width)
-
--- an output with the number at a place, where the width holds it and there is room
-unfoldable pub withNumber : List ℕ → ℕ → ℕ → AsnLength → List ℕ
-withNumber out to asn width = pick (fitsWidth asn width) (placed out to (toBe (widthOf width) asn)) out
 
 unfoldable pub aggregatorBytes : AsnLength → ℕ → ℕ → List ℕ
 aggregatorBytes width asn identifier = toBe (widthOf width) asn ++ toBe 4 identifier

@@ -6,13 +6,13 @@ use native.Mathlib.Omega.{arith}
 use lib.ListN.{length, take}
 use Rattle.wire.specs.Number.{toBe}
 use Rattle.wire.specs.Store.{placed}
-use Rattle.paths.specs.Segment.{widthOf}
-use Rattle.paths.specs.SegmentLaws.{width-most}
-use Rattle.paths.specs.AggregatorLaws.{leave, too-wide, no-place, all-written, both-put}
-use Rattle.paths.specs.declared.WriteAnswer.the-variants.{Written}
+use Rattle.asns.specs.Asn.{widthOf}
+use Rattle.asns.specs.AsnLaws.{width-most}
+use Rattle.asns.specs.AggregatorLaws.{leave, too-wide, no-place, all-written, both-put}
+use Rattle.asns.specs.declared.WriteAnswer.the-variants.{Written}
 use borrow.Author.Needs.{needs}
-use Rattle.paths.proofs.encode_aggregator.Statement.{statement}
-use Rattle.paths.proofs.encode_aggregator.Tie as tie
+use Rattle.asns.proofs.encode_aggregator.Statement.{statement}
+use Rattle.asns.proofs.encode_aggregator.Tie as tie
 
 fits-width-requires : tie.Need-fits-width-requires
 fits-width-requires c κs = search needs
