@@ -76,6 +76,15 @@ fn show_sequence(count: u32, numbers: &[u32], width: AsnLength) {
     show_written(path_writer::encode_as_path(&pairs, numbers, width, &mut out));
 }
 
+// As many numbers as a segment holds, and one more.
+fn show_most() {
+    show_sequence(255, &[65001u32; 255], AsnLength::Bits32);
+}
+
+fn show_more() {
+    show_sequence(256, &[65001u32; 256], AsnLength::Bits32);
+}
+
 // An AGGREGATOR that is read: its number, its identifier's four bytes as one number, and whether the width differs.
 fn show_aggregator(value: &[u8], width: AsnLength) {
     match asns::parse_aggregator(value, width) {
@@ -122,8 +131,8 @@ fn main() {
         AsnLength::Bits16,
     );
     show_sequence(1, &[65536u32; 1], AsnLength::Bits16);
-    show_sequence(255, &[65001u32; 255], AsnLength::Bits32);
-    show_sequence(256, &[65001u32; 256], AsnLength::Bits32);
+    show_most();
+    show_more();
     show_sequence(2, &[65001u32; 1], AsnLength::Bits32);
     show_aggregator(b"\xFD\xE9\x0A\x00\x00\x01", AsnLength::Bits16);
     show_aggregator(b"\xFD\xE9\x0A\x00\x00\x01", AsnLength::Bits32);
