@@ -7,7 +7,7 @@ use native.Mathlib.Nat.{add-zero, add-suc, add-assoc}
 use native.Mathlib.Omega.{arith}
 use borrow.Author.Tests.{le-leb, lt-leb}
 use lib.ListN.{length, take, drop, set, length-append, length-drop, take-append-drop}
-use lib.Seq.{sets, sets-eq, take-at, drop-at, length-take-le, drop-drop}
+use lib.Seq.{sets, sets-eq, take-at, drop-at, length-take-le, drop-drop, paste, take-length}
 use lib.Dec.{leb}
 use Rattle.wire.specs.Choice.{pick, pick-leb}
 use Rattle.wire.specs.NumberLaws.{off, off-add}
@@ -83,6 +83,15 @@ laid-laid d at vs ws h =
     ∙ append-assoc (take at d) vs (ws ++ drop (at + length (vs ++ ws)) d)
     ∙ ap (λ (r : List ℕ). take at d ++ r) (sym (append-assoc vs ws (drop (at + length (vs ++ ws)) d)))
 
+-- values placed after those at the front
+pub placed-next : (d vs : List ℕ) (at : ℕ) (ws : List ℕ) → at ≡ length vs → at + length ws ≤ length d → placed (laid d 0 vs) at ws ≡ laid d 0 (vs ++ ws)
+placed-next d vs at ws e h =
+    let zero-at : 0 + length vs ≡ at = omega arith in
+    let front : 0 + length vs ≤ length d = omega arith in
+    placed-fits (laid d 0 vs) at ws (omega (arith, length-laid d 0 vs front))
+    ∙ ap (λ (k : ℕ). laid (laid d 0 vs) k ws) (sym zero-at)
+    ∙ laid-laid d 0 vs ws (omega arith)
+
 -- no values leave the list as it was
 pub laid-nil : (d : List ℕ) (at : ℕ) → laid d at [] ≡ d
 laid-nil d at = ap (λ (k : ℕ). take at d ++ drop k d) (add-zero at) ∙ take-append-drop at d
@@ -90,3 +99,8 @@ laid-nil d at = ap (λ (k : ℕ). take at d ++ drop k d) (add-zero at) ∙ take-
 pub placed-nil : (d : List ℕ) (at : ℕ) → placed d at [] ≡ d
 unfolding placed
 placed-nil d at = pick-leb (λ (l : List ℕ). l ≡ d) (at + 0) (length d) (laid d at []) d (λ _. laid-nil d at) (λ _. refl)
+
+-- what a copy element by element leaves, once all are copied
+pub paste-laid : (d : List ℕ) (at : ℕ) (vs : List ℕ) → paste d at vs (length vs) ≡ laid d at vs
+paste-laid d at vs =
+    ap (λ (l : List ℕ). (take at d ++ l) ++ drop (at + length vs) d) (take-length vs) ∙ append-assoc (take at d) vs (drop (at + length vs) d)

@@ -104,3 +104,20 @@ fn put4(out: &mut [u8], to: usize, v: u32)
     out[to + 2] = (v / 256 % 256) as u8;
     out[to + 3] = (v % 256) as u8;
 }
+
+// All of src, at a place of the output.
+pub fn copy_at(out: &mut [u8], to: usize, src: &[u8])
+    ensures { λ _. ⌜ now (out .exit) ≡ placed (now (out .entry)) to (now (src .entry)) ⌝ }
+{
+    if out.len() < to {
+        return;
+    }
+    if out.len() - to < src.len() {
+        return;
+    }
+    let mut i: usize = 0;
+    while i < src.len() {
+        out[to + i] = src[i];
+        i = i + 1;
+    }
+}
