@@ -1,3 +1,4 @@
 pub mod Header
 pub mod HeaderLaws
 pub mod Written
+pub mod WrittenLaws

@@ -1,3 +1,4 @@
+use Rattle.messages.specs.WrittenLaws.{header-put}
 use borrow.Author.Needs.{needs}
 use Rattle.messages.proofs.put_header.Statement.{statement}
 use Rattle.messages.proofs.put_header.Tie as tie
@@ -47,7 +48,15 @@ same-length c = search needs
 
 -- src/lib.rt:240:1
 returns : tie.Need-returns
-returns c = ?
+returns c =
+    let p₅ = c .before .before in
+    let p₄ = p₅ .before .before .before .before in
+    let p₃ = p₄ .before .before .before .before in
+    let p₂ = p₃ .before .before .before .before in
+    let p₁ = p₂ .before .before .before .before in
+    let s = p₁ .before .before .before in
+    header-put (s .args .out .now) _ _ _ _ _ (s .args .total) (s .args .kind) (s .pre .0) (search needs) (s .pre .1)
+    (p₁ .put-octets .ensures) (p₂ .put-octets2 .ensures) (p₃ .put-octets3 .ensures) (p₄ .put-octets4 .ensures) (p₅ .put-octets5 .ensures)
 
 pub put-header-spec : {M : Type 1} → statement M
 put-header-spec =
