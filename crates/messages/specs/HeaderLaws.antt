@@ -5,7 +5,7 @@ use mathlib.Core.Path.{_≡_, refl, sym, ap, _∙_}
 use mathlib.Core.List.{List, [], _∷_, _++_}
 use mathlib.Core.Bool.{Bool, true, false, not}
 use native.Mathlib.Omega.{arith}
-use borrow.Author.Tests.{eq-eqb, ne-eqb, ltb-false, not-false}
+use borrow.Author.Tests.{eq-eqb, ne-eqb, le-leb, le-ltb, ltb-false, not-false}
 use lib.ListN.{length, getD, take, drop}
 use lib.Dec.{eqb, ltb}
 use lib.Seq.{drop-drop}
@@ -79,9 +79,9 @@ pub unless {ℓ} : (P : MessageAnswer → Type ℓ) (test : Bool) (n : ℕ) (nex
 unless P true n next r f = r
 unless P false n next r f = f refl
 
-pub smaller-left : (a b : ℕ) → smaller a b ≤ a
+pub smaller-is-left : (a b : ℕ) → a ≤ b → smaller a b ≡ a
 unfolding smaller
-smaller-left a b = pick-leb (λ (n : ℕ). n ≤ a) a b a b (λ h. omega arith) (λ h. omega arith)
+smaller-is-left a b h = rw (le-leb a b h)
 
 pub smaller-right : (a b : ℕ) → smaller a b ≤ b
 unfolding smaller
@@ -105,6 +105,10 @@ inside-low lo hi n e = inside-both lo hi n e .0
 
 pub inside-high : (lo hi n : ℕ) → isOutside lo hi n ≡ false → n ≤ hi
 inside-high lo hi n e = inside-both lo hi n e .1
+
+pub inside : (lo hi n : ℕ) → lo ≤ n → n ≤ hi → isOutside lo hi n ≡ false
+unfolding isOutside
+inside lo hi n low high = rw (le-ltb n lo low) (le-ltb hi n high)
 
 -- what the crate's reading has found of a message that it does not refuse
 pub record Accepted (s : List ℕ) : Type 0 where
@@ -160,6 +164,25 @@ module _ {ℓ} (s : List ℕ) (P : MessageAnswer → Type ℓ) (bad : (n : ℕ) 
         most = inside-high (leastLength (kindOf s)) (mostLength (kindOf s)) (claimedOf s) own;
         there = ltb-false (length s) (claimedOf s) there;
       })))))))
+
+-- and a message of which that is so is accepted
+pub accepted-by : (s : List ℕ) → Accepted s → messageOf s ≡ accepted s
+unfolding messageOf
+accepted-by s h =
+    let body : takenOf s - headerSize ≤ length s - headerSize = omega (arith, smaller-right (claimedOf s) (length s)) in
+    simp (le-ltb (length s) headerSize (h .long), le-ltb (claimedOf s) headerSize (h .claims), h .known, le-ltb (crateLimit (kindOf s)) (claimedOf s) (h .short), le-ltb (length s - headerSize) (takenOf s - headerSize) body)
+
+pub whole-by : (limit : ℕ) (s : List ℕ) → Whole limit s → strictWithin limit s ≡ whole s
+unfolding strictWithin
+whole-by limit s h =
+    simp (
+      le-ltb (length s) headerSize (h .long),
+      h .ones,
+      inside headerSize limit (claimedOf s) (h .claims) (h .within),
+      h .known,
+      inside (leastLength (kindOf s)) (mostLength (kindOf s)) (claimedOf s) (h .least) (h .most),
+      le-ltb (length s) (claimedOf s) (h .there)
+    )
 
 -- what is taken of a message that is not refused is there
 pub message-fits : (s : List ℕ) → Fits (messageOf s) (length s)

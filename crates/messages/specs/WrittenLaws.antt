@@ -5,15 +5,17 @@ use mathlib.Core.Path.{_≡_, refl, sym, ap, ap₂, _∙_}
 use mathlib.Core.List.{List, [], _∷_, _++_}
 use mathlib.Core.Bool.{Bool, true, false}
 use native.Mathlib.Omega.{arith}
-use borrow.Author.Tests.{lt-ltb}
-use lib.ListN.{length, take}
+use borrow.Author.Tests.{lt-ltb, ltb-false}
+use lib.ListN.{length, take, drop, length-append}
 use lib.Dec.{ltb, eqb}
-use Rattle.wire.specs.Choice.{pick-any}
-use Rattle.wire.specs.Number.{toBe}
+use Rattle.wire.specs.Choice.{pick-any, pick-eqb}
+use Rattle.wire.specs.Number.{toBe, beAt}
 use Rattle.wire.specs.NumberLaws.{toBe-four}
+use Rattle.wire.specs.Refusal.{messageType, messageLength, noRoom}
 use Rattle.wire.specs.Store.{laid, placed, placed-next, placed-fits}
-use Rattle.messages.specs.Header.{openKind, keepaliveKind, headerSize, messageLimit, extendedLimit, crateLimit, mostLength, isOutside}
-use Rattle.messages.specs.Written.{header, totalOf, messageBytes, writeAnswer, laidBy, outAfter}
+use Rattle.messages.specs.Header.{openKind, keepaliveKind, headerSize, messageLimit, extendedLimit, crateLimit, leastLength, mostLength, isOutside, isUnknown, allFF, markerOf, claimedOf, kindOf}
+use Rattle.messages.specs.HeaderLaws.{inside-low, inside-high}
+use Rattle.messages.specs.Written.{header, totalOf, messageBytes, refusedIf, writeAnswer, laidBy, outAfter}
 use Rattle.messages.specs.declared.WriteAnswer.{WriteAnswer}
 use Rattle.messages.specs.declared.WriteAnswer.the-variants.{Written, Refused}
 
@@ -60,6 +62,14 @@ most-small kind =
     pick-any P (eqb kind keepaliveKind) headerSize (crateLimit kind) (omega arith)
     (pick-any P (eqb kind openKind) messageLimit _ (omega arith) (pick-any P (eqb kind keepaliveKind) messageLimit extendedLimit (omega arith) (omega arith)))
 
+pub most-crate : (kind : ℕ) → mostLength kind ≤ crateLimit kind
+unfolding mostLength crateLimit
+most-crate kind =
+    pick-eqb (λ (n : ℕ). n ≤ crateLimit kind) kind keepaliveKind headerSize (crateLimit kind)
+    (λ _. let P : ℕ → Type 0 = λ n. headerSize ≤ n in
+    pick-any P (eqb kind openKind) messageLimit _ (omega arith) (pick-any P (eqb kind keepaliveKind) messageLimit extendedLimit (omega arith) (omega arith)))
+    (λ _. omega arith)
+
 pub over-outside : (lo hi n : ℕ) → hi < n → isOutside lo hi n ≡ true
 unfolding isOutside
 over-outside lo hi n h = rw (lt-ltb hi n h) (pick-any (λ (t : Bool). t ≡ true) (ltb n lo) true true refl refl)
@@ -77,3 +87,55 @@ unfolding messageBytes
 body-put kind body d d₁ d₂ room e₁ e₂ =
     let h : List ℕ = header (totalOf body) kind in
     e₂ ∙ ap (λ (l : List ℕ). placed l headerSize body) e₁ ∙ placed-next d h headerSize body (sym (length-header (totalOf body) kind)) room
+
+-- ---- what was written, read again, whatever follows it
+
+-- what the writer found of a message that it does not refuse
+pub record Fit (kind : ℕ) (body : List ℕ) (places n : ℕ) : Type 0 where
+  pub known : isUnknown kind ≡ false
+  pub least : leastLength kind ≤ totalOf body
+  pub most : totalOf body ≤ mostLength kind
+  pub room : totalOf body ≤ places
+  pub size : n ≡ totalOf body
+
+unless {ℓ} : (P : WriteAnswer → Type ℓ) (test : Bool) (m : ℕ) (next : WriteAnswer) → P (Refused m) → (test ≡ false → P next) → P (refusedIf test m next)
+unless P true m next r f = r
+unless P false m next r f = f refl
+
+pub written-fit : (kind : ℕ) (body : List ℕ) (places n : ℕ) → writeAnswer kind body places ≡ Written n → Fit kind body places n
+unfolding writeAnswer
+written-fit kind body places n =
+    let never : (m : ℕ) → Refused m ≡ Written n → Fit kind body places n = λ m e. let z : _≡_ {A = ℕ} 0 1 = cc in absurd (omega arith) in
+    let P : WriteAnswer → Type 0 = λ a. a ≡ Written n → Fit kind body places n in
+    let total : ℕ = totalOf body in
+    unless P (isUnknown kind) messageType _ (never messageType) (λ known.
+    unless P (isOutside (leastLength kind) (mostLength kind) total) messageLength _ (never messageLength) (λ own.
+    unless P (ltb places total) noRoom (Written total) (never noRoom) (λ room e.
+    record {
+      known = known;
+      least = inside-low (leastLength kind) (mostLength kind) total own;
+      most = inside-high (leastLength kind) (mostLength kind) total own;
+      room = ltb-false places total room;
+      size = cc;
+    })))
+
+module _ (kind : ℕ) (body rest : List ℕ) where
+  pub written-long : length (messageBytes kind body ++ rest) ≡ totalOf body + length rest
+  unfolding messageBytes header
+  written-long = omega (arith, length-append (messageBytes kind body) rest, length-append (header (totalOf body) kind) body)
+
+  pub written-kind : kindOf (messageBytes kind body ++ rest) ≡ kind
+  unfolding messageBytes header
+  written-kind = refl
+
+  pub written-marker : allFF (markerOf (messageBytes kind body ++ rest)) ≡ true
+  unfolding messageBytes header allFF
+  written-marker = refl
+
+  pub written-past : drop headerSize (messageBytes kind body ++ rest) ≡ body ++ rest
+  unfolding messageBytes header
+  written-past = refl
+
+  pub written-claimed : totalOf body ≤ extendedLimit → claimedOf (messageBytes kind body ++ rest) ≡ totalOf body
+  unfolding messageBytes header beAt
+  written-claimed h = omega arith
