@@ -37,18 +37,13 @@ octets l = (l + 7) / 8
 unfoldable pub wordAt : List ℕ → ℕ → ℕ
 wordAt o i = beAt o i 4
 
--- the row of an item's bytes: no bit of them is changed
+-- the row of address octets, a first word and an id
+unfoldable pub rowOf : List ℕ → ℕ → ℕ → Row
+rowOf o first id = record { first = first; id = id; w0 = wordAt o 0; w1 = wordAt o 4; w2 = wordAt o 8; w3 = wordAt o 12 }
+
+-- the row of an item's bytes: id where there is one, length, octets; no bit of them is changed
 unfoldable pub itemRow : Form → List ℕ → Row
-itemRow form item =
-    let o : List ℕ = drop (idSize form + 1) item in
-    record {
-      first = getD item (idSize form) 0 + markOf form;
-      id = be (take (idSize form) item);
-      w0 = wordAt o 0;
-      w1 = wordAt o 4;
-      w2 = wordAt o 8;
-      w3 = wordAt o 12;
-    }
+itemRow form item = rowOf (drop (idSize form + 1) item) (getD item (idSize form) 0 + markOf form) (be (take (idSize form) item))
 
 -- six words to a row
 abbrev pub words : Row → List ℕ

@@ -3,9 +3,10 @@ ghost use mathlib.Core.Path.{_≡_};
 ghost use Prim.Native.Nat.{_+_, _-_, _*_, _/_, _^_, _≤_, _<_};
 ghost use mathlib.Core.List.{[], _∷_};
 ghost use lib.ListN.{length, getD, take};
+ghost use Rattle.wire.specs.Number.{beAt};
 ghost use Rattle.wire.specs.Store.{laid};
 ghost use Rattle.wire.specs.Walk.{flat};
-ghost use Rattle.routes.specs.Prefix.{maxOf, idSize, octets, wordAt, itemRow, words, prefixOf};
+ghost use Rattle.routes.specs.Prefix.{maxOf, idSize, markOf, octets, wordAt, rowOf, itemRow, words, prefixOf};
 ghost use Rattle.routes.specs.List.{plainHere, stepOf, listOf, sectionOf, strange};
 ghost use Rattle.routes.specs.Size.{sizeOf, sized, kept};
 ghost use Rattle.routes.specs.Promises.{countAnswer, readAnswer, storeAfter};
@@ -152,4 +153,262 @@ fn put_words(store: &mut [u32], to: usize, first: u32, id: u32, w0: u32, w1: u32
     store[to + 3] = w1;
     store[to + 4] = w2;
     store[to + 5] = w3;
+}
+
+// The row of n octets at the front of t, at a place of a store. A family of at most 32 bits has one address word.
+fn put_row(store: &mut [u32], to: usize, t: &[u8], n: usize, max: u8, first: u32, id: u32)
+    requires { ⌜ to + 6 ≤ length (now store) ⌝ }
+    requires { ⌜ n ≤ octets max ⌝ }
+    ensures { λ _. ⌜ now (store .exit) ≡ laid (now (store .entry)) to (words (rowOf (take n (now (t .entry))) first id)) ⌝ }
+{
+    if max <= 32 {
+        put_words(store, to, first, id, word_of(t, 0, n), 0, 0, 0);
+        return;
+    }
+    put_words(
+        store,
+        to,
+        first,
+        id,
+        word_of(t, 0, n),
+        word_of(t, 4, n),
+        word_of(t, 8, n),
+        word_of(t, 12, n),
+    );
+}
+
+// What an id adds to a row's first word.
+fn mark_of(form: Form) -> u32
+    ensures { λ r. ⌜ r ≡ markOf form ⌝ }
+{
+    match form {
+        Form::Plain => 0,
+        Form::Tagged => 256,
+    }
+}
+
+// The id of the item at the front of s, 0 where the form has none.
+fn id_of(s: &[u8], form: Form) -> u32
+    ensures { λ r. ⌜ r ≡ beAt (now (s .entry)) 0 (idSize form) ⌝ }
+{
+    match form {
+        Form::Plain => 0,
+        Form::Tagged => wire::u32_at(s, 0),
+    }
+}
+
+// The row of the item of e bytes at the front of s, at a place of a store.
+fn put_item(store: &mut [u32], to: usize, s: &[u8], e: usize, max: u8, form: Form)
+    requires { ⌜ to + 6 ≤ length (now store) ⌝ }
+    requires { ⌜ idSize form + 1 ≤ e ⌝ }
+    requires { ⌜ e ≤ idSize form + 1 + octets max ⌝ }
+    requires { ⌜ e ≤ length (now s) ⌝ }
+    ensures { λ _. ⌜ now (store .exit) ≡ laid (now (store .entry)) to (words (itemRow form (take e (now (s .entry))))) ⌝ }
+{
+    let k = id_size(form);
+    let b = k + 1;
+    let first = wire::wide(s[k]) + mark_of(form);
+    put_row(store, to, &s[b..], e - b, max, first, id_of(s, form));
+}
+
+// One route, in a form: the bytes it takes and its row.
+pub fn try_parse_prefix(s: &[u8], afi: Afi, form: Form) -> PrefixAnswer
+    ensures answer { λ r. ⌜ r ≡ prefixOf (now (s .entry)) (maxOf afi) form ⌝ }
+{
+    let max = max_len(afi);
+    match item_size(s, max, form) {
+        SizeAnswer::Size(used) => PrefixAnswer::Prefix {
+            used,
+            row: row_of(s, used, max, form),
+        },
+        SizeAnswer::Refused(n) => PrefixAnswer::Refused(n),
+    }
+}
+
+// The row of the item of e bytes at the front of s.
+fn row_of(s: &[u8], e: usize, max: u8, form: Form) -> Row
+    requires { ⌜ idSize form + 1 ≤ e ⌝ }
+    requires { ⌜ e ≤ idSize form + 1 + octets max ⌝ }
+    requires { ⌜ e ≤ length (now s) ⌝ }
+    ensures { λ r. ⌜ r ≡ itemRow form (take e (now (s .entry))) ⌝ }
+{
+    let mut row = [0u32; 6];
+    put_item(&mut row, 0, s, e, max, form);
+    Row {
+        first: row[0],
+        id: row[1],
+        w0: row[2],
+        w1: row[3],
+        w2: row[4],
+        w3: row[5],
+    }
+}
+
+// An item's size, with the form it was read in.
+fn keep_size(a: SizeAnswer, form: Form) -> StepAnswer
+    ensures { λ r. ⌜ r ≡ kept a form ⌝ }
+{
+    match a {
+        SizeAnswer::Size(used) => StepAnswer::Item { used, form },
+        SizeAnswer::Refused(n) => StepAnswer::Refused(n),
+    }
+}
+
+// Whether the guess reads here without an id: in Plain, at a byte other than 0.
+fn plain_here(s: &[u8], form: Form) -> bool
+    ensures { λ r. ⌜ r ≡ plainHere form (getD (now (s .entry)) 0 0) ⌝ }
+{
+    match form {
+        Form::Plain => wire::octet(s, 0) != 0,
+        Form::Tagged => false,
+    }
+}
+
+// A step of the guess: the item is tried with an id, and else the same place is read without.
+fn guess_size(s: &[u8], max: u8, form: Form) -> StepAnswer
+    ensures { λ r. ⌜ r ≡ sized (stepOf max AddPath.Guess form (now (s .entry))) ⌝ }
+{
+    if plain_here(s, form) {
+        return keep_size(item_size(s, max, Form::Plain), Form::Plain);
+    }
+    match item_size(s, max, Form::Tagged) {
+        SizeAnswer::Size(used) => StepAnswer::Item {
+            used,
+            form: Form::Tagged,
+        },
+        SizeAnswer::Refused(_) => keep_size(item_size(s, max, Form::Plain), Form::Plain),
+    }
+}
+
+// A step under a setting.
+fn step_size(s: &[u8], max: u8, mode: AddPath, form: Form) -> StepAnswer
+    ensures { λ r. ⌜ r ≡ sized (stepOf max mode form (now (s .entry))) ⌝ }
+{
+    match mode {
+        AddPath::On => keep_size(item_size(s, max, Form::Tagged), Form::Tagged),
+        AddPath::Off => keep_size(item_size(s, max, Form::Plain), Form::Plain),
+        AddPath::Guess => guess_size(s, max, form),
+    }
+}
+
+// How many rows a list has.
+fn count_rows(s: &[u8], max: u8, mode: AddPath) -> ListAnswer
+    ensures { λ r. ⌜ r ≡ countAnswer (now (s .entry)) (listOf (now (s .entry)) max mode) ⌝ }
+{
+    if wire::LIST_LIMIT < s.len() {
+        return ListAnswer::Refused(refusal::TOO_LONG);
+    }
+    let mut at: usize = 0;
+    let mut count: usize = 0;
+    let mut form = Form::Plain;
+    while at < s.len() {
+        match step_size(&s[at..], max, mode, form) {
+            StepAnswer::Item { used, form: next } => {
+                at = at + used;
+                count = count + 1;
+                form = next;
+            }
+            StepAnswer::Refused(n) => {
+                return ListAnswer::Refused(n);
+            }
+        }
+    }
+    ListAnswer::Rows(count)
+}
+
+// The rows of a good list that has room, from the front of a store.
+fn fill_rows(s: &[u8], max: u8, mode: AddPath, store: &mut [u32])
+    requires { ⌜ listOf (now s) max mode .verdict ≡ 0 ⌝ }
+    requires { ⌜ length (flat words (listOf (now s) max mode .rows)) ≤ length (now store) ⌝ }
+    ensures { λ _. ⌜ now (store .exit) ≡ laid (now (store .entry)) 0 (flat words (listOf (now (s .entry)) max mode .rows)) ⌝ }
+{
+    let mut at: usize = 0;
+    let mut to: usize = 0;
+    let mut form = Form::Plain;
+    while at < s.len() {
+        match step_size(&s[at..], max, mode, form) {
+            StepAnswer::Item { used, form: next } => {
+                put_item(store, to, &s[at..], used, max, next);
+                at = at + used;
+                to = to + 6;
+                form = next;
+            }
+            StepAnswer::Refused(_) => {
+                return;
+            }
+        }
+    }
+}
+
+// A list under a setting, into a lent store.
+fn read_rows(s: &[u8], max: u8, mode: AddPath, store: &mut [u32]) -> ListAnswer
+    ensures answer { λ r. ⌜ r ≡ readAnswer (now (s .entry)) (listOf (now (s .entry)) max mode) (length (now (store .entry))) ⌝ }
+    ensures store { λ _. ⌜ now (store .exit) ≡ storeAfter (now (s .entry)) (listOf (now (s .entry)) max mode) (now (store .entry)) ⌝ }
+{
+    match count_rows(s, max, mode) {
+        ListAnswer::Rows(n) => {
+            if store.len() / 6 < n {
+                return ListAnswer::Refused(refusal::NO_ROOM);
+            }
+            fill_rows(s, max, mode, store);
+            ListAnswer::Rows(n)
+        }
+        ListAnswer::Refused(n) => ListAnswer::Refused(n),
+    }
+}
+
+// How many rows a list has, with no store.
+pub fn count_nlri_list(s: &[u8], afi: Afi, mode: AddPath) -> ListAnswer
+    ensures answer { λ r. ⌜ r ≡ countAnswer (now (s .entry)) (listOf (now (s .entry)) (maxOf afi) mode) ⌝ }
+{
+    let max = max_len(afi);
+    match mode {
+        AddPath::On => count_rows(s, max, AddPath::On),
+        AddPath::Off => count_rows(s, max, AddPath::Off),
+        AddPath::Guess => count_rows(s, max, AddPath::Guess),
+    }
+}
+
+// A list into a lent store, six words a row.
+pub fn parse_nlri_list(s: &[u8], afi: Afi, mode: AddPath, store: &mut [u32]) -> ListAnswer
+    ensures answer { λ r. ⌜ r ≡ readAnswer (now (s .entry)) (listOf (now (s .entry)) (maxOf afi) mode) (length (now (store .entry))) ⌝ }
+    ensures store { λ _. ⌜ now (store .exit) ≡ storeAfter (now (s .entry)) (listOf (now (s .entry)) (maxOf afi) mode) (now (store .entry)) ⌝ }
+{
+    let max = max_len(afi);
+    match mode {
+        AddPath::On => read_rows(s, max, AddPath::On, store),
+        AddPath::Off => read_rows(s, max, AddPath::Off, store),
+        AddPath::Guess => read_rows(s, max, AddPath::Guess, store),
+    }
+}
+
+// Whether a section is one byte, and not 0.
+fn is_strange(s: &[u8]) -> bool
+    ensures { λ r. ⌜ r ≡ strange (now (s .entry)) ⌝ }
+{
+    if s.len() != 1 {
+        return false;
+    }
+    s[0] != 0
+}
+
+// How many rows a section of an UPDATE has, with no store.
+pub fn count_nlri(s: &[u8], afi: Afi, mode: AddPath) -> ListAnswer
+    ensures answer { λ r. ⌜ r ≡ countAnswer (now (s .entry)) (sectionOf (now (s .entry)) (maxOf afi) mode) ⌝ }
+{
+    if is_strange(s) {
+        return ListAnswer::Refused(refusal::ONE_BYTE_SECTION);
+    }
+    count_nlri_list(s, afi, mode)
+}
+
+// A section of an UPDATE into a lent store, six words a row.
+pub fn read_nlri(s: &[u8], afi: Afi, mode: AddPath, store: &mut [u32]) -> ListAnswer
+    ensures answer { λ r. ⌜ r ≡ readAnswer (now (s .entry)) (sectionOf (now (s .entry)) (maxOf afi) mode) (length (now (store .entry))) ⌝ }
+    ensures store { λ _. ⌜ now (store .exit) ≡ storeAfter (now (s .entry)) (sectionOf (now (s .entry)) (maxOf afi) mode) (now (store .entry)) ⌝ }
+{
+    if is_strange(s) {
+        return ListAnswer::Refused(refusal::ONE_BYTE_SECTION);
+    }
+    parse_nlri_list(s, afi, mode, store)
 }
