@@ -15,7 +15,7 @@ use Rattle.wire.specs.NumberLaws.{padded-cells, padded-add, padded-take}
 use Rattle.wire.specs.Refusal.{truncated, messageLength, messageType, shortBody, badMarker}
 use Rattle.messages.specs.Header.{allFF, refusedIf, smaller, isOutside, isUnknown, headerSize, crateLimit, leastLength, mostLength, messageOf, strictWithin, markerOf, claimedOf, kindOf, takenOf, accepted, whole, Fits}
 use Rattle.messages.specs.declared.MessageAnswer.{MessageAnswer}
-use Rattle.messages.specs.declared.MessageAnswer.the-variants.{Message, Refused}
+use Rattle.messages.specs.declared.MessageAnswer.the-variants.{Refused}
 
 -- ---- the marker
 
@@ -61,7 +61,7 @@ module _ (s : List ℕ) (long : 16 ≤ length s) where
       ∙ sym (padded-add 4 12 s)
       ∙ ap (λ (l : List ℕ). padded 4 s ++ l) (sym (padded-add 4 8 (drop 4 s)))
       ∙ ap (λ (l : List ℕ). padded 4 s ++ (padded 4 (drop 4 s) ++ l))
-        (ap (padded 8) (drop-drop 4 4 s) ∙ sym (padded-add 4 4 (drop 8 s)) ∙ ap (λ (l : List ℕ). padded 4 (drop 8 s) ++ padded 4 l) (drop-drop 4 8 s))
+      (ap (padded 8) (drop-drop 4 4 s) ∙ sym (padded-add 4 4 (drop 8 s)) ∙ ap (λ (l : List ℕ). padded 4 (drop 8 s) ++ padded 4 l) (drop-drop 4 8 s))
 
   pub marker-words : allFF (take 16 s)
       ≡ pick (allFF (padded 4 (drop 0 s))) (pick (allFF (padded 4 (drop 4 s))) (pick (allFF (padded 4 (drop 8 s))) (allFF (padded 4 (drop 12 s))) false) false) false
@@ -70,7 +70,7 @@ module _ (s : List ℕ) (long : 16 ≤ length s) where
       ap allFF words
       ∙ allFF-append (word 0) (word 4 ++ (word 8 ++ word 12))
       ∙ ap (λ (x : Bool). pick (allFF (word 0)) x false)
-        (allFF-append (word 4) (word 8 ++ word 12) ∙ ap (λ (x : Bool). pick (allFF (word 4)) x false) (allFF-append (word 8) (word 12)))
+      (allFF-append (word 4) (word 8 ++ word 12) ∙ ap (λ (x : Bool). pick (allFF (word 4)) x false) (allFF-append (word 8) (word 12)))
 
 -- ---- the checks
 
@@ -181,7 +181,7 @@ whole-by limit s h =
       inside headerSize limit (claimedOf s) (h .claims) (h .within),
       h .known,
       inside (leastLength (kindOf s)) (mostLength (kindOf s)) (claimedOf s) (h .least) (h .most),
-      le-ltb (length s) (claimedOf s) (h .there)
+      le-ltb (length s) (claimedOf s) (h .there),
     )
 
 -- what is taken of a message that is not refused is there

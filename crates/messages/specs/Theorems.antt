@@ -3,18 +3,18 @@
 use Prim.Native.Nat.{ℕ, _+_, _-_, _≤_, _<_}
 use mathlib.Core.Path.{_≡_, refl, sym, ap, ap₂, _∙_}
 use mathlib.Core.List.{List, _++_}
-use mathlib.Core.Bool.{Bool, true, false, not}
+use mathlib.Core.Bool.{Bool, true, false}
 use native.Mathlib.Omega.{arith}
-use borrow.Author.Tests.{le-leb, le-ltb, lt-ltb, ltb-true, ltb-false}
-use lib.ListN.{length, take, drop}
+use borrow.Author.Tests.{le-ltb, lt-ltb, ltb-true, ltb-false}
+use lib.ListN.{length, take}
 use lib.Seq.{take-at}
 use lib.Dec.{ltb}
-use Rattle.messages.specs.Header.{headerSize, messageLimit, crateLimit, mostLength, smaller, claimedOf, kindOf, takenOf, markerOf, allFF, messageOf, strictWithin, strictOf, bodyIn}
+use Rattle.messages.specs.Header.{headerSize, smaller, claimedOf, messageOf, strictWithin, bodyIn}
 use Rattle.messages.specs.HeaderLaws.{smaller-is-left, Accepted, Whole, accepted-by, whole-by, message-cases, strict-cases}
 use Rattle.messages.specs.Written.{totalOf, messageBytes, writeAnswer}
 use Rattle.messages.specs.WrittenLaws.{most-small, most-crate, Fit, written-fit, written-long, written-kind, written-marker, written-past, written-claimed}
 use Rattle.messages.specs.declared.MessageAnswer.{MessageAnswer}
-use Rattle.messages.specs.declared.MessageAnswer.the-variants.{Message, Refused}
+use Rattle.messages.specs.declared.MessageAnswer.the-variants.{Message}
 use Rattle.messages.specs.declared.WriteAnswer.the-variants.{Written}
 
 -- ---- what is written is read again

@@ -53,7 +53,11 @@ fn outside(lo: usize, hi: usize, n: usize) -> bool
 fn unknown(kind: u8) -> bool
     ensures { λ r. ⌜ r ≡ isUnknown kind ⌝ }
 {
-    outside(kind::OPEN as usize, kind::ROUTE_REFRESH as usize, kind as usize)
+    outside(
+        kind::OPEN as usize,
+        kind::ROUTE_REFRESH as usize,
+        kind as usize,
+    )
 }
 
 // The most bytes that the crate takes of a type: OPEN and KEEPALIVE are never long.
@@ -143,10 +147,10 @@ pub fn parse_bgp_message(s: &[u8]) -> MessageAnswer
     if unknown(kind) {
         return MessageAnswer::Refused(refusal::MESSAGE_TYPE);
     }
+    let taken = least(claimed, s.len());
     if crate_limit(kind) < claimed {
         return MessageAnswer::Refused(refusal::MESSAGE_LENGTH);
     }
-    let taken = least(claimed, s.len());
     if s.len() - HEADER_SIZE < taken - HEADER_SIZE {
         return MessageAnswer::Refused(refusal::SHORT_BODY);
     }

@@ -1,48 +1,36 @@
 use native.Mathlib.Nat.{zero-add}
-use Rattle.messages.specs.Header.{headerSize, Fits, bodyIn, bodyStart}
-use Rattle.messages.specs.declared.MessageAnswer.{MessageAnswer}
-use Prim.Native.Nat.{ℕ, _≤_, _+_}
+use Rattle.messages.specs.Header.{headerSize}
+use Prim.Native.Nat.{ℕ, _≤_}
 use lib.ListN.{length}
-use mathlib.Core.Path.{_≡_, refl, sym, ap, _∙_}
-use native.Mathlib.Omega.{arith}
+use mathlib.Core.Path.{refl, sym, ap}
 use borrow.Author.Needs.{needs}
 use Rattle.messages.proofs.body_part.Statement.{statement}
 use Rattle.messages.proofs.body_part.Tie as tie
-use Rattle.messages.proofs.body_part.Reads as reads
-use Rattle.messages.proofs.body_part.Lts as lts
 
--- src/lib.rt:214:13
 enum-known-found : tie.Need-enum-known-found
 enum-known-found c = search needs
 
 fits : (c : tie.After-known-told) → (headerSize ≤ c .before .found .given .0 .1 .1 .0) × (c .before .found .given .0 .1 .1 .0 ≤ length (c .before .before .before .args .s .now))
 fits c = rw (c .before .found .given .1) at (c .before .before .before .pre)
 
--- src/lib.rt:218:14
 sub-result : tie.Need-sub-result
 sub-result c = fits c .0
 
--- src/lib.rt:218:14
 part-result-start : tie.Need-part-result-start
 part-result-start c = fits c .0
 
--- src/lib.rt:218:14
 part-result-end : tie.Need-part-result-end
 part-result-end c = fits c .1
 
--- src/lib.rt:219:38
 enum-told : tie.Need-enum-told
 enum-told c = search needs
 
--- src/lib.rt:219:38
 slice-aggregate-result : tie.Need-slice-aggregate-result
 slice-aggregate-result c = search needs
 
--- src/lib.rt:205:1
 returns : tie.Need-returns
 returns c = rw (c .before .before .found .given .1) (refl, refl)
 
--- src/lib.rt:205:1
 returns-2 : tie.Need-returns-2
 returns-2 c = rw (c .before .enum-told .given .1) (refl, ap (λ (n : ℕ). (c .before .before .before .args .s .ptr .0, n)) (sym (zero-add (c .before .before .before .args .s .ptr .1))))
 

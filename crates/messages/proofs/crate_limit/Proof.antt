@@ -2,20 +2,15 @@ use Rattle.messages.specs.Header.{crateLimit}
 use borrow.Author.Tests.{eq-eqb, ne-eqb}
 use Rattle.messages.proofs.crate_limit.Statement.{statement}
 use Rattle.messages.proofs.crate_limit.Tie as tie
-use Rattle.messages.proofs.crate_limit.Reads as reads
-use Rattle.messages.proofs.crate_limit.Lts as lts
 
--- src/lib.rt:64:9
 returns : tie.Need-returns
 unfolding crateLimit
 returns c = simp (eq-eqb _ _ (c .if1 .taken))
 
--- src/lib.rt:67:9
 returns-2 : tie.Need-returns-2
 unfolding crateLimit
 returns-2 c = simp (ne-eqb _ _ (c .before .if1 .left), eq-eqb _ _ (c .if2 .taken))
 
--- src/lib.rt:60:1
 returns-3 : tie.Need-returns-3
 unfolding crateLimit
 returns-3 c = simp (ne-eqb _ _ (c .before .if1 .left), ne-eqb _ _ (c .if2 .left))

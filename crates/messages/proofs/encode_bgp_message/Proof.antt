@@ -1,12 +1,11 @@
-use mathlib.Core.Bool.{Bool, true, false}
-use Rattle.messages.specs.Header.{isUnknown}
+use mathlib.Core.Bool.{false}
+use Rattle.messages.specs.Header.{isUnknown, leastLength, mostLength, isOutside}
 use Rattle.wire.specs.Refusal.{messageType, messageLength, noRoom}
-use mathlib.Core.Path.{_≡_, sym, ap, _∙_}
-use Prim.Native.Nat.{_≤_, _<_, _+_}
+use mathlib.Core.Path.{_≡_, sym, _∙_}
+use Prim.Native.Nat.{_≤_, _<_}
 use native.Mathlib.Omega.{arith}
 use lib.ListN.{length}
 use borrow.Author.Tests.{lt-ltb, le-ltb}
-use Rattle.messages.specs.Header.{headerSize, leastLength, mostLength, isOutside}
 use Rattle.messages.specs.HeaderLaws.{inside-high}
 use Rattle.messages.specs.Written.{writeAnswer, totalOf}
 use Rattle.messages.specs.WrittenLaws.{most-small, over-outside, out-by, body-put}
@@ -14,20 +13,10 @@ use Rattle.messages.specs.declared.WriteAnswer.the-variants.{Written, Re
 use borrow.Author.Needs.{needs}
 use Rattle.messages.proofs.encode_bgp_message.Statement.{statement}
 use Rattle.messages.proofs.encode_bgp_message.Tie as tie
-use Rattle.messages.proofs.encode_bgp_message.Reads as reads
-use Rattle.messages.proofs.encode_bgp_message.Lts as lts
-use Rattle.messages.proofs.least_length.Reads as least-length-reads
-use Rattle.messages.proofs.most_length.Reads as most-length-reads
-use Rattle.messages.proofs.outside.Reads as outside-reads
-use Rattle.messages.proofs.put_header.Reads as put-header-reads
-use Rattle.messages.proofs.unknown.Reads as unknown-reads
-use Rattle.wire.proofs.copy_at.Reads as copy-at-reads
 
--- src/lib.rt:256:8
 unknown-requires : tie.Need-unknown-requires
 unknown-requires c κs = search needs
 
--- src/lib.rt:257:9
 returns : tie.Need-returns
 unfolding writeAnswer
 returns c =
@@ -35,7 +24,6 @@ returns c =
     let e : writeAnswer (a .kind) (a .body .now) (length (a .out .now)) ≡ Refused messageType = simp (sym (c .before .unknown .ensures) ∙ c .if1 .taken) in
     (sym e, sym (out-by (a .kind) (a .body .now) (a .out .now) (Refused messageType) e))
 
--- src/lib.rt:260:9
 returns-2 : tie.Need-returns-2
 unfolding writeAnswer
 returns-2 c =
@@ -45,19 +33,15 @@ returns-2 c =
     simp (sym (c .before .before .unknown .ensures) ∙ c .before .if1 .left, over-outside (leastLength (a .kind)) (mostLength (a .kind)) (totalOf (a .body .now)) over) in
     (sym e, sym (out-by (a .kind) (a .body .now) (a .out .now) (Refused messageLength) e))
 
--- src/lib.rt:262:17
 add-total : tie.Need-add-total
 add-total c = search needs
 
--- src/lib.rt:263:16
 least-length-requires : tie.Need-least-length-requires
 least-length-requires c κs = search needs
 
--- src/lib.rt:263:36
 most-length-requires : tie.Need-most-length-requires
 most-length-requires c κs = search needs
 
--- src/lib.rt:263:8
 outside-requires : tie.Need-outside-requires
 outside-requires c κs = search needs
 
@@ -70,7 +54,6 @@ own : (c : tie.After-outside)
     isOutside (leastLength (a .kind)) (mostLength (a .kind)) (totalOf (a .body .now)) ≡ c .outside .result
 own c = rw (← c .before .before .least-length .ensures, ← c .before .most-length .ensures) (sym (c .outside .ensures))
 
--- src/lib.rt:264:9
 returns-3 : tie.Need-returns-3
 unfolding writeAnswer
 returns-3 c =
@@ -79,7 +62,6 @@ returns-3 c =
     let e : writeAnswer (a .kind) (a .body .now) (length (a .out .now)) ≡ Refused messageLength = simp (known o, own o ∙ c .if3 .taken) in
     (sym e, sym (out-by (a .kind) (a .body .now) (a .out .now) (Refused messageLength) e))
 
--- src/lib.rt:267:9
 returns-4 : tie.Need-returns-4
 unfolding writeAnswer
 returns-4 c =
@@ -88,7 +70,6 @@ returns-4 c =
     let e : writeAnswer (a .kind) (a .body .now) (length (a .out .now)) ≡ Refused noRoom = simp (known o, own o ∙ c .before .if3 .left, lt-ltb _ _ (c .if4 .taken)) in
     (sym e, sym (out-by (a .kind) (a .body .now) (a .out .now) (Refused noRoom) e))
 
--- src/lib.rt:269:5
 put-header-requires : tie.Need-put-header-requires
 put-header-requires c κs =
     let o = c .before .before .before in
@@ -96,15 +77,12 @@ put-header-requires c κs =
     let high : totalOf (a .body .now) ≤ mostLength (a .kind) = inside-high (leastLength (a .kind)) (mostLength (a .kind)) (totalOf (a .body .now)) (own o ∙ c .before .before .if3 .left) in
     (omega (arith, most-small (a .kind)), omega (arith, c .before .if4 .left))
 
--- src/lib.rt:270:5
 copy-at-requires : tie.Need-copy-at-requires
 copy-at-requires c κs = search needs
 
--- src/lib.rt:252:1
 same-length : tie.Need-same-length
 same-length c = search needs
 
--- src/lib.rt:252:1
 returns-5 : tie.Need-returns-5
 unfolding writeAnswer
 returns-5 c =
@@ -114,10 +92,11 @@ returns-5 c =
     let o = r .before .before in
     let a = o .before .before .before .before .before .before .before .before .args in
     let e : writeAnswer (a .kind) (a .body .now) (length (a .out .now)) ≡ Written (totalOf (a .body .now)) =
-    simp (known o, own o ∙ r .before .if3 .left, le-ltb _ _ (r .if4 .left)) in
-    (sym e,
-    body-put (a .kind) (a .body .now) (a .out .now) _ _ (r .if4 .left) (p .put-header .ensures) (y .copy-at .ensures)
-    ∙ sym (out-by (a .kind) (a .body .now) (a .out .now) (Written (totalOf (a .body .now))) e))
+    simp (known o, own o ∙ r .before .if3 .left, le-ltb _ _ (r .if4 .left)) in (
+      sym e,
+      body-put (a .kind) (a .body .now) (a .out .now) _ _ (r .if4 .left) (p .put-header .ensures) (y .copy-at .ensures)
+          ∙ sym (out-by (a .kind) (a .body .now) (a .out .now) (Written (totalOf (a .body .now))) e),
+    )
 
 pub encode-bgp-message-spec : {M : Type 1} → statement M
 encode-bgp-message-spec =

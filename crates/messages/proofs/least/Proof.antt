@@ -2,15 +2,11 @@ use Rattle.messages.specs.Header.{smaller}
 use borrow.Author.Tests.{le-leb, lt-leb}
 use Rattle.messages.proofs.least.Statement.{statement}
 use Rattle.messages.proofs.least.Tie as tie
-use Rattle.messages.proofs.least.Reads as reads
-use Rattle.messages.proofs.least.Lts as lts
 
--- src/lib.rt:101:1
 returns : tie.Need-returns
 unfolding smaller
 returns c = simp (le-leb _ _ (c .if1 .taken))
 
--- src/lib.rt:101:1
 returns-2 : tie.Need-returns-2
 unfolding smaller
 returns-2 c = simp (lt-leb _ _ (c .if1 .left))

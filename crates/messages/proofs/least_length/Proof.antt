@@ -2,30 +2,23 @@ use Rattle.messages.specs.Header.{leastLength}
 use borrow.Author.Tests.{eq-eqb, ne-eqb}
 use Rattle.messages.proofs.least_length.Statement.{statement}
 use Rattle.messages.proofs.least_length.Tie as tie
-use Rattle.messages.proofs.least_length.Reads as reads
-use Rattle.messages.proofs.least_length.Lts as lts
 
--- src/lib.rt:77:9
 returns : tie.Need-returns
 unfolding leastLength
 returns c = simp (eq-eqb _ _ (c .if1 .taken))
 
--- src/lib.rt:80:9
 returns-2 : tie.Need-returns-2
 unfolding leastLength
 returns-2 c = simp (ne-eqb _ _ (c .before .if1 .left), eq-eqb _ _ (c .if2 .taken))
 
--- src/lib.rt:83:9
 returns-3 : tie.Need-returns-3
 unfolding leastLength
 returns-3 c = simp (ne-eqb _ _ (c .before .before .if1 .left), ne-eqb _ _ (c .before .if2 .left), eq-eqb _ _ (c .if3 .taken))
 
--- src/lib.rt:86:9
 returns-4 : tie.Need-returns-4
 unfolding leastLength
 returns-4 c = simp (ne-eqb _ _ (c .before .before .before .if1 .left), ne-eqb _ _ (c .before .before .if2 .left), ne-eqb _ _ (c .before .if3 .left), eq-eqb _ _ (c .if4 .taken))
 
--- src/lib.rt:73:1
 returns-5 : tie.Need-returns-5
 unfolding leastLength
 returns-5 c = simp (ne-eqb _ _ (c .before .before .before .if1 .left), ne-eqb _ _ (c .before .before .if2 .left), ne-eqb _ _ (c .before .if3 .left), ne-eqb _ _ (c .if4 .left))

@@ -1,26 +1,18 @@
 use borrow.Author.Tests.{not-true, not-false}
-use mathlib.Core.Path.{sym, _∙_}
 use Rattle.messages.specs.HeaderLaws.{marker-words}
 use borrow.Author.Needs.{needs}
 use Rattle.messages.proofs.marked.Statement.{statement}
 use Rattle.messages.proofs.marked.Tie as tie
-use Rattle.messages.proofs.marked.Reads as reads
-use Rattle.messages.proofs.marked.Lts as lts
-use Rattle.messages.proofs.ones_at.Reads as ones-at-reads
 
--- src/lib.rt:119:9
 ones-at-requires : tie.Need-ones-at-requires
 ones-at-requires c κs = search needs
 
--- src/lib.rt:120:9
 returns : tie.Need-returns
 returns c = let s = c .before .before .before in rw (marker-words (s .args .s .now) (s .pre), ← c .before .ones-at .ensures, not-true (c .before .ones-at .result) (c .if1 .taken))
 
--- src/lib.rt:122:9
 ones-at-requires-2 : tie.Need-ones-at-requires-2
 ones-at-requires-2 c κs = search needs
 
--- src/lib.rt:123:9
 returns-2 : tie.Need-returns-2
 returns-2 c =
     let s = c .before .before .before .before .before in
@@ -28,11 +20,9 @@ returns-2 c =
     let w₁ = c .before .ones-at2 in
     rw (marker-words (s .args .s .now) (s .pre), ← w₀ .ensures, not-false (w₀ .result) (c .before .before .if1 .left), ← w₁ .ensures, not-true (w₁ .result) (c .if2 .taken))
 
--- src/lib.rt:125:9
 ones-at-requires-3 : tie.Need-ones-at-requires-3
 ones-at-requires-3 c κs = search needs
 
--- src/lib.rt:126:9
 returns-3 : tie.Need-returns-3
 returns-3 c =
     let s = c .before .before .before .before .before .before .before in
@@ -41,11 +31,9 @@ returns-3 c =
     let w₂ = c .before .ones-at3 in
     rw (marker-words (s .args .s .now) (s .pre), ← w₀ .ensures, not-false (w₀ .result) (c .before .before .before .before .if1 .left), ← w₁ .ensures, not-false (w₁ .result) (c .before .before .if2 .left), ← w₂ .ensures, not-true (w₂ .result) (c .if3 .taken))
 
--- src/lib.rt:128:5
 ones-at-requires-4 : tie.Need-ones-at-requires-4
 ones-at-requires-4 c κs = search needs
 
--- src/lib.rt:115:1
 returns-4 : tie.Need-returns-4
 returns-4 c =
     let s = c .before .before .before .before .before .before .before .before in

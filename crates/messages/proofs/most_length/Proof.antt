@@ -3,20 +3,14 @@ use borrow.Author.Tests.{eq-eqb, ne-eqb}
 use borrow.Author.Needs.{needs}
 use Rattle.messages.proofs.most_length.Statement.{statement}
 use Rattle.messages.proofs.most_length.Tie as tie
-use Rattle.messages.proofs.most_length.Reads as reads
-use Rattle.messages.proofs.most_length.Lts as lts
-use Rattle.messages.proofs.crate_limit.Reads as crate-limit-reads
 
--- src/lib.rt:96:9
 returns : tie.Need-returns
 unfolding mostLength
 returns c = simp (eq-eqb _ _ (c .if1 .taken))
 
--- src/lib.rt:98:5
 crate-limit-requires : tie.Need-crate-limit-requires
 crate-limit-requires c κs = search needs
 
--- src/lib.rt:92:1
 returns-2 : tie.Need-returns-2
 unfolding mostLength
 returns-2 c = simp (ne-eqb _ _ (c .before .if1 .left)) (c .crate-limit .ensures)

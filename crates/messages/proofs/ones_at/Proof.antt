@@ -1,20 +1,14 @@
 use mathlib.Core.Path.{ap, _∙_}
-use mathlib.Core.Bool.{Bool}
 use Prim.Native.Nat.{ℕ}
 use lib.Dec.{eqb}
 use Rattle.messages.specs.HeaderLaws.{ones-word}
 use borrow.Author.Needs.{needs}
 use Rattle.messages.proofs.ones_at.Statement.{statement}
 use Rattle.messages.proofs.ones_at.Tie as tie
-use Rattle.messages.proofs.ones_at.Reads as reads
-use Rattle.messages.proofs.ones_at.Lts as lts
-use Rattle.wire.proofs.u32_at.Reads as u32-at-reads
 
--- src/lib.rt:111:5
 u32-at-requires : tie.Need-u32-at-requires
 u32-at-requires c κs = search needs
 
--- src/lib.rt:108:1
 returns : tie.Need-returns
 returns c =
     let a = c .before .before .args in

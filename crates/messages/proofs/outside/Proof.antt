@@ -2,15 +2,11 @@ use Rattle.messages.specs.Header.{isOutside}
 use borrow.Author.Tests.{lt-ltb, le-ltb}
 use Rattle.messages.proofs.outside.Statement.{statement}
 use Rattle.messages.proofs.outside.Tie as tie
-use Rattle.messages.proofs.outside.Reads as reads
-use Rattle.messages.proofs.outside.Lts as lts
 
--- src/lib.rt:47:9
 returns : tie.Need-returns
 unfolding isOutside
 returns c = simp (lt-ltb _ _ (c .if1 .taken))
 
--- src/lib.rt:43:1
 returns-2 : tie.Need-returns-2
 unfolding isOutside
 returns-2 c = simp (le-ltb _ _ (c .if1 .left))

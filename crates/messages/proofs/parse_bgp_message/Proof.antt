@@ -1,46 +1,31 @@
-use mathlib.Core.Path.{_≡_, sym, ap, _∙_}
-use mathlib.Core.Bool.{Bool, true, false}
+use mathlib.Core.Path.{sym, _∙_}
 use borrow.Author.Tests.{lt-ltb, le-ltb}
 use Rattle.messages.specs.Header.{messageOf, headerSize}
 use Rattle.messages.specs.HeaderLaws.{smaller-both}
 use borrow.Author.Needs.{needs}
 use Rattle.messages.proofs.parse_bgp_message.Statement.{statement}
 use Rattle.messages.proofs.parse_bgp_message.Tie as tie
-use Rattle.messages.proofs.parse_bgp_message.Reads as reads
-use Rattle.messages.proofs.parse_bgp_message.Lts as lts
-use Rattle.messages.proofs.crate_limit.Reads as crate-limit-reads
-use Rattle.messages.proofs.least.Reads as least-reads
-use Rattle.messages.proofs.marked.Reads as marked-reads
-use Rattle.messages.proofs.unknown.Reads as unknown-reads
-use Rattle.wire.proofs.u16_at.Reads as u16-at-reads
 
--- src/lib.rt:136:9
 returns : tie.Need-returns
 unfolding messageOf
 returns c = simp (lt-ltb _ _ (c .if1 .taken))
 
--- src/lib.rt:138:19
 u16-at-requires : tie.Need-u16-at-requires
 u16-at-requires c κs = search needs
 
--- src/lib.rt:138:19
 cast-claimed : tie.Need-cast-claimed
 cast-claimed c = search needs
 
--- src/lib.rt:140:9
 returns-2 : tie.Need-returns-2
 unfolding messageOf
 returns-2 c = rw (← c .before .u16-at .ensures) (simp (le-ltb _ _ (c .before .before .if1 .left), lt-ltb _ _ (c .if2 .taken)))
 
--- src/lib.rt:142:16
 shared-slice-read-kind : tie.Need-shared-slice-read-kind
 shared-slice-read-kind c = search needs
 
--- src/lib.rt:143:8
 unknown-requires : tie.Need-unknown-requires
 unknown-requires c κs = search needs
 
--- src/lib.rt:144:9
 returns-3 : tie.Need-returns-3
 unfolding messageOf
 returns-3 c =
@@ -48,55 +33,47 @@ returns-3 c =
     rw (← b .before .u16-at .ensures)
     (simp (le-ltb _ _ (b .before .before .if1 .left), le-ltb _ _ (b .if2 .left), sym (c .before .unknown .ensures) ∙ c .if3 .taken))
 
--- src/lib.rt:146:8
+least-requires : tie.Need-least-requires
+least-requires c κs = search needs
+
 crate-limit-requires : tie.Need-crate-limit-requires
 crate-limit-requires c κs = search needs
 
--- src/lib.rt:147:9
 returns-4 : tie.Need-returns-4
 unfolding messageOf
 returns-4 c =
-    let u = c .before .before in
+    let u = c .before .before .before in
     let b = u .before .before .before in
     rw (← b .before .u16-at .ensures, ← c .before .crate-limit .ensures)
     (simp (le-ltb _ _ (b .before .before .if1 .left), le-ltb _ _ (b .if2 .left), sym (u .before .unknown .ensures) ∙ u .if3 .left, lt-ltb _ _ (c .if4 .taken)))
 
--- src/lib.rt:149:9
-least-requires : tie.Need-least-requires
-least-requires c κs = search needs
-
--- src/lib.rt:150:8
 sub-if5 : tie.Need-sub-if5
 sub-if5 c = search needs
 
--- src/lib.rt:150:32
 sub-if5-2 : tie.Need-sub-if5-2
 sub-if5-2 c =
     let b = c .before .before .before .before .before .before in
-    rw (c .least .ensures) (smaller-both headerSize _ _ (b .if2 .left) (b .before .before .if1 .left))
+    rw (c .before .before .least .ensures) (smaller-both headerSize _ _ (b .if2 .left) (b .before .before .if1 .left))
 
--- src/lib.rt:151:9
 returns-5 : tie.Need-returns-5
 unfolding messageOf
 returns-5 c =
-    let l = c .before .before in
-    let u = l .before .before in
+    let l = c .before in
+    let u = l .before .before .before in
     let b = u .before .before .before in
-    rw (← b .before .u16-at .ensures, ← l .before .crate-limit .ensures, ← c .before .least .ensures)
+    rw (← b .before .u16-at .ensures, ← l .before .crate-limit .ensures, ← l .before .before .least .ensures)
     (simp (le-ltb _ _ (b .before .before .if1 .left), le-ltb _ _ (b .if2 .left), sym (u .before .unknown .ensures) ∙ u .if3 .left, le-ltb _ _ (l .if4 .left), lt-ltb _ _ (c .if5 .taken)))
 
--- src/lib.rt:157:18
 marked-requires : tie.Need-marked-requires
 marked-requires c κs = search needs
 
--- src/lib.rt:132:1
 returns-6 : tie.Need-returns-6
 unfolding messageOf
 returns-6 c =
-    let l = c .before .before .before in
-    let u = l .before .before in
+    let l = c .before .before in
+    let u = l .before .before .before in
     let b = u .before .before .before in
-    rw (← b .before .u16-at .ensures, ← l .before .crate-limit .ensures, ← c .before .before .least .ensures, ← c .marked .ensures)
+    rw (← b .before .u16-at .ensures, ← l .before .crate-limit .ensures, ← l .before .before .least .ensures, ← c .marked .ensures)
     (simp (le-ltb _ _ (b .before .before .if1 .left), le-ltb _ _ (b .if2 .left), sym (u .before .unknown .ensures) ∙ u .if3 .left, le-ltb _ _ (l .if4 .left), le-ltb _ _ (c .before .if5 .left)))
 
 pub parse-bgp-message-spec : {M : Type 1} → statement M
@@ -110,9 +87,9 @@ parse-bgp-message-spec =
     shared-slice-read-kind
     unknown-requires
     returns-3
+    least-requires
     crate-limit-requires
     returns-4
-    least-requires
     sub-if5
     sub-if5-2
     returns-5

@@ -2,51 +2,37 @@ use Rattle.messages.specs.WrittenLaws.{header-put}
 use borrow.Author.Needs.{needs}
 use Rattle.messages.proofs.put_header.Statement.{statement}
 use Rattle.messages.proofs.put_header.Tie as tie
-use Rattle.messages.proofs.put_header.Reads as reads
-use Rattle.messages.proofs.put_header.Lts as lts
-use Rattle.wire.proofs.put_octets.Reads as put-octets-reads
 
--- src/lib.rt:244:5
 put-octets-requires : tie.Need-put-octets-requires
 put-octets-requires c κs = search needs
 
--- src/lib.rt:245:5
 put-octets-requires-2 : tie.Need-put-octets-requires-2
 put-octets-requires-2 c κs = search needs
 
--- src/lib.rt:246:5
 put-octets-requires-3 : tie.Need-put-octets-requires-3
 put-octets-requires-3 c κs = search needs
 
--- src/lib.rt:247:5
 put-octets-requires-4 : tie.Need-put-octets-requires-4
 put-octets-requires-4 c κs = search needs
 
--- src/lib.rt:248:32
 cast-put-octets : tie.Need-cast-put-octets
 cast-put-octets c = search needs
 
--- src/lib.rt:248:31
 mul-put-octets : tie.Need-mul-put-octets
 mul-put-octets c = search needs
 
--- src/lib.rt:248:56
 mul-put-octets-2 : tie.Need-mul-put-octets-2
 mul-put-octets-2 c = search needs
 
--- src/lib.rt:248:31
 add-put-octets : tie.Need-add-put-octets
 add-put-octets c = search needs
 
--- src/lib.rt:248:5
 put-octets-requires-5 : tie.Need-put-octets-requires-5
 put-octets-requires-5 c κs = search needs
 
--- src/lib.rt:240:1
 same-length : tie.Need-same-length
 same-length c = search needs
 
--- src/lib.rt:240:1
 returns : tie.Need-returns
 returns c =
     let p₅ = c .before .before in

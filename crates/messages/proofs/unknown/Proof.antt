@@ -2,23 +2,16 @@ use Rattle.messages.specs.Header.{isUnknown}
 use borrow.Author.Needs.{needs}
 use Rattle.messages.proofs.unknown.Statement.{statement}
 use Rattle.messages.proofs.unknown.Tie as tie
-use Rattle.messages.proofs.unknown.Reads as reads
-use Rattle.messages.proofs.unknown.Lts as lts
-use Rattle.messages.proofs.outside.Reads as outside-reads
 
--- src/lib.rt:56:13
 cast-outside : tie.Need-cast-outside
 cast-outside c = search needs
 
--- src/lib.rt:56:34
 cast-outside-2 : tie.Need-cast-outside-2
 cast-outside-2 c = search needs
 
--- src/lib.rt:56:5
 outside-requires : tie.Need-outside-requires
 outside-requires c κs = search needs
 
--- src/lib.rt:53:1
 returns : tie.Need-returns
 unfolding isUnknown
 returns c = c .outside .ensures

@@ -1,16 +1,13 @@
 use mathlib.Core.Path.{_≡_, refl, sym, ap, _∙_}
-use mathlib.Core.List.{List}
-use Prim.Native.Nat.{ℕ, _+_, _-_, _≤_}
+use Prim.Native.Nat.{_-_, _≤_}
 use native.Mathlib.Omega.{arith}
 use native.Mathlib.Numerals.{add-one}
-use lib.ListN.{length, set, length-set}
+use lib.ListN.{length, length-set}
 use lib.Seq.{paste, paste-zero, paste-suc}
 use Rattle.wire.specs.Store.{placed-fits, placed-not, paste-laid}
 use borrow.Author.Needs.{needs}
 use Rattle.wire.proofs.copy_at.Statement.{statement}
 use Rattle.wire.proofs.copy_at.Tie as tie
-use Rattle.wire.proofs.copy_at.Reads as reads
-use Rattle.wire.proofs.copy_at.Lts as lts
 
 abbrev Inv-loop : tie.InvT-loop
 Inv-loop out₀ to src i₀ out i = (i ≤ length src) × (length out ≡ length out₀) × (out ≡ paste out₀ to src i)
@@ -18,43 +15,33 @@ Inv-loop out₀ to src i₀ out i = (i ≤ length src) × (length out ≡ length
 abbrev μ-loop : tie.MeasureT-loop
 μ-loop out₀ to src i₀ out i = length src - i
 
--- src/lib.rt:113:9
 returns : tie.Need-returns Inv-loop μ-loop
 returns c = let a = c .before .args in sym (placed-not (a .out .now) (a .to) (a .src .now) (omega arith))
 
--- src/lib.rt:115:8
 sub-if2 : tie.Need-sub-if2 Inv-loop μ-loop
 sub-if2 c = search needs
 
--- src/lib.rt:116:9
 returns-2 : tie.Need-returns-2 Inv-loop μ-loop
 returns-2 c = let a = c .before .before .args in sym (placed-not (a .out .now) (a .to) (a .src .now) (omega arith))
 
--- src/lib.rt:119:5
 loop-holds : tie.Need-loop-holds Inv-loop μ-loop
 loop-holds c = let a = c .before .before .args in (omega arith, refl, paste-zero (a .out .now) (a .to) (a .src .now))
 
--- src/lib.rt:120:23
 shared-slice-read-out : tie.Need-shared-slice-read-out Inv-loop μ-loop
 shared-slice-read-out c = search needs
 
--- src/lib.rt:120:13
 add-out : tie.Need-add-out Inv-loop μ-loop
 add-out c = search needs
 
--- src/lib.rt:120:9
 slice-write-out : tie.Need-slice-write-out Inv-loop μ-loop
 slice-write-out c = omega (arith, c .before .before .loop .inv)
 
--- src/lib.rt:121:13
 add-i : tie.Need-add-i Inv-loop μ-loop
 add-i c = search needs
 
--- src/lib.rt:119:5
 loop-less : tie.Need-loop-less Inv-loop μ-loop
 loop-less c = search needs
 
--- src/lib.rt:119:5
 loop-again : tie.Need-loop-again Inv-loop μ-loop
 loop-again c =
     let l = c .before .before in
@@ -65,11 +52,9 @@ loop-again c =
       rw (l .loop .inv .2, add-one i) (paste-suc (a .out .now) (a .to) (a .src .now) i 0 (omega arith) (omega arith)),
     )
 
--- src/lib.rt:109:1
 same-length : tie.Need-same-length Inv-loop μ-loop
 same-length c = c .before .loop .inv .1
 
--- src/lib.rt:109:1
 returns-3 : tie.Need-returns-3 Inv-loop μ-loop
 returns-3 c =
     let l = c .before in
