@@ -3,7 +3,7 @@
 use Prim.Native.Nat.{ℕ, zero, suc, _+_, _-_, _*_, _/_, _≤_, _<_}
 use mathlib.Core.Path.{_≡_, refl, sym, ap, ap₂, _∙_}
 use mathlib.Core.List.{List, [], _∷_}
-use mathlib.Core.Bool.{true, false, not}
+use mathlib.Core.Bool.{Bool, true, false, not}
 use lib.Dec.{eqb}
 use native.Mathlib.Omega.{arith}
 use native.Mathlib.Nat.{not-suc-le-zero}
@@ -211,3 +211,11 @@ section-strange (b ∷ c ∷ s) max mode e = absurd (zero-ne-one (let z : _≡_ 
 pub section-list : (s : List ℕ) (max : ℕ) (mode : AddPath) → strange s ≡ false → sectionOf s max mode ≡ listOf s max mode
 unfolding sectionOf
 section-list s max mode e = rw e
+
+-- a section that is counted is a list
+pub section-counted : (s : List ℕ) (max : ℕ) (mode : AddPath) (n : ℕ) → countAnswer s (sectionOf s max mode) ≡ L.Rows n → sectionOf s max mode ≡ listOf s max mode
+section-counted s max mode n e = by (strange s) refl
+  where
+    by : (t : Bool) → strange s ≡ t → sectionOf s max mode ≡ listOf s max mode
+    by true h = let f = section-strange s max mode h in let z : _≡_ {A = ℕ} 0 1 = cc in absurd (zero-ne-one z)
+    by false h = section-list s max mode h

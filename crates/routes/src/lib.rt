@@ -9,7 +9,9 @@ ghost use Rattle.wire.specs.Walk.{flat};
 ghost use Rattle.routes.specs.Prefix.{maxOf, idSize, markOf, octets, wordAt, rowOf, itemRow, words, prefixOf};
 ghost use Rattle.routes.specs.List.{plainHere, stepOf, listOf, sectionOf, strange};
 ghost use Rattle.routes.specs.Size.{sizeOf, sized, kept};
-ghost use Rattle.routes.specs.Promises.{countAnswer, readAnswer, storeAfter};
+ghost use Rattle.routes.specs.Promises.{countAnswer, readAnswer, filled, storeAfter};
+ghost use Rattle.routes.specs.Pair.{hasRoom, pairAnswer, firstAfter, secondAfter};
+ghost use mathlib.Core.Bool.{true};
 use wire::refusal;
 
 // The family of a route.
@@ -411,4 +413,66 @@ pub fn read_nlri(s: &[u8], afi: Afi, mode: AddPath, store: &mut [u32]) -> ListAn
         return ListAnswer::Refused(refusal::ONE_BYTE_SECTION);
     }
     parse_nlri_list(s, afi, mode, store)
+}
+
+// Two sections, each with its rows or its own refusal number; or a refusal of both.
+pub enum PairAnswer {
+    Sections {
+        first: ListAnswer,
+        second: ListAnswer,
+    },
+    Refused(u8),
+}
+
+// Whether a store of so many places has room for what was counted.
+fn has_room(counted: ListAnswer, places: usize) -> bool
+    ensures { λ r. ⌜ r ≡ hasRoom counted places ⌝ }
+{
+    match counted {
+        ListAnswer::Rows(n) => n <= places / 6,
+        ListAnswer::Refused(_) => true,
+    }
+}
+
+// The rows of a section that was counted, into a store that has room; nothing of one that was refused.
+fn fill_counted(s: &[u8], afi: Afi, mode: AddPath, counted: ListAnswer, store: &mut [u32])
+    requires { ⌜ counted ≡ countAnswer (now s) (sectionOf (now s) (maxOf afi) mode) ⌝ }
+    requires { ⌜ hasRoom counted (length (now store)) ≡ true ⌝ }
+    ensures { λ _. ⌜ now (store .exit) ≡ filled counted (sectionOf (now (s .entry)) (maxOf afi) mode .rows) (now (store .entry)) ⌝ }
+{
+    match counted {
+        ListAnswer::Rows(_) => {
+            fill_rows(s, max_len(afi), mode, store);
+        }
+        ListAnswer::Refused(_) => {}
+    }
+}
+
+// Two sections of an UPDATE into two lent stores: where either has rows and no room for them, neither store is touched.
+pub fn read_nlri_pair(
+    s: &[u8],
+    t: &[u8],
+    afi: Afi,
+    mode: AddPath,
+    first: &mut [u32],
+    second: &mut [u32],
+) -> PairAnswer
+    ensures answer { λ r. ⌜ r ≡ pairAnswer (now (s .entry)) (now (t .entry)) (maxOf afi) mode (length (now (first .entry))) (length (now (second .entry))) ⌝ }
+    ensures first { λ r. ⌜ now (first .exit) ≡ firstAfter r (sectionOf (now (s .entry)) (maxOf afi) mode) (now (first .entry)) ⌝ }
+    ensures second { λ r. ⌜ now (second .exit) ≡ secondAfter r (sectionOf (now (t .entry)) (maxOf afi) mode) (now (second .entry)) ⌝ }
+{
+    let a = count_nlri(s, afi, mode);
+    let b = count_nlri(t, afi, mode);
+    if !has_room(a, first.len()) {
+        return PairAnswer::Refused(refusal::NO_ROOM);
+    }
+    if !has_room(b, second.len()) {
+        return PairAnswer::Refused(refusal::NO_ROOM);
+    }
+    fill_counted(s, afi, mode, a, first);
+    fill_counted(t, afi, mode, b, second);
+    PairAnswer::Sections {
+        first: a,
+        second: b,
+    }
 }
