@@ -2,9 +2,10 @@
 use Prim.Native.Nat.{ℕ, _-_, _≤_}
 use mathlib.Core.List.{List, [], _∷_}
 use mathlib.Core.Bool.{Bool, true, false, not}
-use lib.ListN.{length, getD, take, drop}
+use lib.ListN.{length, getD, take}
 use lib.Dec.{ltb, leb, eqb}
 use Rattle.wire.specs.Choice.{pick}
+use Rattle.wire.specs.Extent.{Extent, nothing}
 use Rattle.wire.specs.Number.{beAt}
 use Rattle.wire.specs.Refusal.{truncated, messageLength, messageType, shortBody, badMarker}
 use Rattle.messages.specs.declared.MessageAnswer.{MessageAnswer}
@@ -129,17 +130,14 @@ strictWithin limit s =
 abbrev pub strictOf : List ℕ → MessageAnswer
 strictOf s = strictWithin messageLimit s
 
--- ---- the body: what is taken past the header, and nothing, at the start, where the message is refused
+-- ---- the body
 
-abbrev pub bodyStart : MessageAnswer → ℕ
-bodyStart (Message kind claimed taken marker cut trailing) = headerSize
-bodyStart (Refused n) = 0
+-- what is taken past the header, and nothing where the message is refused
+abbrev pub bodyAt : MessageAnswer → Extent
+bodyAt (Message kind claimed taken marker cut trailing) = record { start = headerSize; size = taken - headerSize }
+bodyAt (Refused n) = nothing
 
 -- what is taken is there, header and all
 abbrev pub Fits : MessageAnswer → ℕ → Type 0
 Fits (Message kind claimed taken marker cut trailing) n = (headerSize ≤ taken) × (taken ≤ n)
 Fits (Refused m) n = 0 ≤ n
-
-abbrev pub bodyIn : MessageAnswer → List ℕ → List ℕ
-bodyIn (Message kind claimed taken marker cut trailing) s = take (taken - headerSize) (drop headerSize s)
-bodyIn (Refused n) s = []

@@ -9,20 +9,21 @@ use borrow.Author.Tests.{le-ltb, lt-ltb, ltb-true, ltb-false}
 use lib.ListN.{length, take}
 use lib.Seq.{take-at}
 use lib.Dec.{ltb}
-use Rattle.messages.specs.Header.{headerSize, smaller, claimedOf, messageOf, strictWithin, bodyIn}
+use Rattle.wire.specs.Extent.{within}
+use Rattle.messages.specs.Header.{headerSize, smaller, claimedOf, messageOf, strictWithin, bodyAt}
 use Rattle.messages.specs.HeaderLaws.{smaller-is-left, Accepted, Whole, accepted-by, whole-by, message-cases, strict-cases}
 use Rattle.messages.specs.Written.{totalOf, messageBytes, writeAnswer}
 use Rattle.messages.specs.WrittenLaws.{most-small, most-crate, Fit, written-fit, written-long, written-kind, written-marker, written-past, written-claimed}
 use Rattle.messages.specs.declared.MessageAnswer.{MessageAnswer}
 use Rattle.messages.specs.declared.MessageAnswer.the-variants.{Message}
-use Rattle.messages.specs.declared.WriteAnswer.the-variants.{Written}
+use Rattle.messages.specs.declared.WriteAnswer.the-variants.{Bytes}
 
 -- ---- what is written is read again
 
 -- an answer that gives this type and this body, whole and with no flag but that bytes follow
 pub record Framed (kind : ℕ) (body rest : List ℕ) (answer : MessageAnswer) : Type 0 where
   pub same : answer ≡ Message kind (totalOf body) (totalOf body) false false (ltb 0 (length rest))
-  pub content : bodyIn answer (messageBytes kind body ++ rest) ≡ body
+  pub content : within (bodyAt answer) (messageBytes kind body ++ rest) ≡ body
 
 ltb-shift : (a b : ℕ) → ltb a (a + b) ≡ ltb 0 b
 ltb-shift a b = by-test (ltb 0 b) refl
@@ -40,12 +41,12 @@ framed kind body rest answer e =
     record {
       same = e ∙ ap (Message kind (totalOf body) (totalOf body) false false) flag;
       content =
-          ap (λ (a : MessageAnswer). bodyIn a (messageBytes kind body ++ rest)) e
+          ap (λ (a : MessageAnswer). within (bodyAt a) (messageBytes kind body ++ rest)) e
           ∙ ap₂ take size (written-past kind body rest)
           ∙ take-at body rest (length body) refl;
     }
 
-module _ (kind : ℕ) (body rest : List ℕ) (places n : ℕ) (wrote : writeAnswer kind body places ≡ Written n) where
+module _ (kind : ℕ) (body rest : List ℕ) (places n : ℕ) (wrote : writeAnswer kind body places ≡ Bytes n) where
   message : List ℕ
   message = messageBytes kind body ++ rest
 

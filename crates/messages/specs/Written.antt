@@ -10,7 +10,7 @@ use Rattle.wire.specs.Refusal.{messageLength, messageType, noRoom}
 use Rattle.wire.specs.Store.{laid}
 use Rattle.messages.specs.Header.{headerSize, markerSize, leastLength, mostLength, isOutside, isUnknown}
 use Rattle.messages.specs.declared.WriteAnswer.{WriteAnswer}
-use Rattle.messages.specs.declared.WriteAnswer.the-variants.{Written, Refused}
+use Rattle.messages.specs.declared.WriteAnswer.the-variants.{Bytes, Refused}
 
 -- the header of a message of so many bytes
 unfoldable pub header : ℕ → ℕ → List ℕ
@@ -31,11 +31,11 @@ writeAnswer kind body places =
     refusedIf (isUnknown kind) messageType
     (refusedIf (isOutside (leastLength kind) (mostLength kind) (totalOf body)) messageLength
     (refusedIf (ltb places (totalOf body)) noRoom
-    (Written (totalOf body))))
+    (Bytes (totalOf body))))
 
 -- the output afterwards: the message from its front where it was written, and else as it was
 abbrev pub laidBy : WriteAnswer → List ℕ → List ℕ → List ℕ
-laidBy (Written n) bytes out = laid out 0 bytes
+laidBy (Bytes n) bytes out = laid out 0 bytes
 laidBy (Refused n) bytes out = out
 
 unfoldable pub outAfter : ℕ → List ℕ → List ℕ → List ℕ

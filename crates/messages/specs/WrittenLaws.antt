@@ -17,7 +17,7 @@ use Rattle.messages.specs.Header.{openKind, keepaliveKind, headerSize, m
 use Rattle.messages.specs.HeaderLaws.{inside-low, inside-high}
 use Rattle.messages.specs.Written.{header, totalOf, messageBytes, refusedIf, writeAnswer, laidBy, outAfter}
 use Rattle.messages.specs.declared.WriteAnswer.{WriteAnswer}
-use Rattle.messages.specs.declared.WriteAnswer.the-variants.{Written, Refused}
+use Rattle.messages.specs.declared.WriteAnswer.the-variants.{Bytes, Refused}
 
 -- ---- the header
 
@@ -102,15 +102,15 @@ unless {ℓ} : (P : WriteAnswer → Type ℓ) (test : Bool) (m : ℕ) (next : Wr
 unless P true m next r f = r
 unless P false m next r f = f refl
 
-pub written-fit : (kind : ℕ) (body : List ℕ) (places n : ℕ) → writeAnswer kind body places ≡ Written n → Fit kind body places n
+pub written-fit : (kind : ℕ) (body : List ℕ) (places n : ℕ) → writeAnswer kind body places ≡ Bytes n → Fit kind body places n
 unfolding writeAnswer
 written-fit kind body places n =
-    let never : (m : ℕ) → Refused m ≡ Written n → Fit kind body places n = λ m e. let z : _≡_ {A = ℕ} 0 1 = cc in absurd (omega arith) in
-    let P : WriteAnswer → Type 0 = λ a. a ≡ Written n → Fit kind body places n in
+    let never : (m : ℕ) → Refused m ≡ Bytes n → Fit kind body places n = λ m e. let z : _≡_ {A = ℕ} 0 1 = cc in absurd (omega arith) in
+    let P : WriteAnswer → Type 0 = λ a. a ≡ Bytes n → Fit kind body places n in
     let total : ℕ = totalOf body in
     unless P (isUnknown kind) messageType _ (never messageType) (λ known.
     unless P (isOutside (leastLength kind) (mostLength kind) total) messageLength _ (never messageLength) (λ own.
-    unless P (ltb places total) noRoom (Written total) (never noRoom) (λ room e.
+    unless P (ltb places total) noRoom (Bytes total) (never noRoom) (λ room e.
     record {
       known = known;
       least = inside-low (leastLength kind) (mostLength kind) total own;

@@ -2,10 +2,10 @@
 ghost use mathlib.Core.Path.{_≡_};
 ghost use Prim.Native.Nat.{_+_, _≤_};
 ghost use lib.ListN.{length, take, drop};
-ghost use denote.Ref.{ptr};
+ghost use Rattle.wire.specs.Extent.{PartOf};
 ghost use Rattle.wire.specs.Number.{padded};
 ghost use Rattle.wire.specs.Store.{laid};
-ghost use Rattle.messages.specs.Header.{allFF, isOutside, isUnknown, smaller, leastLength, mostLength, crateLimit, messageOf, strictWithin, strictOf, bodyStart, bodyIn, Fits};
+ghost use Rattle.messages.specs.Header.{allFF, isOutside, isUnknown, smaller, leastLength, mostLength, crateLimit, messageOf, strictWithin, strictOf, bodyAt, Fits};
 ghost use Rattle.messages.specs.Written.{header, writeAnswer, outAfter};
 use wire::refusal;
 
@@ -35,7 +35,7 @@ pub enum MessageAnswer {
 
 // A message to write: the bytes written, or a refusal number.
 pub enum WriteAnswer {
-    Written(usize),
+    Bytes(usize),
     Refused(u8),
 }
 
@@ -208,8 +208,7 @@ pub fn parse_bgp_message_strict(s: &[u8]) -> MessageAnswer
 // The body of a message that was found in s: that part of s, and nothing where it is refused.
 fn body_part(s: &[u8], found: MessageAnswer) -> &[u8]
     requires { ⌜ Fits found (length (now s)) ⌝ }
-    ensures holds { λ r. ⌜ now r ≡ bodyIn found (now (s .entry)) ⌝ }
-    ensures lies { λ r. ⌜ ptr r ≡ (ptr (s .entry) .0, bodyStart found + ptr (s .entry) .1) ⌝ }
+    ensures { λ r. ⌜ PartOf (s .entry) (bodyAt found) r ⌝ }
 {
     match found {
         MessageAnswer::Message {
@@ -226,16 +225,14 @@ fn body_part(s: &[u8], found: MessageAnswer) -> &[u8]
 
 // The body of a message as the crate reads it.
 pub fn message_body(s: &[u8]) -> &[u8]
-    ensures holds { λ r. ⌜ now r ≡ bodyIn (messageOf (now (s .entry))) (now (s .entry)) ⌝ }
-    ensures lies { λ r. ⌜ ptr r ≡ (ptr (s .entry) .0, bodyStart (messageOf (now (s .entry))) + ptr (s .entry) .1) ⌝ }
+    ensures { λ r. ⌜ PartOf (s .entry) (bodyAt (messageOf (now (s .entry)))) r ⌝ }
 {
     body_part(s, parse_bgp_message(s))
 }
 
 // The body of a message as the strict reading has it.
 pub fn message_body_strict(s: &[u8]) -> &[u8]
-    ensures holds { λ r. ⌜ now r ≡ bodyIn (strictOf (now (s .entry))) (now (s .entry)) ⌝ }
-    ensures lies { λ r. ⌜ ptr r ≡ (ptr (s .entry) .0, bodyStart (strictOf (now (s .entry))) + ptr (s .entry) .1) ⌝ }
+    ensures { λ r. ⌜ PartOf (s .entry) (bodyAt (strictOf (now (s .entry)))) r ⌝ }
 {
     body_part(s, parse_bgp_message_strict(s))
 }
@@ -272,5 +269,5 @@ pub fn encode_bgp_message(kind: u8, body: &[u8], out: &mut [u8]) -> WriteAnswer
     }
     put_header(out, total, kind);
     wire::copy_at(out, HEADER_SIZE, body);
-    WriteAnswer::Written(total)
+    WriteAnswer::Bytes(total)
 }

@@ -7,3 +7,4 @@ pub mod WalkLaws
 pub mod Parts
 pub mod Store
 pub mod Turn
+pub mod Extent

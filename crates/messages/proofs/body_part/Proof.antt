@@ -29,10 +29,10 @@ slice-aggregate-result : tie.Need-slice-aggregate-result
 slice-aggregate-result c = search needs
 
 returns : tie.Need-returns
-returns c = rw (c .before .before .found .given .1) (refl, refl)
+returns c = rw (c .before .before .found .given .1) (record { holds = refl; lies = refl })
 
 returns-2 : tie.Need-returns-2
-returns-2 c = rw (c .before .enum-told .given .1) (refl, ap (λ (n : ℕ). (c .before .before .before .args .s .ptr .0, n)) (sym (zero-add (c .before .before .before .args .s .ptr .1))))
+returns-2 c = rw (c .before .enum-told .given .1) (record { holds = refl; lies = ap (λ (n : ℕ). (c .before .before .before .args .s .ptr .0, n)) (sym (zero-add (c .before .before .before .args .s .ptr .1))) })
 
 pub body-part-spec : {M : Type 1} → statement M
 body-part-spec =

@@ -9,7 +9,7 @@ use borrow.Author.Tests.{lt-ltb, le-ltb}
 use Rattle.messages.specs.HeaderLaws.{inside-high}
 use Rattle.messages.specs.Written.{writeAnswer, totalOf}
 use Rattle.messages.specs.WrittenLaws.{most-small, over-outside, out-by, body-put}
-use Rattle.messages.specs.declared.WriteAnswer.the-variants.{Written, Refused}
+use Rattle.messages.specs.declared.WriteAnswer.the-variants.{Bytes, Refused}
 use borrow.Author.Needs.{needs}
 use Rattle.messages.proofs.encode_bgp_message.Statement.{statement}
 use Rattle.messages.proofs.encode_bgp_message.Tie as tie
@@ -91,11 +91,11 @@ returns-5 c =
     let r = p .before .before in
     let o = r .before .before in
     let a = o .before .before .before .before .before .before .before .before .args in
-    let e : writeAnswer (a .kind) (a .body .now) (length (a .out .now)) ≡ Written (totalOf (a .body .now)) =
+    let e : writeAnswer (a .kind) (a .body .now) (length (a .out .now)) ≡ Bytes (totalOf (a .body .now)) =
     simp (known o, own o ∙ r .before .if3 .left, le-ltb _ _ (r .if4 .left)) in (
       sym e,
       body-put (a .kind) (a .body .now) (a .out .now) _ _ (r .if4 .left) (p .put-header .ensures) (y .copy-at .ensures)
-          ∙ sym (out-by (a .kind) (a .body .now) (a .out .now) (Written (totalOf (a .body .now))) e),
+          ∙ sym (out-by (a .kind) (a .body .now) (a .out .now) (Bytes (totalOf (a .body .now))) e),
     )
 
 pub encode-bgp-message-spec : {M : Type 1} → statement M
