@@ -5,6 +5,7 @@ ghost use mathlib.Core.List.{[], _∷_};
 ghost use lib.ListN.{length, getD, take};
 ghost use Rattle.wire.specs.Number.{be, toBe, beAt};
 ghost use Rattle.wire.specs.Store.{placed};
+ghost use Rattle.wire.specs.Extent.{extent, clipped, PartOf};
 
 pub mod refusal;
 
@@ -120,4 +121,18 @@ pub fn copy_at(out: &mut [u8], to: usize, src: &[u8])
         out[to + i] = src[i];
         i = i + 1;
     }
+}
+
+// So many bytes from a place on, as a part of s; nothing where they are not all there.
+pub fn part(s: &[u8], start: usize, size: usize) -> &[u8]
+    ensures { λ r. ⌜ PartOf (s .entry) (clipped (extent start size) (length (now (s .entry)))) r ⌝ }
+{
+    if s.len() < start {
+        return &s[..0];
+    }
+    if s.len() - start < size {
+        return &s[..0];
+    }
+    let end = start + size;
+    &s[start..end]
 }

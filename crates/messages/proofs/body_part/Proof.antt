@@ -1,8 +1,8 @@
-use native.Mathlib.Nat.{zero-add}
+use Rattle.wire.specs.Extent.{empty-part}
 use Rattle.messages.specs.Header.{headerSize}
-use Prim.Native.Nat.{ℕ, _≤_}
+use Prim.Native.Nat.{_≤_}
 use lib.ListN.{length}
-use mathlib.Core.Path.{refl, sym, ap}
+use mathlib.Core.Path.{refl}
 use borrow.Author.Needs.{needs}
 use Rattle.messages.proofs.body_part.Statement.{statement}
 use Rattle.messages.proofs.body_part.Tie as tie
@@ -32,7 +32,7 @@ returns : tie.Need-returns
 returns c = rw (c .before .before .found .given .1) (record { holds = refl; lies = refl })
 
 returns-2 : tie.Need-returns-2
-returns-2 c = rw (c .before .enum-told .given .1) (record { holds = refl; lies = ap (λ (n : ℕ). (c .before .before .before .args .s .ptr .0, n)) (sym (zero-add (c .before .before .before .args .s .ptr .1))) })
+returns-2 c = rw (c .before .enum-told .given .1) (empty-part (c .before .before .before .args .s) _ refl refl)
 
 pub body-part-spec : {M : Type 1} → statement M
 body-part-spec =

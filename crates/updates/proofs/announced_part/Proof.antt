@@ -1,0 +1,83 @@
+use mathlib.Core.Path.{_≡_, sym, _∙_}
+use Prim.Native.Nat.{_+_, _≤_}
+use native.Mathlib.Omega.{arith}
+use lib.ListN.{length}
+use Rattle.wire.specs.Extent.{extent, nothing, clipped-fits}
+use Rattle.wire.specs.Refusal.{bodyLimit}
+use Rattle.updates.specs.Body.{lengthSize, partsOf}
+use Rattle.updates.specs.BodyLaws.{parts-add-up}
+use Rattle.updates.specs.declared.PartsAnswer.the-variants.{Parts}
+use borrow.Author.Needs.{needs}
+use Rattle.updates.proofs.announced_part.Statement.{statement}
+use Rattle.updates.proofs.announced_part.Tie as tie
+use Rattle.updates.proofs.announced_part.Reads as reads
+use Rattle.updates.proofs.announced_part.Lts as lts
+use Rattle.updates.proofs.update_parts.Reads as update-parts-reads
+use Rattle.wire.proofs.part.Reads as part-reads
+
+-- src/lib.rt:103:11
+update-parts-requires : tie.Need-update-parts-requires
+update-parts-requires c κs = search needs
+
+-- src/lib.rt:105:13
+enum-known-withdrawn : tie.Need-enum-known-withdrawn
+enum-known-withdrawn c = search needs
+
+sums : (c : tie.After-known-told) → let w = c .before .withdrawn .given .0 in
+    let b = c .before .before .before .before .before .args .body .now in
+    (w .0 + w .1 .0 + w .1 .1 .0 + (lengthSize + lengthSize) ≡ length b) × (length b ≤ bodyLimit)
+sums c = parts-add-up (c .before .before .before .before .before .args .body .now) _ _ _ (sym (c .before .before .before .update-parts .ensures) ∙ c .before .withdrawn .given .1)
+
+-- src/lib.rt:108:31
+add-part : tie.Need-add-part
+add-part c = omega (arith, sums c)
+
+-- src/lib.rt:108:31
+add-part-2 : tie.Need-add-part-2
+add-part-2 c = omega (arith, sums c)
+
+-- src/lib.rt:108:31
+add-part-3 : tie.Need-add-part-3
+add-part-3 c = omega (arith, sums c)
+
+-- src/lib.rt:108:14
+part-requires : tie.Need-part-requires
+part-requires c κs = search needs
+
+-- src/lib.rt:109:36
+enum-told : tie.Need-enum-told
+enum-told c = search needs
+
+-- src/lib.rt:109:36
+part-requires-2 : tie.Need-part-requires-2
+part-requires-2 c κs = search needs
+
+-- src/lib.rt:100:1
+returns : tie.Need-returns
+returns c =
+    let k = c .before in
+    let b = k .before .before .before .before .before .args .body in
+    let w = k .before .withdrawn .given .0 in
+    let found : partsOf (b .now) ≡ Parts (w .0) (w .1 .0) (w .1 .1 .0) = sym (k .before .before .before .update-parts .ensures) ∙ k .before .withdrawn .given .1 in
+    rw found (rw (clipped-fits (extent (lengthSize + w .0 + lengthSize + w .1 .0) (w .1 .1 .0)) (length (b .now)) (omega (arith, parts-add-up (b .now) _ _ _ found))) at (c .part .ensures))
+
+-- src/lib.rt:100:1
+returns-2 : tie.Need-returns-2
+returns-2 c =
+    let b = c .before .before .before .before .before .args .body in
+    rw (sym (c .before .before .before .update-parts .ensures) ∙ c .before .enum-told .given .1) (rw (clipped-fits nothing (length (b .now)) (omega arith)) at (c .part2 .ensures))
+
+pub announced-part-spec : {M : Type 1} → statement M
+announced-part-spec =
+    tie.close
+    (tie.spec
+    update-parts-requires
+    enum-known-withdrawn
+    add-part
+    add-part-2
+    add-part-3
+    part-requires
+    enum-told
+    part-requires-2
+    returns
+    returns-2)

@@ -1,0 +1,54 @@
+-- Laws of the sections of a body.
+-- Assumes nothing.
+use Prim.Native.Nat.{ℕ, _+_, _-_, _≤_, _<_}
+use mathlib.Core.Path.{_≡_, refl, sym, ap, _∙_}
+use mathlib.Core.List.{List}
+use mathlib.Core.Bool.{Bool, true, false}
+use native.Mathlib.Omega.{arith}
+use borrow.Author.Tests.{ltb-false}
+use lib.ListN.{length, drop, length-drop}
+use lib.Seq.{length-take-le}
+use lib.Dec.{ltb}
+use denote.Ref.{RefT}
+use Rattle.wire.specs.Extent.{PartOf}
+use Rattle.wire.specs.Refusal.{tooLong, truncated, bodyLimit}
+use Rattle.updates.specs.Body.{lengthSize, withdrawnSize, withdrawnEnd, attributesSize, attributesEnd, refusedIf, partsOf, withdrawnAt, attributesAt, announcedAt, withdrawnOf, attributesOf, announcedOf}
+use Rattle.updates.specs.declared.PartsAnswer.{PartsAnswer}
+use Rattle.updates.specs.declared.PartsAnswer.the-variants.{Parts, Refused}
+
+-- what holds of a refusal, and of what follows a check that does not refuse
+unless {ℓ} : (P : PartsAnswer → Type ℓ) (test : Bool) (n : ℕ) (next : PartsAnswer) → P (Refused n) → (test ≡ false → P next) → P (refusedIf test n next)
+unless P true n next r f = r
+unless P false n next r f = f refl
+
+-- what holds of every refusal, and of a body whose sections are all there, holds of every body
+pub parts-cases {ℓ} : (b : List ℕ) (P : PartsAnswer → Type ℓ) → ((n : ℕ) → P (Refused n))
+    → (length b ≤ bodyLimit → attributesEnd b ≤ length b → P (Parts (withdrawnSize b) (attributesSize b) (length b - attributesEnd b))) → P (partsOf b)
+unfolding partsOf
+parts-cases b P bad good =
+    unless P (ltb bodyLimit (length b)) tooLong _ (bad tooLong) (λ small.
+    unless P (ltb (length b) lengthSize) truncated _ (bad truncated) (λ _.
+    unless P (ltb (length b) (withdrawnEnd b)) truncated _ (bad truncated) (λ _.
+    unless P (ltb (length b) (withdrawnEnd b + lengthSize)) truncated _ (bad truncated) (λ _.
+    unless P (ltb (length b) (attributesEnd b)) truncated _ (bad truncated) (λ there.
+    good (ltb-false bodyLimit (length b) small) (ltb-false (length b) (attributesEnd b) there))))))
+
+-- the three lengths and the four length bytes add up to the body
+pub parts-add-up : (b : List ℕ) (w a n : ℕ) → partsOf b ≡ Parts w a n → (w + a + n + (lengthSize + lengthSize) ≡ length b) × (length b ≤ bodyLimit)
+parts-add-up b w a n =
+    parts-cases b (λ p. p ≡ Parts w a n → (w + a + n + (lengthSize + lengthSize) ≡ length b) × (length b ≤ bodyLimit))
+    (λ m e. let z : _≡_ {A = ℕ} 0 1 = cc in absurd (omega arith))
+    (λ small there e.
+    let p : withdrawnSize b ≡ w = cc in
+    let q : attributesSize b ≡ a = cc in
+    let r : length b - attributesEnd b ≡ n = cc in
+    (omega arith, small))
+
+-- what a part that was handed back holds
+pub holds-withdrawn : (s r : RefT (List ℕ)) → PartOf s (withdrawnAt (partsOf (s .now))) r → r .now ≡ withdrawnOf (s .now)
+unfolding withdrawnOf
+holds-withdrawn s r h = h .holds
+
+pub holds-announced : (s r : RefT (List ℕ)) → PartOf s (announcedAt (partsOf (s .now))) r → r .now ≡ announcedOf (s .now)
+unfolding announcedOf
+holds-announced s r h = h .holds

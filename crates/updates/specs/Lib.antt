@@ -1,0 +1,3 @@
+pub mod Body
+pub mod Update
+pub mod BodyLaws
