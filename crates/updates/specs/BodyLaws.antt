@@ -1,18 +1,17 @@
 -- Laws of the sections of a body.
 -- Assumes nothing.
-use Prim.Native.Nat.{ℕ, _+_, _-_, _≤_, _<_}
-use mathlib.Core.Path.{_≡_, refl, sym, ap, _∙_}
+use Prim.Native.Nat.{ℕ, _+_, _-_, _≤_}
+use mathlib.Core.Path.{_≡_, refl}
 use mathlib.Core.List.{List}
 use mathlib.Core.Bool.{Bool, true, false}
 use native.Mathlib.Omega.{arith}
 use borrow.Author.Tests.{ltb-false}
-use lib.ListN.{length, drop, length-drop}
-use lib.Seq.{length-take-le}
+use lib.ListN.{length}
 use lib.Dec.{ltb}
 use denote.Ref.{RefT}
 use Rattle.wire.specs.Extent.{PartOf}
 use Rattle.wire.specs.Refusal.{tooLong, truncated, bodyLimit}
-use Rattle.updates.specs.Body.{lengthSize, withdrawnSize, withdrawnEnd, attributesSize, attributesEnd, refusedIf, partsOf, withdrawnAt, attributesAt, announcedAt, withdrawnOf, attributesOf, announcedOf}
+use Rattle.updates.specs.Body.{lengthSize, withdrawnSize, withdrawnEnd, attributesSize, attributesEnd, refusedIf, partsOf, withdrawnAt, announcedAt, withdrawnOf, announcedOf}
 use Rattle.updates.specs.declared.PartsAnswer.{PartsAnswer}
 use Rattle.updates.specs.declared.PartsAnswer.the-variants.{Parts, Refused}
 

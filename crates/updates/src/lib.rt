@@ -105,7 +105,11 @@ pub fn announced_part(body: &[u8]) -> &[u8]
             withdrawn,
             attributes,
             announced,
-        } => wire::part(body, LENGTH_SIZE + withdrawn + LENGTH_SIZE + attributes, announced),
+        } => wire::part(
+            body,
+            LENGTH_SIZE + withdrawn + LENGTH_SIZE + attributes,
+            announced,
+        ),
         PartsAnswer::Refused(_) => wire::part(body, 0, 0),
     }
 }
@@ -164,7 +168,13 @@ pub fn parse_bgp_update_message(
             withdrawn: _,
             attributes: _,
             announced: _,
-        } => both_sections(withdrawn_part(body), announced_part(body), mode, withdrawn, announced),
+        } => both_sections(
+            withdrawn_part(body),
+            announced_part(body),
+            mode,
+            withdrawn,
+            announced,
+        ),
         PartsAnswer::Refused(n) => UpdateAnswer::Refused(n),
     }
 }

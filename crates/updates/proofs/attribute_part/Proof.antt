@@ -10,16 +10,10 @@ use Rattle.updates.specs.declared.PartsAnswer.the-variants.{Parts}
 use borrow.Author.Needs.{needs}
 use Rattle.updates.proofs.attribute_part.Statement.{statement}
 use Rattle.updates.proofs.attribute_part.Tie as tie
-use Rattle.updates.proofs.attribute_part.Reads as reads
-use Rattle.updates.proofs.attribute_part.Lts as lts
-use Rattle.updates.proofs.update_parts.Reads as update-parts-reads
-use Rattle.wire.proofs.part.Reads as part-reads
 
--- src/lib.rt:89:11
 update-parts-requires : tie.Need-update-parts-requires
 update-parts-requires c κs = search needs
 
--- src/lib.rt:91:13
 enum-known-withdrawn : tie.Need-enum-known-withdrawn
 enum-known-withdrawn c = search needs
 
@@ -28,27 +22,21 @@ sums : (c : tie.After-known-told) → let w = c .before .withdrawn .given .0 in
     (w .0 + w .1 .0 + w .1 .1 .0 + (lengthSize + lengthSize) ≡ length b) × (length b ≤ bodyLimit)
 sums c = parts-add-up (c .before .before .before .before .before .args .body .now) _ _ _ (sym (c .before .before .before .update-parts .ensures) ∙ c .before .withdrawn .given .1)
 
--- src/lib.rt:94:31
 add-part : tie.Need-add-part
 add-part c = omega (arith, sums c)
 
--- src/lib.rt:94:31
 add-part-2 : tie.Need-add-part-2
 add-part-2 c = omega (arith, sums c)
 
--- src/lib.rt:94:14
 part-requires : tie.Need-part-requires
 part-requires c κs = search needs
 
--- src/lib.rt:95:36
 enum-told : tie.Need-enum-told
 enum-told c = search needs
 
--- src/lib.rt:95:36
 part-requires-2 : tie.Need-part-requires-2
 part-requires-2 c κs = search needs
 
--- src/lib.rt:86:1
 returns : tie.Need-returns
 returns c =
     let k = c .before in
@@ -57,7 +45,6 @@ returns c =
     let found : partsOf (b .now) ≡ Parts (w .0) (w .1 .0) (w .1 .1 .0) = sym (k .before .before .before .update-parts .ensures) ∙ k .before .withdrawn .given .1 in
     rw found (rw (clipped-fits (extent (lengthSize + w .0 + lengthSize) (w .1 .0)) (length (b .now)) (omega (arith, parts-add-up (b .now) _ _ _ found))) at (c .part .ensures))
 
--- src/lib.rt:86:1
 returns-2 : tie.Need-returns-2
 returns-2 c =
     let b = c .before .before .before .before .before .args .body in

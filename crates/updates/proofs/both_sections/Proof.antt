@@ -1,47 +1,34 @@
-use mathlib.Core.Path.{_≡_, refl, sym, ap, _∙_}
 use borrow.Author.Needs.{needs}
 use Rattle.updates.proofs.both_sections.Statement.{statement}
 use Rattle.updates.proofs.both_sections.Tie as tie
-use Rattle.updates.proofs.both_sections.Reads as reads
-use Rattle.updates.proofs.both_sections.Lts as lts
-use Rattle.routes.proofs.read_nlri_pair.Reads as read-nlri-pair-reads
 
--- src/lib.rt:153:11
 read-nlri-pair-requires : tie.Need-read-nlri-pair-requires
 read-nlri-pair-requires c κs = search needs
 
--- src/lib.rt:154:32
 enum-known-first : tie.Need-enum-known-first
 enum-known-first c = search needs
 
--- src/lib.rt:158:29
 enum-known-n : tie.Need-enum-known-n
 enum-known-n c = search needs
 
--- src/lib.rt:142:1
 same-length : tie.Need-same-length
 same-length c = search needs
 
--- src/lib.rt:142:1
 same-length-2 : tie.Need-same-length-2
 same-length-2 c = search needs
 
--- src/lib.rt:142:1
 returns : tie.Need-returns
 returns c =
     let p = c .before .before .before .before .before .before .before .read-nlri-pair in
     let e = c .before .first .given .1 in
     (rw (← p .ensures .0, e), (rw e at (p .ensures .1 .0), rw e at (p .ensures .1 .1)))
 
--- src/lib.rt:142:1
 same-length-3 : tie.Need-same-length-3
 same-length-3 c = search needs
 
--- src/lib.rt:142:1
 same-length-4 : tie.Need-same-length-4
 same-length-4 c = search needs
 
--- src/lib.rt:142:1
 returns-2 : tie.Need-returns-2
 returns-2 c =
     let p = c .before .before .before .before .before .before .before .read-nlri-pair in

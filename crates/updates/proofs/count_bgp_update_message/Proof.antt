@@ -1,47 +1,32 @@
-use mathlib.Core.Path.{ap₂}
+use mathlib.Core.Path.{ap₂, sym, _∙_}
 use Rattle.updates.specs.declared.UpdateAnswer.the-variants.{Update}
-use mathlib.Core.Path.{_≡_, sym, ap, _∙_}
 use Rattle.updates.specs.Update.{countUpdate}
 use Rattle.updates.specs.BodyLaws.{holds-withdrawn, holds-announced}
 use borrow.Author.Needs.{needs}
 use Rattle.updates.proofs.count_bgp_update_message.Statement.{statement}
 use Rattle.updates.proofs.count_bgp_update_message.Tie as tie
-use Rattle.updates.proofs.count_bgp_update_message.Reads as reads
-use Rattle.updates.proofs.count_bgp_update_message.Lts as lts
-use Rattle.routes.proofs.count_nlri.Reads as count-nlri-reads
-use Rattle.updates.proofs.announced_part.Reads as announced-part-reads
-use Rattle.updates.proofs.update_parts.Reads as update-parts-reads
-use Rattle.updates.proofs.withdrawn_part.Reads as withdrawn-part-reads
 
--- src/lib.rt:128:11
 update-parts-requires : tie.Need-update-parts-requires
 update-parts-requires c κs = search needs
 
--- src/lib.rt:134:43
 enum-told : tie.Need-enum-told
 enum-told c = search needs
 
--- src/lib.rt:134:43
 withdrawn-part-requires : tie.Need-withdrawn-part-requires
 withdrawn-part-requires c κs = search needs
 
--- src/lib.rt:134:24
 count-nlri-requires : tie.Need-count-nlri-requires
 count-nlri-requires c κs = search needs
 
--- src/lib.rt:135:43
 announced-part-requires : tie.Need-announced-part-requires
 announced-part-requires c κs = search needs
 
--- src/lib.rt:135:24
 count-nlri-requires-2 : tie.Need-count-nlri-requires-2
 count-nlri-requires-2 c κs = search needs
 
--- src/lib.rt:137:30
 enum-known-n : tie.Need-enum-known-n
 enum-known-n c = search needs
 
--- src/lib.rt:125:1
 returns : tie.Need-returns
 unfolding countUpdate
 returns c =
@@ -51,7 +36,6 @@ returns c =
     let a = holds-announced b _ (c .before .announced-part .ensures) in
     rw (sym (k .before .before .update-parts .ensures) ∙ k .enum-told .given .1, ← w, ← a) (ap₂ Update (c .before .before .count-nlri .ensures) (c .count-nlri2 .ensures))
 
--- src/lib.rt:125:1
 returns-2 : tie.Need-returns-2
 unfolding countUpdate
 returns-2 c = rw (sym (c .before .before .before .update-parts .ensures) ∙ c .before .n .given .1)

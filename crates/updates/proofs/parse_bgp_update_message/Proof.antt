@@ -1,49 +1,34 @@
-use mathlib.Core.Path.{_≡_, refl, sym, ap, _∙_}
+use mathlib.Core.Path.{refl, sym, _∙_}
 use Rattle.updates.specs.Update.{readUpdate}
 use Rattle.updates.specs.BodyLaws.{holds-withdrawn, holds-announced}
 use borrow.Author.Needs.{needs}
 use Rattle.updates.proofs.parse_bgp_update_message.Statement.{statement}
 use Rattle.updates.proofs.parse_bgp_update_message.Tie as tie
-use Rattle.updates.proofs.parse_bgp_update_message.Reads as reads
-use Rattle.updates.proofs.parse_bgp_update_message.Lts as lts
-use Rattle.updates.proofs.announced_part.Reads as announced-part-reads
-use Rattle.updates.proofs.both_sections.Reads as both-sections-reads
-use Rattle.updates.proofs.update_parts.Reads as update-parts-reads
-use Rattle.updates.proofs.withdrawn_part.Reads as withdrawn-part-reads
 
--- src/lib.rt:173:11
 update-parts-requires : tie.Need-update-parts-requires
 update-parts-requires c κs = search needs
 
--- src/lib.rt:178:28
 enum-told : tie.Need-enum-told
 enum-told c = search needs
 
--- src/lib.rt:178:28
 withdrawn-part-requires : tie.Need-withdrawn-part-requires
 withdrawn-part-requires c κs = search needs
 
--- src/lib.rt:178:50
 announced-part-requires : tie.Need-announced-part-requires
 announced-part-requires c κs = search needs
 
--- src/lib.rt:178:14
 both-sections-requires : tie.Need-both-sections-requires
 both-sections-requires c κs = search needs
 
--- src/lib.rt:179:30
 enum-known-n : tie.Need-enum-known-n
 enum-known-n c = search needs
 
--- src/lib.rt:163:1
 same-length : tie.Need-same-length
 same-length c = search needs
 
--- src/lib.rt:163:1
 same-length-2 : tie.Need-same-length-2
 same-length-2 c = search needs
 
--- src/lib.rt:163:1
 returns : tie.Need-returns
 unfolding readUpdate
 returns c =
@@ -52,13 +37,11 @@ returns c =
     let k = q .before .before in
     let b = k .before .before .before .before .before .before .args .body in
     let w = holds-withdrawn b _ (q .before .withdrawn-part .ensures) in
-    let a = holds-announced b _ (q .announced-part .ensures) in
-    (
+    let a = holds-announced b _ (q .announced-part .ensures) in (
       rw (sym (k .before .before .update-parts .ensures) ∙ k .enum-told .given .1, ← w, ← a) (s .both-sections .ensures .0),
       (rw (← w) (s .both-sections .ensures .1 .0), rw (← a) (s .both-sections .ensures .1 .1)),
     )
 
--- src/lib.rt:163:1
 returns-2 : tie.Need-returns-2
 unfolding readUpdate
 returns-2 c = (rw (sym (c .before .before .before .update-parts .ensures) ∙ c .before .n .given .1), (refl, refl))

@@ -3,65 +3,49 @@ use Rattle.updates.specs.Body.{partsOf}
 use borrow.Author.Needs.{needs}
 use Rattle.updates.proofs.update_parts.Statement.{statement}
 use Rattle.updates.proofs.update_parts.Tie as tie
-use Rattle.updates.proofs.update_parts.Reads as reads
-use Rattle.updates.proofs.update_parts.Lts as lts
-use Rattle.wire.proofs.u16_at.Reads as u16-at-reads
 
--- src/lib.rt:46:9
 returns : tie.Need-returns
 unfolding partsOf
 returns c = simp (lt-ltb _ _ (c .if1 .taken))
 
--- src/lib.rt:49:9
 returns-2 : tie.Need-returns-2
 unfolding partsOf
 returns-2 c = simp (le-ltb _ _ (c .before .if1 .left), lt-ltb _ _ (c .if2 .taken))
 
--- src/lib.rt:51:21
 u16-at-requires : tie.Need-u16-at-requires
 u16-at-requires c κs = search needs
 
--- src/lib.rt:51:21
 cast-withdrawn : tie.Need-cast-withdrawn
 cast-withdrawn c = search needs
 
--- src/lib.rt:52:14
 add-at : tie.Need-add-at
 add-at c = search needs
 
--- src/lib.rt:54:9
 returns-3 : tie.Need-returns-3
 unfolding partsOf
 returns-3 c = rw (← c .before .u16-at .ensures) (simp (le-ltb _ _ (c .before .before .before .if1 .left), le-ltb _ _ (c .before .before .if2 .left), lt-ltb _ _ (c .if3 .taken)))
 
--- src/lib.rt:56:12
 add-if4 : tie.Need-add-if4
 add-if4 c = search needs
 
--- src/lib.rt:57:9
 returns-4 : tie.Need-returns-4
 unfolding partsOf
 returns-4 c =
     let w = c .before .before in
     rw (← w .u16-at .ensures) (simp (le-ltb _ _ (w .before .before .if1 .left), le-ltb _ _ (w .before .if2 .left), le-ltb _ _ (c .before .if3 .left), lt-ltb _ _ (c .if4 .taken)))
 
--- src/lib.rt:59:22
 u16-at-requires-2 : tie.Need-u16-at-requires-2
 u16-at-requires-2 c κs = search needs
 
--- src/lib.rt:59:22
 cast-attributes : tie.Need-cast-attributes
 cast-attributes c = search needs
 
--- src/lib.rt:60:15
 add-end : tie.Need-add-end
 add-end c = search needs
 
--- src/lib.rt:60:15
 add-end-2 : tie.Need-add-end-2
 add-end-2 c = search needs
 
--- src/lib.rt:62:9
 returns-5 : tie.Need-returns-5
 unfolding partsOf
 returns-5 c =
@@ -69,7 +53,6 @@ returns-5 c =
     rw (← w .u16-at .ensures, ← c .before .u16-at2 .ensures)
     (simp (le-ltb _ _ (w .before .before .if1 .left), le-ltb _ _ (w .before .if2 .left), le-ltb _ _ (c .before .before .before .if3 .left), le-ltb _ _ (c .before .before .if4 .left), lt-ltb _ _ (c .if5 .taken)))
 
--- src/lib.rt:41:1
 returns-6 : tie.Need-returns-6
 unfolding partsOf
 returns-6 c =

@@ -1,41 +1,29 @@
 use mathlib.Core.Path.{_≡_, sym, _∙_}
-use Prim.Native.Nat.{_+_, _≤_}
 use native.Mathlib.Omega.{arith}
 use lib.ListN.{length}
 use Rattle.wire.specs.Extent.{extent, nothing, clipped-fits}
-use Rattle.wire.specs.Refusal.{bodyLimit}
 use Rattle.updates.specs.Body.{lengthSize, partsOf}
 use Rattle.updates.specs.BodyLaws.{parts-add-up}
 use Rattle.updates.specs.declared.PartsAnswer.the-variants.{Parts}
 use borrow.Author.Needs.{needs}
 use Rattle.updates.proofs.withdrawn_part.Statement.{statement}
 use Rattle.updates.proofs.withdrawn_part.Tie as tie
-use Rattle.updates.proofs.withdrawn_part.Reads as reads
-use Rattle.updates.proofs.withdrawn_part.Lts as lts
-use Rattle.updates.proofs.update_parts.Reads as update-parts-reads
-use Rattle.wire.proofs.part.Reads as part-reads
 
--- src/lib.rt:75:11
 update-parts-requires : tie.Need-update-parts-requires
 update-parts-requires c κs = search needs
 
--- src/lib.rt:77:13
 enum-known-withdrawn : tie.Need-enum-known-withdrawn
 enum-known-withdrawn c = search needs
 
--- src/lib.rt:80:14
 part-requires : tie.Need-part-requires
 part-requires c κs = search needs
 
--- src/lib.rt:81:36
 enum-told : tie.Need-enum-told
 enum-told c = search needs
 
--- src/lib.rt:81:36
 part-requires-2 : tie.Need-part-requires-2
 part-requires-2 c κs = search needs
 
--- src/lib.rt:72:1
 returns : tie.Need-returns
 returns c =
     let k = c .before in
@@ -44,7 +32,6 @@ returns c =
     let found : partsOf (b .now) ≡ Parts (w .0) (w .1 .0) (w .1 .1 .0) = sym (k .before .before .before .update-parts .ensures) ∙ k .before .withdrawn .given .1 in
     rw found (rw (clipped-fits (extent lengthSize (w .0)) (length (b .now)) (omega (arith, parts-add-up (b .now) _ _ _ found))) at (c .part .ensures))
 
--- src/lib.rt:72:1
 returns-2 : tie.Need-returns-2
 returns-2 c =
     let b = c .before .before .before .before .before .args .body in

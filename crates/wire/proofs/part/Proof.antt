@@ -1,4 +1,4 @@
-use mathlib.Core.Path.{_≡_, refl, sym, ap, _∙_}
+use mathlib.Core.Path.{_≡_, refl, ap}
 use Prim.Native.Nat.{ℕ, _+_, _-_}
 use native.Mathlib.Omega.{arith}
 use lib.ListN.{length, take, drop}
@@ -6,46 +6,34 @@ use Rattle.wire.specs.Extent.{extent, clipped-fits, clipped-not, empty-p
 use borrow.Author.Needs.{needs}
 use Rattle.wire.proofs.part.Statement.{statement}
 use Rattle.wire.proofs.part.Tie as tie
-use Rattle.wire.proofs.part.Reads as reads
-use Rattle.wire.proofs.part.Lts as lts
 
--- src/lib.rt:131:9
 slice-aggregate-result : tie.Need-slice-aggregate-result
 slice-aggregate-result c = search needs
 
--- src/lib.rt:131:9
 returns : tie.Need-returns
 returns c = let a = c .before .before .args in rw (clipped-not (extent (a .start) (a .size)) (length (a .s .now)) (omega arith)) (empty-part (a .s) _ refl refl)
 
--- src/lib.rt:133:8
 sub-if2 : tie.Need-sub-if2
 sub-if2 c = search needs
 
--- src/lib.rt:134:9
 slice-aggregate-result-2 : tie.Need-slice-aggregate-result-2
 slice-aggregate-result-2 c = search needs
 
--- src/lib.rt:134:9
 returns-2 : tie.Need-returns-2
 returns-2 c = let a = c .before .before .before .args in rw (clipped-not (extent (a .start) (a .size)) (length (a .s .now)) (omega arith)) (empty-part (a .s) _ refl refl)
 
--- src/lib.rt:136:15
 add-end : tie.Need-add-end
 add-end c = search needs
 
--- src/lib.rt:137:5
 sub-result : tie.Need-sub-result
 sub-result c = search needs
 
--- src/lib.rt:137:5
 part-result-start : tie.Need-part-result-start
 part-result-start c = search needs
 
--- src/lib.rt:137:5
 part-result-end : tie.Need-part-result-end
 part-result-end c = search needs
 
--- src/lib.rt:127:1
 returns-3 : tie.Need-returns-3
 returns-3 c =
     let a = c .before .before .before .args in
