@@ -77,10 +77,6 @@ allFF (b ∷ s) = pick (eqb b 255) (allFF s) false
 unfoldable pub smaller : ℕ → ℕ → ℕ
 smaller a b = pick (leb a b) a b
 
--- refused with n where a test holds, and else what follows
-abbrev pub refusedIf : Bool → ℕ → MessageAnswer → MessageAnswer
-refusedIf test n next = pick test (Refused n) next
-
 -- ---- the fields
 
 abbrev pub markerOf : List ℕ → List ℕ
@@ -108,22 +104,22 @@ whole s = Message (kindOf s) (claimedOf s) (claimedOf s) false false (ltb (claim
 -- the crate's reading
 unfoldable pub messageOf : List ℕ → MessageAnswer
 messageOf s =
-    refusedIf (ltb (length s) headerSize) truncated
-    (refusedIf (ltb (claimedOf s) headerSize) messageLength
-    (refusedIf (isUnknown (kindOf s)) messageType
-    (refusedIf (ltb (crateLimit (kindOf s)) (claimedOf s)) messageLength
-    (refusedIf (ltb (length s - headerSize) (takenOf s - headerSize)) shortBody
+    pick (ltb (length s) headerSize) (Refused truncated)
+    (pick (ltb (claimedOf s) headerSize) (Refused messageLength)
+    (pick (isUnknown (kindOf s)) (Refused messageType)
+    (pick (ltb (crateLimit (kindOf s)) (claimedOf s)) (Refused messageLength)
+    (pick (ltb (length s - headerSize) (takenOf s - headerSize)) (Refused shortBody)
     (accepted s)))))
 
 -- the strict reading, under a limit
 unfoldable pub strictWithin : ℕ → List ℕ → MessageAnswer
 strictWithin limit s =
-    refusedIf (ltb (length s) headerSize) truncated
-    (refusedIf (not (allFF (markerOf s))) badMarker
-    (refusedIf (isOutside headerSize limit (claimedOf s)) messageLength
-    (refusedIf (isUnknown (kindOf s)) messageType
-    (refusedIf (isOutside (leastLength (kindOf s)) (mostLength (kindOf s)) (claimedOf s)) messageLength
-    (refusedIf (ltb (length s) (claimedOf s)) truncated
+    pick (ltb (length s) headerSize) (Refused truncated)
+    (pick (not (allFF (markerOf s))) (Refused badMarker)
+    (pick (isOutside headerSize limit (claimedOf s)) (Refused messageLength)
+    (pick (isUnknown (kindOf s)) (Refused messageType)
+    (pick (isOutside (leastLength (kindOf s)) (mostLength (kindOf s)) (claimedOf s)) (Refused messageLength)
+    (pick (ltb (length s) (claimedOf s)) (Refused truncated)
     (whole s))))))
 
 -- RFC 4271's

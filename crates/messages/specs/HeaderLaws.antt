@@ -9,11 +9,11 @@ use borrow.Author.Tests.{eq-eqb, ne-eqb, le-leb, le-ltb, ltb-false, not-false}
 use lib.ListN.{length, getD, take, drop}
 use lib.Dec.{eqb, ltb}
 use lib.Seq.{drop-drop}
-use Rattle.wire.specs.Choice.{pick, pick-leb, pick-eqb}
+use Rattle.wire.specs.Choice.{pick, pick-leb, pick-eqb, pick-unless}
 use Rattle.wire.specs.Number.{be, beAt, padded, Bytes}
 use Rattle.wire.specs.NumberLaws.{padded-cells, padded-add, padded-take}
 use Rattle.wire.specs.Refusal.{truncated, messageLength, messageType, shortBody, badMarker}
-use Rattle.messages.specs.Header.{allFF, refusedIf, smaller, isOutside, isUnknown, headerSize, crateLimit, leastLength, mostLength, messageOf, strictWithin, markerOf, claimedOf, kindOf, takenOf, accepted, whole, Fits}
+use Rattle.messages.specs.Header.{allFF, smaller, isOutside, isUnknown, headerSize, crateLimit, leastLength, mostLength, messageOf, strictWithin, markerOf, claimedOf, kindOf, takenOf, accepted, whole, Fits}
 use Rattle.messages.specs.declared.MessageAnswer.{MessageAnswer}
 use Rattle.messages.specs.declared.MessageAnswer.the-variants.{Refused}
 
@@ -74,11 +74,6 @@ module _ (s : List ℕ) (long : 16 ≤ length s) where
 
 -- ---- the checks
 
--- what holds of a refusal, and of what follows a check that does not refuse
-pub unless {ℓ} : (P : MessageAnswer → Type ℓ) (test : Bool) (n : ℕ) (next : MessageAnswer) → P (Refused n) → (test ≡ false → P next) → P (refusedIf test n next)
-unless P true n next r f = r
-unless P false n next r f = f refl
-
 pub smaller-is-left : (a b : ℕ) → a ≤ b → smaller a b ≡ a
 unfolding smaller
 smaller-is-left a b h = rw (le-leb a b h)
@@ -133,11 +128,11 @@ module _ {ℓ} (s : List ℕ) (P : MessageAnswer → Type ℓ) (bad : (n : ℕ) 
   pub message-cases : (Accepted s → P (accepted s)) → P (messageOf s)
   unfolding messageOf
   message-cases good =
-      unless P (ltb (length s) headerSize) truncated _ (bad truncated) (λ long.
-      unless P (ltb (claimedOf s) headerSize) messageLength _ (bad messageLength) (λ claims.
-      unless P (isUnknown (kindOf s)) messageType _ (bad messageType) (λ known.
-      unless P (ltb (crateLimit (kindOf s)) (claimedOf s)) messageLength _ (bad messageLength) (λ short.
-      unless P (ltb (length s - headerSize) (takenOf s - headerSize)) shortBody _ (bad shortBody) (λ _.
+      pick-unless P (ltb (length s) headerSize) (Refused truncated) _ (bad truncated) (λ long.
+      pick-unless P (ltb (claimedOf s) headerSize) (Refused messageLength) _ (bad messageLength) (λ claims.
+      pick-unless P (isUnknown (kindOf s)) (Refused messageType) _ (bad messageType) (λ known.
+      pick-unless P (ltb (crateLimit (kindOf s)) (claimedOf s)) (Refused messageLength) _ (bad messageLength) (λ short.
+      pick-unless P (ltb (length s - headerSize) (takenOf s - headerSize)) (Refused shortBody) _ (bad shortBody) (λ _.
       good (record {
         long = ltb-false (length s) headerSize long;
         claims = ltb-false (claimedOf s) headerSize claims;
@@ -148,12 +143,12 @@ module _ {ℓ} (s : List ℕ) (P : MessageAnswer → Type ℓ) (bad : (n : ℕ) 
   pub strict-cases : (limit : ℕ) → (Whole limit s → P (whole s)) → P (strictWithin limit s)
   unfolding strictWithin
   strict-cases limit good =
-      unless P (ltb (length s) headerSize) truncated _ (bad truncated) (λ long.
-      unless P (not (allFF (markerOf s))) badMarker _ (bad badMarker) (λ ones.
-      unless P (isOutside headerSize limit (claimedOf s)) messageLength _ (bad messageLength) (λ claims.
-      unless P (isUnknown (kindOf s)) messageType _ (bad messageType) (λ known.
-      unless P (isOutside (leastLength (kindOf s)) (mostLength (kindOf s)) (claimedOf s)) messageLength _ (bad messageLength) (λ own.
-      unless P (ltb (length s) (claimedOf s)) truncated _ (bad truncated) (λ there.
+      pick-unless P (ltb (length s) headerSize) (Refused truncated) _ (bad truncated) (λ long.
+      pick-unless P (not (allFF (markerOf s))) (Refused badMarker) _ (bad badMarker) (λ ones.
+      pick-unless P (isOutside headerSize limit (claimedOf s)) (Refused messageLength) _ (bad messageLength) (λ claims.
+      pick-unless P (isUnknown (kindOf s)) (Refused messageType) _ (bad messageType) (λ known.
+      pick-unless P (isOutside (leastLength (kindOf s)) (mostLength (kindOf s)) (claimedOf s)) (Refused messageLength) _ (bad messageLength) (λ own.
+      pick-unless P (ltb (length s) (claimedOf s)) (Refused truncated) _ (bad truncated) (λ there.
       good (record {
         long = ltb-false (length s) headerSize long;
         ones = not-false (allFF (markerOf s)) ones;

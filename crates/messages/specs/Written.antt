@@ -22,15 +22,12 @@ totalOf body = headerSize + length body
 unfoldable pub messageBytes : ℕ → List ℕ → List ℕ
 messageBytes kind body = header (totalOf body) kind ++ body
 
-abbrev pub refusedIf : Bool → ℕ → WriteAnswer → WriteAnswer
-refusedIf test n next = pick test (Refused n) next
-
 -- into an output of so many places: 4, 3, then 11
 unfoldable pub writeAnswer : ℕ → List ℕ → ℕ → WriteAnswer
 writeAnswer kind body places =
-    refusedIf (isUnknown kind) messageType
-    (refusedIf (isOutside (leastLength kind) (mostLength kind) (totalOf body)) messageLength
-    (refusedIf (ltb places (totalOf body)) noRoom
+    pick (isUnknown kind) (Refused messageType)
+    (pick (isOutside (leastLength kind) (mostLength kind) (totalOf body)) (Refused messageLength)
+    (pick (ltb places (totalOf body)) (Refused noRoom)
     (Bytes (totalOf body))))
 
 -- the output afterwards: the message from its front where it was written, and else as it was

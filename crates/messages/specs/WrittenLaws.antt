@@ -8,14 +8,14 @@ use native.Mathlib.Omega.{arith}
 use borrow.Author.Tests.{lt-ltb, ltb-false}
 use lib.ListN.{length, take, drop, length-append}
 use lib.Dec.{ltb, eqb}
-use Rattle.wire.specs.Choice.{pick-any, pick-eqb}
+use Rattle.wire.specs.Choice.{pick-any, pick-eqb, pick-unless}
 use Rattle.wire.specs.Number.{toBe, beAt}
 use Rattle.wire.specs.NumberLaws.{toBe-four}
 use Rattle.wire.specs.Refusal.{messageType, messageLength, noRoom}
 use Rattle.wire.specs.Store.{laid, placed, placed-next, placed-fits}
 use Rattle.messages.specs.Header.{openKind, keepaliveKind, headerSize, messageLimit, extendedLimit, crateLimit, leastLength, mostLength, isOutside, isUnknown, allFF, markerOf, claimedOf, kindOf}
 use Rattle.messages.specs.HeaderLaws.{inside-low, inside-high}
-use Rattle.messages.specs.Written.{header, totalOf, messageBytes, refusedIf, writeAnswer, laidBy, outAfter}
+use Rattle.messages.specs.Written.{header, totalOf, messageBytes, writeAnswer, laidBy, outAfter}
 use Rattle.messages.specs.declared.WriteAnswer.{WriteAnswer}
 use Rattle.messages.specs.declared.WriteAnswer.the-variants.{Bytes, Refused}
 
@@ -98,19 +98,15 @@ pub record Fit (kind : ℕ) (body : List ℕ) (places n : ℕ) : Type 0 where
   pub room : totalOf body ≤ places
   pub size : n ≡ totalOf body
 
-unless {ℓ} : (P : WriteAnswer → Type ℓ) (test : Bool) (m : ℕ) (next : WriteAnswer) → P (Refused m) → (test ≡ false → P next) → P (refusedIf test m next)
-unless P true m next r f = r
-unless P false m next r f = f refl
-
 pub written-fit : (kind : ℕ) (body : List ℕ) (places n : ℕ) → writeAnswer kind body places ≡ Bytes n → Fit kind body places n
 unfolding writeAnswer
 written-fit kind body places n =
     let never : (m : ℕ) → Refused m ≡ Bytes n → Fit kind body places n = λ m e. let z : _≡_ {A = ℕ} 0 1 = cc in absurd (omega arith) in
     let P : WriteAnswer → Type 0 = λ a. a ≡ Bytes n → Fit kind body places n in
     let total : ℕ = totalOf body in
-    unless P (isUnknown kind) messageType _ (never messageType) (λ known.
-    unless P (isOutside (leastLength kind) (mostLength kind) total) messageLength _ (never messageLength) (λ own.
-    unless P (ltb places total) noRoom (Bytes total) (never noRoom) (λ room e.
+    pick-unless P (isUnknown kind) (Refused messageType) _ (never messageType) (λ known.
+    pick-unless P (isOutside (leastLength kind) (mostLength kind) total) (Refused messageLength) _ (never messageLength) (λ own.
+    pick-unless P (ltb places total) (Refused noRoom) (Bytes total) (never noRoom) (λ room e.
     record {
       known = known;
       least = inside-low (leastLength kind) (mostLength kind) total own;

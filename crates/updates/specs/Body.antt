@@ -30,18 +30,14 @@ attributesSize b = beAt b (withdrawnEnd b) lengthSize
 abbrev pub attributesEnd : List ℕ → ℕ
 attributesEnd b = withdrawnEnd b + lengthSize + attributesSize b
 
--- refused with n where a test holds, and else what follows
-abbrev pub refusedIf : Bool → ℕ → PartsAnswer → PartsAnswer
-refusedIf test n next = pick test (Refused n) next
-
 -- 1 first; then each length and each section is all there
 unfoldable pub partsOf : List ℕ → PartsAnswer
 partsOf b =
-    refusedIf (ltb bodyLimit (length b)) tooLong
-    (refusedIf (ltb (length b) lengthSize) truncated
-    (refusedIf (ltb (length b) (withdrawnEnd b)) truncated
-    (refusedIf (ltb (length b) (withdrawnEnd b + lengthSize)) truncated
-    (refusedIf (ltb (length b) (attributesEnd b)) truncated
+    pick (ltb bodyLimit (length b)) (Refused tooLong)
+    (pick (ltb (length b) lengthSize) (Refused truncated)
+    (pick (ltb (length b) (withdrawnEnd b)) (Refused truncated)
+    (pick (ltb (length b) (withdrawnEnd b + lengthSize)) (Refused truncated)
+    (pick (ltb (length b) (attributesEnd b)) (Refused truncated)
     (Parts (withdrawnSize b) (attributesSize b) (length b - attributesEnd b))))))
 
 -- ---- the sections as parts of the body, and nothing where it is refused

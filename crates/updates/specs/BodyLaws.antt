@@ -9,27 +9,23 @@ use borrow.Author.Tests.{ltb-false}
 use lib.ListN.{length}
 use lib.Dec.{ltb}
 use denote.Ref.{RefT}
+use Rattle.wire.specs.Choice.{pick-unless}
 use Rattle.wire.specs.Extent.{PartOf}
 use Rattle.wire.specs.Refusal.{tooLong, truncated, bodyLimit}
-use Rattle.updates.specs.Body.{lengthSize, withdrawnSize, withdrawnEnd, attributesSize, attributesEnd, refusedIf, partsOf, withdrawnAt, announcedAt, withdrawnOf, announcedOf}
+use Rattle.updates.specs.Body.{lengthSize, withdrawnSize, withdrawnEnd, attributesSize, attributesEnd, partsOf, withdrawnAt, announcedAt, withdrawnOf, announcedOf}
 use Rattle.updates.specs.declared.PartsAnswer.{PartsAnswer}
 use Rattle.updates.specs.declared.PartsAnswer.the-variants.{Parts, Refused}
-
--- what holds of a refusal, and of what follows a check that does not refuse
-unless {ℓ} : (P : PartsAnswer → Type ℓ) (test : Bool) (n : ℕ) (next : PartsAnswer) → P (Refused n) → (test ≡ false → P next) → P (refusedIf test n next)
-unless P true n next r f = r
-unless P false n next r f = f refl
 
 -- what holds of every refusal, and of a body whose sections are all there, holds of every body
 pub parts-cases {ℓ} : (b : List ℕ) (P : PartsAnswer → Type ℓ) → ((n : ℕ) → P (Refused n))
     → (length b ≤ bodyLimit → attributesEnd b ≤ length b → P (Parts (withdrawnSize b) (attributesSize b) (length b - attributesEnd b))) → P (partsOf b)
 unfolding partsOf
 parts-cases b P bad good =
-    unless P (ltb bodyLimit (length b)) tooLong _ (bad tooLong) (λ small.
-    unless P (ltb (length b) lengthSize) truncated _ (bad truncated) (λ _.
-    unless P (ltb (length b) (withdrawnEnd b)) truncated _ (bad truncated) (λ _.
-    unless P (ltb (length b) (withdrawnEnd b + lengthSize)) truncated _ (bad truncated) (λ _.
-    unless P (ltb (length b) (attributesEnd b)) truncated _ (bad truncated) (λ there.
+    pick-unless P (ltb bodyLimit (length b)) (Refused tooLong) _ (bad tooLong) (λ small.
+    pick-unless P (ltb (length b) lengthSize) (Refused truncated) _ (bad truncated) (λ _.
+    pick-unless P (ltb (length b) (withdrawnEnd b)) (Refused truncated) _ (bad truncated) (λ _.
+    pick-unless P (ltb (length b) (withdrawnEnd b + lengthSize)) (Refused truncated) _ (bad truncated) (λ _.
+    pick-unless P (ltb (length b) (attributesEnd b)) (Refused truncated) _ (bad truncated) (λ there.
     good (ltb-false bodyLimit (length b) small) (ltb-false (length b) (attributesEnd b) there))))))
 
 -- the three lengths and the four length bytes add up to the body

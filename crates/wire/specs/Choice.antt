@@ -31,3 +31,8 @@ pick-eqb P a b x y f g = by-test (eqb a b) refl
     by-test : (t : Bool) → eqb a b ≡ t → P (pick t x y)
     by-test true e = f (eqb-true a b e)
     by-test false e = g (eqb-false a b e)
+
+-- of what is picked unless a test holds, with the test's answer
+pub pick-unless {ℓ} : {X : Type 0} (P : X → Type ℓ) (t : Bool) (x y : X) → P x → (t ≡ false → P y) → P (pick t x y)
+pick-unless P true x y p q = p
+pick-unless P false x y p q = q refl
