@@ -68,7 +68,7 @@ enum StepAnswer {
 }
 
 // The longest prefix of a family, in bits.
-fn max_len(afi: Afi) -> u8
+pub fn max_len(afi: Afi) -> u8
     ensures { λ r. ⌜ r ≡ maxOf afi ⌝ }
 {
     match afi {
@@ -78,7 +78,7 @@ fn max_len(afi: Afi) -> u8
 }
 
 // The bytes of an id in a form.
-fn id_size(form: Form) -> usize
+pub fn id_size(form: Form) -> usize
     ensures { λ r. ⌜ r ≡ idSize form ⌝ }
 {
     match form {
@@ -88,7 +88,7 @@ fn id_size(form: Form) -> usize
 }
 
 // The octets of a prefix of that many bits.
-fn octet_count(len: u8) -> usize
+pub fn octet_count(len: u8) -> usize
     ensures { λ r. ⌜ r ≡ octets len ⌝ }
 {
     (len as usize + 7) / 8
@@ -180,7 +180,7 @@ fn put_row(store: &mut [u32], to: usize, t: &[u8], n: usize, max: u8, first: u32
 }
 
 // What an id adds to a row's first word.
-fn mark_of(form: Form) -> u32
+pub fn mark_of(form: Form) -> u32
     ensures { λ r. ⌜ r ≡ markOf form ⌝ }
 {
     match form {
