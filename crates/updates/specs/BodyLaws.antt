@@ -1,16 +1,15 @@
 -- Laws of the sections of a body.
 -- Assumes nothing.
 use Prim.Native.Nat.{ℕ, _+_, _-_, _≤_}
-use mathlib.Core.Path.{_≡_, refl}
+use mathlib.Core.Path.{_≡_, sym, _∙_}
 use mathlib.Core.List.{List}
-use mathlib.Core.Bool.{Bool, true, false}
 use native.Mathlib.Omega.{arith}
 use borrow.Author.Tests.{ltb-false}
 use lib.ListN.{length}
 use lib.Dec.{ltb}
 use denote.Ref.{RefT}
 use Rattle.wire.specs.Choice.{pick-unless}
-use Rattle.wire.specs.Extent.{PartOf}
+use Rattle.wire.specs.Extent.{Extent, PartOf, clipped, clipped-fits}
 use Rattle.wire.specs.Refusal.{tooLong, truncated, bodyLimit}
 use Rattle.updates.specs.Body.{lengthSize, withdrawnSize, withdrawnEnd, attributesSize, attributesEnd, partsOf, withdrawnAt, announcedAt, withdrawnOf, announcedOf}
 use Rattle.updates.specs.declared.PartsAnswer.{PartsAnswer}
@@ -38,6 +37,11 @@ parts-add-up b w a n =
     let q : attributesSize b ≡ a = cc in
     let r : length b - attributesEnd b ≡ n = cc in
     (omega arith, small))
+
+-- the part that was taken for a section, as an answer told its place and size
+pub part-told : (section : PartsAnswer → Extent) (s r : RefT (List ℕ)) (told p : PartsAnswer) → told ≡ partsOf (s .now) → told ≡ p
+    → section p .start + section p .size ≤ length (s .now) → PartOf s (clipped (section p) (length (s .now))) r → PartOf s (section (partsOf (s .now))) r
+part-told section s r told p e f fits h = rw (sym e ∙ f) (rw (clipped-fits (section p) (length (s .now)) fits) at h)
 
 -- what a part that was handed back holds
 pub holds-withdrawn : (s r : RefT (List ℕ)) → PartOf s (withdrawnAt (partsOf (s .now))) r → r .now ≡ withdrawnOf (s .now)

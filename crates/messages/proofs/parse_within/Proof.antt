@@ -1,6 +1,12 @@
-use mathlib.Core.Path.{sym, _∙_}
+use mathlib.Core.Path.{_≡_, sym, _∙_}
+use mathlib.Core.Bool.{false}
+use lib.ListN.{length}
+use lib.Dec.{ltb}
+use Rattle.wire.specs.Choice.{pick}
+use Rattle.wire.specs.Refusal.{truncated}
+use Rattle.messages.specs.Header.{kindOf, strictWithin}
+use Rattle.messages.specs.declared.MessageAnswer.the-variants.{Message, Refused}
 use borrow.Author.Tests.{lt-ltb, le-ltb}
-use Rattle.messages.specs.Header.{strictWithin}
 use borrow.Author.Needs.{needs}
 use Rattle.messages.proofs.parse_within.Statement.{statement}
 use Rattle.messages.proofs.parse_within.Tie as tie
@@ -68,29 +74,27 @@ returns-5 c =
     rw (← m .marked .ensures, ← u .u16-at .ensures, ← l .least-length .ensures, ← c .before .before .most-length .ensures)
     (simp (le-ltb _ _ (m .before .if1 .left), u .before .if2 .left, sym (o .before .outside .ensures) ∙ o .if3 .left, sym (k .before .unknown .ensures) ∙ k .if4 .left, sym (c .before .outside2 .ensures) ∙ c .if5 .taken))
 
-returns-6 : tie.Need-returns-6
+-- what is left to find once the type's own length is found right
+left : (q : tie.Else5) →
+    let u = q .before .before .before .before .before .before .before .before .before in
+    let a = u .before .before .before .before .before .args in
+    let n = u .u16-at .result in
+    strictWithin (a .limit) (a .s .now) ≡ pick (ltb (length (a .s .now)) n) (Refused truncated) (Message (kindOf (a .s .now)) n n false false (ltb n (length (a .s .now))))
 unfolding strictWithin
-returns-6 c =
-    let q = c .before in
+left q =
     let l = q .before .before .before in
     let k = l .before in
     let o = k .before .before .before in
     let u = o .before .before in
     let m = u .before .before in
     rw (← m .marked .ensures, ← u .u16-at .ensures, ← l .least-length .ensures, ← q .before .before .most-length .ensures)
-    (simp (le-ltb _ _ (m .before .if1 .left), u .before .if2 .left, sym (o .before .outside .ensures) ∙ o .if3 .left, sym (k .before .unknown .ensures) ∙ k .if4 .left, sym (q .before .outside2 .ensures) ∙ q .if5 .left, lt-ltb _ _ (c .if6 .taken)))
+    (simp (le-ltb _ _ (m .before .if1 .left), u .before .if2 .left, sym (o .before .outside .ensures) ∙ o .if3 .left, sym (k .before .unknown .ensures) ∙ k .if4 .left, sym (q .before .outside2 .ensures) ∙ q .if5 .left))
+
+returns-6 : tie.Need-returns-6
+returns-6 c = sym (left (c .before) ∙ simp (lt-ltb _ _ (c .if6 .taken)))
 
 returns-7 : tie.Need-returns-7
-unfolding strictWithin
-returns-7 c =
-    let q = c .before in
-    let l = q .before .before .before in
-    let k = l .before in
-    let o = k .before .before .before in
-    let u = o .before .before in
-    let m = u .before .before in
-    rw (← m .marked .ensures, ← u .u16-at .ensures, ← l .least-length .ensures, ← q .before .before .most-length .ensures)
-    (simp (le-ltb _ _ (m .before .if1 .left), u .before .if2 .left, sym (o .before .outside .ensures) ∙ o .if3 .left, sym (k .before .unknown .ensures) ∙ k .if4 .left, sym (q .before .outside2 .ensures) ∙ q .if5 .left, le-ltb _ _ (c .if6 .left)))
+returns-7 c = sym (left (c .before) ∙ simp (le-ltb _ _ (c .if6 .left)))
 
 pub parse-within-spec : {M : Type 1} → statement M
 parse-within-spec =

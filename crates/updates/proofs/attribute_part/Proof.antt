@@ -2,11 +2,9 @@ use mathlib.Core.Path.{_≡_, sym, _∙_}
 use Prim.Native.Nat.{_+_, _≤_}
 use native.Mathlib.Omega.{arith}
 use lib.ListN.{length}
-use Rattle.wire.specs.Extent.{extent, nothing, clipped-fits}
 use Rattle.wire.specs.Refusal.{bodyLimit}
-use Rattle.updates.specs.Body.{lengthSize, partsOf}
-use Rattle.updates.specs.BodyLaws.{parts-add-up}
-use Rattle.updates.specs.declared.PartsAnswer.the-variants.{Parts}
+use Rattle.updates.specs.Body.{lengthSize, attributesAt}
+use Rattle.updates.specs.BodyLaws.{parts-add-up, part-told}
 use borrow.Author.Needs.{needs}
 use Rattle.updates.proofs.attribute_part.Statement.{statement}
 use Rattle.updates.proofs.attribute_part.Tie as tie
@@ -40,15 +38,10 @@ part-requires-2 c κs = search needs
 returns : tie.Need-returns
 returns c =
     let k = c .before in
-    let b = k .before .before .before .before .before .args .body in
-    let w = k .before .withdrawn .given .0 in
-    let found : partsOf (b .now) ≡ Parts (w .0) (w .1 .0) (w .1 .1 .0) = sym (k .before .before .before .update-parts .ensures) ∙ k .before .withdrawn .given .1 in
-    rw found (rw (clipped-fits (extent (lengthSize + w .0 + lengthSize) (w .1 .0)) (length (b .now)) (omega (arith, parts-add-up (b .now) _ _ _ found))) at (c .part .ensures))
+    part-told attributesAt (k .before .before .before .before .before .args .body) _ _ _ (k .before .before .before .update-parts .ensures) (k .before .withdrawn .given .1) (omega (arith, sums k)) (c .part .ensures)
 
 returns-2 : tie.Need-returns-2
-returns-2 c =
-    let b = c .before .before .before .before .before .args .body in
-    rw (sym (c .before .before .before .update-parts .ensures) ∙ c .before .enum-told .given .1) (rw (clipped-fits nothing (length (b .now)) (omega arith)) at (c .part2 .ensures))
+returns-2 c = part-told attributesAt (c .before .before .before .before .before .args .body) _ _ _ (c .before .before .before .update-parts .ensures) (c .before .enum-told .given .1) (omega arith) (c .part2 .ensures)
 
 pub attribute-part-spec : {M : Type 1} → statement M
 attribute-part-spec =
