@@ -1,13 +1,13 @@
 -- Values one after another from a place of a lent list.
 -- Assumes nothing.
-use Prim.Native.Nat.{ℕ, suc, _+_, _≤_, _<_}
+use Prim.Native.Nat.{ℕ, suc, _+_, _-_, _≤_, _<_}
 use mathlib.Core.Path.{_≡_, refl, sym, ap, ap₂, _∙_}
-use mathlib.Core.List.{List, [], _∷_, _++_, append-assoc}
-use native.Mathlib.Nat.{add-zero, add-suc, add-assoc}
+use mathlib.Core.List.{List, [], _∷_, _++_, append-assoc, append-nil}
+use native.Mathlib.Nat.{add-zero, zero-add, add-suc, add-assoc}
 use native.Mathlib.Omega.{arith}
 use borrow.Author.Tests.{le-leb, lt-leb}
-use lib.ListN.{length, take, drop, set, length-append, length-drop, take-append-drop}
-use lib.Seq.{sets, sets-eq, take-at, drop-at, length-take-le, drop-drop, paste, take-length}
+use lib.ListN.{length, take, drop, set, length-append, length-drop, drop-of-length-le, take-append-drop}
+use lib.Seq.{sets, sets-eq, take-at, drop-at, length-take-le, drop-drop, paste, take-length, take-all}
 use lib.Dec.{leb}
 use Rattle.wire.specs.Choice.{pick, pick-leb}
 use Rattle.wire.specs.NumberLaws.{off, off-add}
@@ -91,6 +91,19 @@ placed-next d vs at ws e h =
     placed-fits (laid d 0 vs) at ws (omega (arith, length-laid d 0 vs front))
     ∙ ap (λ (k : ℕ). laid (laid d 0 vs) k ws) (sym zero-at)
     ∙ laid-laid d 0 vs ws (omega arith)
+
+-- values at the front of what stands from `at` on, put back after what stands before
+pub laid-part : (d : List ℕ) (at : ℕ) (vs : List ℕ) → at + length vs ≤ length d
+    → take at d ++ (laid (take (length d - at) (drop at d)) 0 vs ++ drop (length d - at) (drop at d)) ≡ laid d at vs
+laid-part d at vs h =
+    let k : ℕ = length d - at in
+    let t : List ℕ = drop at d in
+    let size : length t ≤ k = omega (arith, length-drop at d) in
+    let same : take k t ≡ t = take-all k t size in
+    let none : drop k t ≡ [] = drop-of-length-le t size in
+    let past : drop (0 + length vs) t ≡ drop (at + length vs) d = drop-drop (0 + length vs) at d ∙ ap (λ (j : ℕ). drop (at + j) d) (zero-add (length vs)) in
+    ap₂ (λ (m e : List ℕ). take at d ++ (laid m 0 vs ++ e)) same none
+    ∙ ap (λ (l : List ℕ). take at d ++ l) (append-nil (vs ++ drop (0 + length vs) t) ∙ ap (λ (l : List ℕ). vs ++ l) past)
 
 -- no values leave the list as it was
 pub laid-nil : (d : List ℕ) (at : ℕ) → laid d at [] ≡ d

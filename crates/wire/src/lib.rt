@@ -136,3 +136,10 @@ pub fn part(s: &[u8], start: usize, size: usize) -> &[u8]
     let end = start + size;
     &s[start..end]
 }
+
+// A number of two bytes, at a place of the output.
+pub fn put_u16(out: &mut [u8], to: usize, v: u16)
+    ensures { λ _. ⌜ now (out .exit) ≡ placed (now (out .entry)) to (toBe 2 v) ⌝ }
+{
+    put_octets(out, to, v as u32 * 65536, 2);
+}
