@@ -11,7 +11,7 @@ use Rattle.routes.specs.Prefix.{maxOf}
 use Rattle.routes.specs.declared.Afi.the-variants.{Ipv4}
 use Rattle.routes.specs.declared.Form.{Form}
 use Rattle.route_writer.specs.Encode.{bytesOf}
-use Rattle.route_writer.specs.Promises.{measured, filled}
+use Rattle.route_writer.specs.Promises.{measured}
 use Rattle.route_writer.specs.declared.WriteAnswer.{WriteAnswer}
 use Rattle.route_writer.specs.declared.WriteAnswer.the-variants.{Bytes, Refused}
 
@@ -22,6 +22,10 @@ lengthSize = 2
 -- the three sections, one after another
 unfoldable pub sections : List ℕ → List ℕ → List ℕ → List ℕ
 sections withdrawn attributes announced = toBe lengthSize (length withdrawn) ++ (withdrawn ++ (toBe lengthSize (length attributes) ++ (attributes ++ announced)))
+
+-- of rows to withdraw, attributes and rows to announce
+unfoldable pub bodyBytes : List ℕ → List ℕ → List ℕ → Form → List ℕ
+bodyBytes withdrawn attributes announced form = sections (bytesOf withdrawn (maxOf Ipv4) form) attributes (bytesOf announced (maxOf Ipv4) form)
 
 -- the size of a body whose sections have these sizes
 abbrev pub totalOf : ℕ → ℕ → ℕ → ℕ
@@ -46,9 +50,3 @@ bodyAnswer withdrawn attributes announced form places =
     ifWritable (measured withdrawn (maxOf Ipv4) form) (λ w.
     ifWritable (measured announced (maxOf Ipv4) form) (λ a.
     sized w (length attributes) a places))
-
--- the output afterwards: the body from its front where it was written, and else as it was
-unfoldable pub bodyAfter : List ℕ → List ℕ → List ℕ → Form → List ℕ → List ℕ
-bodyAfter withdrawn attributes announced form out =
-    filled (bodyAnswer withdrawn attributes announced form (length out))
-    (sections (bytesOf withdrawn (maxOf Ipv4) form) attributes (bytesOf announced (maxOf Ipv4) form)) out

@@ -4,11 +4,11 @@ use Prim.Native.Nat.{ℕ, _+_, _-_, _≤_}
 use native.Mathlib.Omega.{arith}
 use lib.ListN.{length, take, drop, length-drop}
 use lib.Seq.{length-take-le}
-use Rattle.wire.specs.Store.{laid, laid-part}
+use Rattle.wire.specs.Store.{laid-part, placed-fits}
 use Rattle.routes.specs.Prefix.{maxOf}
 use Rattle.routes.specs.declared.Afi.the-variants.{Ipv4}
 use Rattle.route_writer.specs.Encode.{bytesOf}
-use Rattle.route_writer.specs.PromiseLaws.{leave-bytes}
+use Rattle.route_writer.specs.PromiseLaws.{leave-bytes, measured-bytes}
 use borrow.Author.Needs.{needs}
 use Rattle.update_writer.proofs.put_routes.Statement.{statement}
 use Rattle.update_writer.proofs.put_routes.Tie as tie
@@ -16,37 +16,42 @@ use Rattle.update_writer.proofs.put_routes.Reads as reads
 use Rattle.update_writer.proofs.put_routes.Lts as lts
 use Rattle.route_writer.proofs.encode_nlri_prefixes.Reads as encode-nlri-prefixes-reads
 
--- src/lib.rt:51:63
+-- src/lib.rt:52:63
 sub-encode-nlri-prefixes : tie.Need-sub-encode-nlri-prefixes
 sub-encode-nlri-prefixes c = search needs
 
--- src/lib.rt:51:63
+-- src/lib.rt:52:63
 part-encode-nlri-prefixes-start : tie.Need-part-encode-nlri-prefixes-start
 part-encode-nlri-prefixes-start c = search needs
 
--- src/lib.rt:51:63
+-- src/lib.rt:52:63
 part-encode-nlri-prefixes-end : tie.Need-part-encode-nlri-prefixes-end
 part-encode-nlri-prefixes-end c = search needs
 
--- src/lib.rt:51:5
+-- src/lib.rt:52:5
 encode-nlri-prefixes-requires : tie.Need-encode-nlri-prefixes-requires
 encode-nlri-prefixes-requires c κs = search needs
 
--- src/lib.rt:45:1
+-- src/lib.rt:47:1
 same-length : tie.Need-same-length
 same-length c = search needs
 
--- src/lib.rt:45:1
+-- src/lib.rt:47:1
 returns : tie.Need-returns
 returns c =
     let s = c .before .before .before .before .before .before in
     let a = s .args in
     let d = a .out .now in
-    let bytes : List ℕ = bytesOf (a .rows .now) (maxOf Ipv4) (a .form) in
     let k : ℕ = length d - a .to in
-    let room : length bytes ≤ length (take k (drop (a .to) d)) = omega (arith, length-drop (a .to) d, length-take-le k (drop (a .to) d) (omega (arith, length-drop (a .to) d)), s .pre .1 .1) in
-    let done = leave-bytes (a .rows .now) (maxOf Ipv4) (a .form) (take k (drop (a .to) d)) (length bytes) (s .pre .0) (s .pre .1 .0) room .1 in
-    ap (λ (t : List ℕ). take (a .to) d ++ (t ++ drop k (drop (a .to) d))) (c .before .before .encode-nlri-prefixes .ensures .1 ∙ sym done) ∙ laid-part d (a .to) bytes (s .pre .1 .1)
+    let t : List ℕ = take k (drop (a .to) d) in
+    let bytes : List ℕ = bytesOf (a .rows .now) (maxOf Ipv4) (a .form) in
+    let size : length bytes ≡ a .size = measured-bytes (a .rows .now) (maxOf Ipv4) (a .form) (a .size) (s .pre .0) .1 in
+    let long : length t ≡ k = length-take-le k (drop (a .to) d) (omega (arith, length-drop (a .to) d)) in
+    let room : a .to + length bytes ≤ length d = omega (arith, s .pre .1) in
+    let done = leave-bytes (a .rows .now) (maxOf Ipv4) (a .form) t (a .size) (s .pre .0) (s .pre .1 .0) (omega (arith, s .pre .1)) .1 in
+    ap (λ (l : List ℕ). take (a .to) d ++ (l ++ drop k (drop (a .to) d))) (c .before .before .encode-nlri-prefixes .ensures .1 ∙ sym done)
+    ∙ laid-part d (a .to) bytes room
+    ∙ sym (placed-fits d (a .to) bytes room)
 
 pub put-routes-spec : {M : Type 1} → statement M
 put-routes-spec =
