@@ -3,16 +3,17 @@
 use Prim.Native.Nat.{ℕ, zero, suc, _+_, _<_}
 use mathlib.Core.Path.{_≡_, refl, sym, ap, ap₂, _∙_, subst}
 use mathlib.Core.List.{List, [], _∷_, _++_, append-assoc, map}
+use mathlib.Core.Bool.{false}
 use native.Mathlib.Nat.{not-suc-le-zero}
 use native.Mathlib.Omega.{arith}
-use borrow.Author.Tests.{ne-eqb}
+use borrow.Author.Tests.{ne-eqb, eq-eqb}
 use lib.ListN.{length, getD, take, drop, length-append, length-drop, take-append-drop}
 use lib.Seq.{length-take-le, take-add, drop-cons, take-append-seam, drop-append-seam, getD-at, getD-take}
 use Rattle.wire.specs.Walk.{took, stop, whole, more, readAll, pieces}
 use Rattle.wire.specs.WalkLaws.{all-nil, all-took, all-stop, all-ind, pieces-nil, pieces-took}
 use Rattle.routes.specs.Prefix.{idSize, octets, itemRow, prefixOf}
 use Rattle.routes.specs.PrefixLaws.{Took, took-prefix}
-use Rattle.routes.specs.List.{asStep, inForm, stepOf}
+use Rattle.routes.specs.List.{asStep, inForm, stepOf, strange}
 use Rattle.routes.specs.ListLaws.{sound, step-took, guess-plain}
 use Rattle.routes.specs.declared.Form.{Form}
 use Rattle.routes.specs.declared.Form.the-variants.{Plain, Tagged}
@@ -159,3 +160,20 @@ guess-same max st s =
   where
     first-of : {item : List ℕ} {items : List (List ℕ)} → NoZero (item ∷ items) → (getD item 0 0 ≡ 0 → ⊥) × NoZero items
     first-of (no-zero h t) = (h, t)
+
+-- ---- the one-byte rule of a section
+
+-- a single byte that is an item is 0
+one-byte : (b max : ℕ) (form : Form) (used : ℕ) (row : Row) → Took (b ∷ []) max form used row → b ≡ 0
+one-byte b max Plain used row t = omega (arith, t .size, t .room)
+one-byte b max Tagged used row t = absurd (let lt : 4 < 1 = t .there in omega arith)
+
+-- so bytes that have a cutting are never refused by that rule
+pub cut-not-strange : (max : ℕ) (form : Form) (s : List ℕ) (items : List (List ℕ)) → Cutting max form s items → strange s ≡ false
+cut-not-strange max form [] items c = refl
+cut-not-strange max form (b ∷ c ∷ s) items k = refl
+cut-not-strange max form (b ∷ []) items k = rw (eq-eqb b 0 (by items (k .formed) (k .whole)))
+  where
+    by : (l : List (List ℕ)) → AllFormed max form l → joined l ≡ b ∷ [] → b ≡ 0
+    by [] none e = absurd (let z : 0 ≡ 1 = ap length e in omega arith)
+    by (item ∷ rest) (one w ws) e = one-byte b max form (length item) (itemRow form item) (rw e at (formed-took max form item (joined rest) w))

@@ -3,8 +3,9 @@
 -- `readAnswer`, `writeAnswer` and `outAfter` say.
 -- Assumes nothing.
 use Prim.Native.Nat.{ℕ, _+_, _/_, _≤_}
-use mathlib.Core.Path.{_≡_, sym, ap, _∙_}
+use mathlib.Core.Path.{_≡_, refl, sym, ap, _∙_}
 use mathlib.Core.List.{List, _++_, map}
+use mathlib.Core.Bool.{Bool, true, false}
 use native.Mathlib.Omega.{arith}
 use lib.ListN.{length, drop, length-map}
 use Rattle.wire.specs.Number.{Bytes}
@@ -13,8 +14,8 @@ use Rattle.wire.specs.Store.{laid}
 use Rattle.wire.specs.Walk.{Reading, pieces, flat}
 use Rattle.wire.specs.WalkLaws.{tally-one, tally-flat}
 use Rattle.routes.specs.Prefix.{itemRow, words}
-use Rattle.routes.specs.List.{stepOf, listOf, sectionOf}
-use Rattle.routes.specs.ListLaws.{count-good, count-rows, leave-rows}
+use Rattle.routes.specs.List.{stepOf, listOf, strange, sectionOf}
+use Rattle.routes.specs.ListLaws.{count-good, count-rows, leave-rows, section-strange, section-list}
 use Rattle.routes.specs.Promises.{countAnswer, readAnswer}
 use Rattle.routes.specs.declared.Form.{Form}
 use Rattle.routes.specs.declared.Form.the-variants.{Plain}
@@ -26,7 +27,7 @@ use Rattle.route_writer.specs.Promises.{measured, writeAnswer, outAfter}
 use Rattle.route_writer.specs.PromiseLaws.{measured-good, measured-bytes, leave-bytes}
 use Rattle.route_writer.specs.declared.WriteAnswer.the-variants as W
 use Rattle.route_theorems.specs.Cutting.{Cutting, NoZero, Words}
-use Rattle.route_theorems.specs.CuttingLaws.{settingOf, cut-read, cut-pieces, read-cut, guess-same}
+use Rattle.route_theorems.specs.CuttingLaws.{settingOf, cut-read, cut-pieces, read-cut, cut-not-strange, guess-same}
 use Rattle.route_theorems.specs.RowLaws.{rows-write, items-rows, rows-items, store-rows}
 
 module _ (max : ℕ) (form : Form) where
@@ -50,6 +51,17 @@ module _ (max : ℕ) (form : Form) where
   pub cut-read-in : (s : List ℕ) (items : List (List ℕ)) (store : List ℕ) → length s ≤ listLimit → Cutting max form s items → length items ≤ length store / 6
       → readAnswer s (listOf s max (settingOf form)) (length store) ≡ Rows (length items)
   cut-read-in s items store short c room = sym (leave-rows s (listOf s max (settingOf form)) store (length items) (cut-accepted s items short c) room .0)
+
+  -- and so is a section of an UPDATE: the rule of one byte refuses nothing that has a cutting
+  pub section-cut : (s : List ℕ) (n : ℕ) → countAnswer s (sectionOf s max (settingOf form)) ≡ Rows n → (items : List (List ℕ)) × Cutting max form s items
+  section-cut s n e = by (strange s) refl
+    where
+      by : (t : Bool) → strange s ≡ t → (items : List (List ℕ)) × Cutting max form s items
+      by true p = let no = section-strange s max (settingOf form) p in let z : _≡_ {A = ℕ} 0 1 = cc in absurd (omega arith)
+      by false p = accepted-cut s n (rw (section-list s max (settingOf form) p) at e)
+
+  pub section-is-list : (s : List ℕ) (items : List (List ℕ)) → Cutting max form s items → sectionOf s max (settingOf form) ≡ listOf s max (settingOf form)
+  section-is-list s items c = section-list s max (settingOf form) (cut-not-strange max form s items c)
 
   -- 2. Two cuttings of the same bytes are equal.
   pub cutting-unique : (s : List ℕ) (items items′ : List (List ℕ)) → Cutting max form s items → Cutting max form s items′ → items ≡ items′

@@ -16,6 +16,7 @@ use lib.Pow.{pow-add}
 use Rattle.wire.specs.Choice.{pick}
 use Rattle.wire.specs.Number.{be, toBe}
 use Rattle.wire.specs.NumberLaws.{length-toBe, be-toBe, pow-pos256}
+use Rattle.wire.specs.Parts.{take-append, drop-append}
 use Rattle.wire.specs.Refusal.{notWritable}
 use Rattle.wire.specs.Store.{placed, placed-fits, placed-nil, length-placed, laid, laid-laid, length-laid, puts-laid}
 use Rattle.wire.specs.Walk.{Step, took, stop}
@@ -28,24 +29,6 @@ use Rattle.routes.specs.declared.Form.{Form}
 use Rattle.routes.specs.declared.Form.the-variants.{Plain, Tagged}
 use Rattle.routes.specs.declared.Row.{Row}
 use Rattle.route_writer.specs.Encode.{fourWords, address, lengthOf, rowBytes, allZero, idFits, writable, frontRow, writeStep}
-
--- ---- parts of one list after another
-
-pub take-append : (n k : ℕ) (a b : List ℕ) → length a ≡ k → take n (a ++ b) ≡ take n a ++ take (n - k) b
-take-append zero zero [] b e = refl
-take-append (suc n) zero [] b e = rw sub-zero
-take-append n (suc k) [] b e = absurd (let z : _≡_ {A = ℕ} 0 1 = omega arith in omega arith)
-take-append n zero (x ∷ a) b e = absurd (let z : _≡_ {A = ℕ} 0 1 = omega arith in omega arith)
-take-append zero (suc k) (x ∷ a) b e = let z : 0 - suc k ≡ 0 = omega arith in rw z
-take-append (suc n) (suc k) (x ∷ a) b e = ap (λ (l : List ℕ). x ∷ l) (take-append n k a b (omega arith) ∙ ap (λ (j : ℕ). take n a ++ take j b) (sym (suc-sub-suc n k)))
-
-pub drop-append : (n k : ℕ) (a b : List ℕ) → length a ≡ k → drop n (a ++ b) ≡ drop n a ++ drop (n - k) b
-drop-append zero zero [] b e = refl
-drop-append (suc n) zero [] b e = rw sub-zero
-drop-append n (suc k) [] b e = absurd (let z : _≡_ {A = ℕ} 0 1 = omega arith in omega arith)
-drop-append n zero (x ∷ a) b e = absurd (let z : _≡_ {A = ℕ} 0 1 = omega arith in omega arith)
-drop-append zero (suc k) (x ∷ a) b e = let z : 0 - suc k ≡ 0 = omega arith in rw z
-drop-append (suc n) (suc k) (x ∷ a) b e = drop-append n k a b (omega arith) ∙ ap (λ (j : ℕ). drop n a ++ drop j b) (sym (suc-sub-suc n k))
 
 -- ---- octets that are 0
 
@@ -60,7 +43,7 @@ zero-append (b ∷ s) t = ap (λ (r : Bool). eqb b 0 && r) (zero-append s t) ∙
 
 -- the octets past n of a word and of what follows
 pub zero-word : (n w : ℕ) (s : List ℕ) → allZero (drop n (toBe 4 w ++ s)) ≡ allZero (drop n (toBe 4 w)) && allZero (drop (n - 4) s)
-zero-word n w s = ap allZero (drop-append n 4 (toBe 4 w) s (length-toBe 4 w)) ∙ zero-append (drop n (toBe 4 w)) (drop (n - 4) s)
+zero-word n w s = ap allZero (drop-append n (toBe 4 w) s) ∙ zero-append (drop n (toBe 4 w)) (drop (n - 4) s)
 
 pub zero-past : (n a b c d : ℕ) → allZero (drop n (fourWords a b c d))
     ≡ allZero (drop n (toBe 4 a)) && (allZero (drop (n - 4) (toBe 4 b)) && (allZero (drop (n - 8) (toBe 4 c)) && allZero (drop (n - 12) (toBe 4 d))))
@@ -135,7 +118,7 @@ joined d at vs ws h =
 word-after : (d : List ℕ) (to n w : ℕ) (s : List ℕ) → (4 < n → to + n ≤ length d)
     → placed (placed d to (take n (toBe 4 w))) (to + 4) (take (n - 4) s) ≡ placed d to (take n (toBe 4 w ++ s))
 word-after d to n w s h =
-    let parts : take n (toBe 4 w ++ s) ≡ take n (toBe 4 w) ++ take (n - 4) s = take-append n 4 (toBe 4 w) s (length-toBe 4 w) in
+    let parts : take n (toBe 4 w ++ s) ≡ take n (toBe 4 w) ++ take (n - 4) s = take-append n (toBe 4 w) s in
     let d₁ : List ℕ = placed d to (take n (toBe 4 w)) in
     elim (decLe n 4) [
       | yes le ↦

@@ -2,7 +2,7 @@
 ghost use mathlib.Core.Path.{_≡_};
 ghost use mathlib.Core.Bool.{true};
 ghost use Prim.Native.Nat.{_+_, _-_, _≤_};
-ghost use lib.ListN.{length, getD, take, drop};
+ghost use lib.ListN.{length, take, drop};
 ghost use Rattle.wire.specs.Number.{toBe};
 ghost use Rattle.wire.specs.Store.{laid};
 ghost use Rattle.routes.specs.Prefix.{maxOf, octets};

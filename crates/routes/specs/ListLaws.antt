@@ -12,12 +12,12 @@ use lib.ListN.{length, getD, take, drop}
 use Rattle.wire.specs.Choice.{pick-leb}
 use Rattle.wire.specs.Refusal.{tooLong, oneByteSection, noRoom, listLimit}
 use Rattle.wire.specs.Store.{laid}
-use Rattle.wire.specs.Turn.{rest, Light}
-use Rattle.wire.specs.Walk.{Step, took, stop, Reading, refused, tally, flat}
-use Rattle.wire.specs.WalkLaws.{Sound, tally-one, flat-length}
-use Rattle.routes.specs.Prefix.{itemRow, words, prefixOf}
-use Rattle.routes.specs.PrefixLaws.{Took, prefix-took, prefix-names}
-use Rattle.routes.specs.List.{asStep, inForm, plainHere, tried, guessForm, formBy, stepOf, listOf, strange, sectionOf}
+use Rattle.wire.specs.Turn.{rest, Light, Counted, turn-fits, count-step, count-stop, Filled, fill-fits, fill-step, fill-takes}
+use Rattle.wire.specs.Walk.{readAll, Step, took, stop, Reading, refused, tally, flat}
+use Rattle.wire.specs.WalkLaws.{Sound, tally-one, flat-length, all-blind}
+use Rattle.routes.specs.Prefix.{itemEnd, idSize, itemRow, words, prefixOf}
+use Rattle.routes.specs.PrefixLaws.{Placeable, Took, prefix-took, prefix-names}
+use Rattle.routes.specs.List.{asStep, inForm, plainHere, tried, guessForm, formBy, fixed, stepOf, listOf, strange, sectionOf}
 use Rattle.routes.specs.Promises.{answerBy, countAnswer, readAnswer, filled, storeAfter}
 use Rattle.routes.specs.Size.{sizeOf, sized, kept}
 use Rattle.routes.specs.declared.Form.{Form}
@@ -50,6 +50,15 @@ form-took s max form (P.Refused n) used row st e f = let z : _≡_ {A = ℕ} 0 1
 form-names : (s : List ℕ) (max : ℕ) (form : Form) (a : PrefixAnswer) (n : ℕ) → prefixOf s max form ≡ a → asStep form a ≡ stop n → 0 < n
 form-names s max form (P.Prefix u r) n e f = let z : _≡_ {A = ℕ} 0 1 = cc in absurd (zero-ne-one z)
 form-names s max form (P.Refused m) n e f = let same : m ≡ n = cc in prefix-names s max form n (e ∙ ap P.Refused same)
+
+-- the state that a step leaves is the form that its setting chose
+pub step-form : (max : ℕ) (mode : AddPath) (st st′ : Form) (s : List ℕ) (used : ℕ) (row : Row) → stepOf max mode st s ≡ took used row st′ → formBy max mode st s ≡ st′
+unfolding stepOf inForm
+step-form max mode st st′ s used row e = by (prefixOf s max (formBy max mode st s)) e
+  where
+    by : (a : PrefixAnswer) → asStep (formBy max mode st s) a ≡ took used row st′ → formBy max mode st s ≡ st′
+    by (P.Prefix u r) f = cc
+    by (P.Refused n) f = let z : _≡_ {A = ℕ} 0 1 = cc in absurd (zero-ne-one z)
 
 -- whatever the setting, an item that is taken is one in the form that the step leaves
 pub step-took : (max : ℕ) (mode : AddPath) (st st′ : Form) (s : List ℕ) (used : ℕ) (row : Row) → stepOf max mode st s ≡ took used row st′ → Took s max st′ used row
@@ -126,18 +135,27 @@ unsize-stop : (x : Step Form Row) (n : ℕ) → sized x ≡ S.Refused n → x �
 unsize-stop (took u r f) n e = let z : _≡_ {A = ℕ} 0 1 = cc in absurd (zero-ne-one z)
 unsize-stop (stop m) n e = let p : m ≡ n = cc in ap stop p
 
--- what a size read from the part `&s[at..]` says of the walk: the item that the turn takes, with its row, or its refusal
-module _ (s : List ℕ) (at max : ℕ) (mode : AddPath) (st : Form) (r : StepAnswer) (e : r ≡ sized (stepOf max mode st (take (length s - at) (drop at s)))) where
-  here : sized (stepOf max mode st (drop at s)) ≡ r
-  here = sym (rw rest at e)
+-- under the setting of a form every item stands in that form, whatever the state
+pub fixed-form : (max : ℕ) (form st : Form) (s : List ℕ) → formBy max (fixed form) st s ≡ form
+fixed-form max Plain st s = refl
+fixed-form max Tagged st s = refl
 
-  pub turn-took : (used : ℕ) (form : Form) → r ≡ S.Item used form → stepOf max mode st (drop at s) ≡ took used (itemRow form (take used (drop at s))) form
-  turn-took used form f =
-      let u = unsize (stepOf max mode st (drop at s)) used form (here ∙ f) in
-      u .1 ∙ ap (λ (row : Row). took used row form) (step-took max mode st form (drop at s) used (u .0) (u .1) .is)
+pub size-fixed : (max : ℕ) (form : Form) (s : List ℕ) (size : SizeAnswer) → size ≡ sizeOf (prefixOf s max form) → kept size form ≡ sized (stepOf max (fixed form) form s)
+size-fixed max form s size e = size-step max (fixed form) form form s size e (fixed-form max form form s)
 
-  pub turn-refused : (n : ℕ) → r ≡ S.Refused n → stepOf max mode st (drop at s) ≡ stop n
-  turn-refused n f = unsize-stop (stepOf max mode st (drop at s)) n (here ∙ f)
+-- and so is the state that a step under it leaves
+pub fixed-next : (max : ℕ) (form st next : Form) (s : List ℕ) (used : ℕ) → sized (stepOf max (fixed form) st s) ≡ S.Item used next → next ≡ form
+fixed-next max form st next s used e =
+    let u = unsize (stepOf max (fixed form) st s) used next e in
+    sym (step-form max (fixed form) st next s used (u .0) (u .1)) ∙ fixed-form max form st s
+
+-- so that its walk may as well start in that form
+pub list-fixed : (s : List ℕ) (max : ℕ) (form : Form) → listOf s max (fixed form) ≡ readAll (stepOf max (fixed form)) form s
+unfolding listOf stepOf
+list-fixed s max form =
+    all-blind (λ st t. inForm max (formBy max (fixed form) st t) t)
+    (λ st st′ t. ap (λ (f : Form). inForm max f t) (fixed-form max form st t ∙ sym (fixed-form max form st′ t)))
+    Plain form s
 
 -- ---- a list's answers, over any reading
 
@@ -189,6 +207,74 @@ module _ (s : List ℕ) (r : Reading Row) where
     pub leave-rows : (n : ℕ) → countAnswer s r ≡ L.Rows n → n ≤ length d / 6 → (L.Rows n ≡ readAnswer s r (length d)) × (laid d 0 (flat words (r .rows)) ≡ storeAfter s r d)
     unfolding readAnswer
     leave-rows n e le = leave (L.Rows n) (rw (e, le-leb n (length d / 6) le))
+
+-- ---- a turn of a loop over a list, from the size read from the part `&s[at..]`
+
+module _ (s : List ℕ) (at max : ℕ) (mode : AddPath) (st : Form) (r : StepAnswer) (e : r ≡ sized (stepOf max mode st (take (length s - at) (drop at s)))) where
+  here : sized (stepOf max mode st (drop at s)) ≡ r
+  here = sym (rw rest at e)
+
+  -- the item that it takes, with its row
+  pub turn-took : (used : ℕ) (form : Form) → r ≡ S.Item used form → stepOf max mode st (drop at s) ≡ took used (itemRow form (take used (drop at s))) form
+  turn-took used form f =
+      let u = unsize (stepOf max mode st (drop at s)) used form (here ∙ f) in
+      u .1 ∙ ap (λ (row : Row). took used row form) (step-took max mode st form (drop at s) used (u .0) (u .1) .is)
+
+  -- its refusal
+  pub turn-refused : (n : ℕ) → r ≡ S.Refused n → stepOf max mode st (drop at s) ≡ stop n
+  turn-refused n f = unsize-stop (stepOf max mode st (drop at s)) n (here ∙ f)
+
+  -- of a loop that counts
+  module _ (st₀ : Form) (count : ℕ) (h : Counted (stepOf max mode) (λ _. 1) 1 st₀ s st at count) where
+    pub counted-next : (used : ℕ) (form : Form) → r ≡ S.Item used form
+        → (0 < used) × (at + used ≤ length s) × Counted (stepOf max mode) (λ _. 1) 1 st₀ s form (at + used) (count + 1)
+    counted-next used form f =
+        let step = turn-took used form f in
+        let fits = turn-fits (stepOf max mode) (sound max mode) s st at form used _ step (h .within) in
+        (fits .0, fits .1, count-step (stepOf max mode) (sound max mode) (λ _. 1) 1 (light max mode) st₀ s st at count h form used _ step)
+
+    pub counted-refused : (n : ℕ) → length s ≤ listLimit → at < length s → r ≡ S.Refused n → countAnswer s (readAll (stepOf max mode) st₀ s) ≡ L.Refused n
+    counted-refused n small lt f =
+        let step = turn-refused n f in
+        count-bad s (readAll (stepOf max mode) st₀ s) n small (count-stop (stepOf max mode) (sound max mode) (λ _. 1) 1 (light max mode) st₀ s st at count h n lt step)
+        (sound max mode .names st (drop at s) n step)
+
+-- ---- a turn of a loop that fills, where nothing is refused any more: the item in the form that the setting chooses is there
+
+module _ (max : ℕ) (mode : AddPath) (st₀ : Form) (s d₀ : List ℕ) (st : Form) (at to : ℕ) (d : List ℕ) (h : Filled (stepOf max mode) words st₀ s d₀ st at to d) (lt : at < length s)
+    (form : Form) (chosen : form ≡ formBy max mode st (take (length s - at) (drop at s))) where
+  -- as a step of the walk
+  item-step : stepOf max mode st (drop at s) ≡ took (itemEnd form (drop at s)) (itemRow form (take (itemEnd form (drop at s)) (drop at s))) form
+  item-step =
+      let x = fill-takes (stepOf max mode) (sound max mode) words st₀ s d₀ st at to d h lt in
+      let e = x .3 in
+      let same : x .2 ≡ form = sym (step-form max mode st (x .2) (drop at s) (x .0) (x .1) e) ∙ sym (rw rest at chosen) in
+      let t : Took (drop at s) max form (x .0) (x .1) = rw same at (step-took max mode st (x .2) (drop at s) (x .0) (x .1) e) in
+      e ∙ ap (took (x .0) (x .1)) same
+      ∙ ap₂ (λ (used : ℕ) (row : Row). took used row form) (t .size) (t .is ∙ ap (λ (used : ℕ). itemRow form (take used (drop at s))) (t .size))
+
+  item-took : Took (drop at s) max form (itemEnd form (drop at s)) (itemRow form (take (itemEnd form (drop at s)) (drop at s)))
+  item-took = step-took max mode st form (drop at s) _ _ item-step
+
+  pub filled-there : idSize form < length (take (length s - at) (drop at s))
+  filled-there = rw rest (item-took .there)
+
+  -- it can be put
+  pub filled-item : (used : ℕ) → used ≡ itemEnd form (take (length s - at) (drop at s))
+      → Placeable max form used (take (length s - at) (drop at s)) × (at + used ≤ length s) × (to + 6 ≤ length d)
+  filled-item used e =
+      let size : used ≡ itemEnd form (drop at s) = rw rest at e in
+      let t = item-took in
+      let fits = fill-fits (stepOf max mode) (sound max mode) words st₀ s d₀ st at to d h form _ _ item-step in
+      (record { front = omega (arith, size); end = omega (arith, size, t .fits); within = rw rest (omega (arith, size, t .room)) }, omega (arith, size, fits .1), fits .2)
+
+  -- and when it is put, the turn is done
+  pub filled-next : (used : ℕ) (d′ : List ℕ) → used ≡ itemEnd form (take (length s - at) (drop at s))
+      → d′ ≡ laid d to (words (itemRow form (take used (take (length s - at) (drop at s)))))
+      → Filled (stepOf max mode) words st₀ s d₀ form (at + used) (to + 6) d′
+  filled-next used d′ e put =
+      let size : used ≡ itemEnd form (drop at s) = rw rest at e in
+      rw (put, rest, size) (fill-step (stepOf max mode) (sound max mode) words st₀ s d₀ st at to d h form _ _ item-step)
 
 -- ---- a section
 

@@ -1,6 +1,6 @@
 -- Laws of the call on two sections.
 -- Assumes nothing.
-use Prim.Native.Nat.{ℕ, _/_, _≤_}
+use Prim.Native.Nat.{ℕ, _/_}
 use mathlib.Core.Path.{_≡_, sym, ap, _∙_}
 use mathlib.Core.List.{List}
 use mathlib.Core.Bool.{true, false}
@@ -8,11 +8,10 @@ use native.Mathlib.Omega.{arith}
 use borrow.Author.Tests.{leb-true}
 use lib.ListN.{length}
 use Rattle.wire.specs.Refusal.{noRoom}
-use Rattle.wire.specs.Walk.{Reading, flat}
-use Rattle.routes.specs.Prefix.{words}
+use Rattle.wire.specs.Walk.{Reading}
 use Rattle.routes.specs.List.{listOf, sectionOf}
 use Rattle.routes.specs.ListLaws.{words-length, count-rows, section-counted}
-use Rattle.routes.specs.Promises.{countAnswer}
+use Rattle.routes.specs.Promises.{countAnswer, Fitting}
 use Rattle.routes.specs.Pair.{hasRoom, pairBy}
 use Rattle.routes.specs.declared.AddPath.{AddPath}
 use Rattle.routes.specs.declared.Row.{Row}
@@ -34,11 +33,11 @@ module _ (a b : ListAnswer) (places places′ : ℕ) where
   pair-both h k = rw (h, k)
 
 -- a section that was counted and has room is a good list that has room
-pub counted-fits : (s : List ℕ) (max : ℕ) (mode : AddPath) (places n : ℕ) → countAnswer s (sectionOf s max mode) ≡ L.Rows n → hasRoom (L.Rows n) places ≡ true
-    → (listOf s max mode .verdict ≡ 0) × (length (flat words (listOf s max mode .rows)) ≤ places)
-counted-fits s max mode places n e room =
+pub counted-fits : (s : List ℕ) (max : ℕ) (mode : AddPath) (store : List ℕ) (n : ℕ) → countAnswer s (sectionOf s max mode) ≡ L.Rows n → hasRoom (L.Rows n) (length store) ≡ true
+    → Fitting (listOf s max mode) store
+counted-fits s max mode store n e room =
     let same = section-counted s max mode n e in
     let h = count-rows s (sectionOf s max mode) n e in
     let good : listOf s max mode .verdict ≡ 0 = sym (ap (λ (r : Reading Row). r .verdict) same) ∙ h .0 in
     let many : length (listOf s max mode .rows) ≡ n = sym (ap (λ (r : Reading Row). length (r .rows)) same) ∙ h .1 in
-    (good, omega (arith, many, leb-true n (places / 6) room, words-length (listOf s max mode .rows)))
+    record { good = good; room = omega (arith, many, leb-true n (length store / 6) room, words-length (listOf s max mode .rows)) }

@@ -49,15 +49,18 @@ itemRow form item = rowOf (drop (idSize form + 1) item) (getD item (idSize form)
 abbrev pub words : Row → List ℕ
 words r = r .first ∷ r .id ∷ r .w0 ∷ r .w1 ∷ r .w2 ∷ r .w3 ∷ []
 
+-- the bytes of the item at the front: id, length byte, octets
+abbrev pub itemEnd : Form → List ℕ → ℕ
+itemEnd form s = idSize form + 1 + octets (getD s (idSize form) 0)
+
 -- the item at the front: id and length byte there, 2; the length against the maximum, 7; the octets there, 2
 unfoldable pub prefixOf : List ℕ → ℕ → Form → PrefixAnswer
 prefixOf s max form =
     let k : ℕ = idSize form in
-    let l : ℕ = getD s k 0 in
     pick (ltb k (length s))
-    (pick (leb l max)
-    (pick (leb (k + 1 + octets l) (length s))
-    (Prefix (k + 1 + octets l) (itemRow form (take (k + 1 + octets l) s)))
+    (pick (leb (getD s k 0) max)
+    (pick (leb (itemEnd form s) (length s))
+    (Prefix (itemEnd form s) (itemRow form (take (itemEnd form s) s)))
     (Refused truncated))
     (Refused prefixLength))
     (Refused truncated)

@@ -14,7 +14,7 @@ use Rattle.wire.specs.NumberLaws.{be-cut, bytes-drop, bytes-padded, length-padd
 use Rattle.wire.specs.Parts.{drop-take}
 use Rattle.wire.specs.Refusal.{truncated, prefixLength}
 use Rattle.wire.specs.Turn.{rest}
-use Rattle.routes.specs.Prefix.{idSize, markOf, octets, wordAt, rowOf, itemRow, prefixOf}
+use Rattle.routes.specs.Prefix.{itemEnd, idSize, markOf, octets, wordAt, rowOf, itemRow, prefixOf}
 use Rattle.routes.specs.declared.Form.{Form}
 use Rattle.routes.specs.declared.Form.the-variants.{Plain, Tagged}
 use Rattle.routes.specs.declared.Row.{Row}
@@ -28,9 +28,15 @@ zero-ne-one e = omega arith
 pub record Took (s : List ℕ) (max : ℕ) (form : Form) (used : ℕ) (row : Row) : Type 0 where
   pub there : idSize form < length s
   pub fits : getD s (idSize form) 0 ≤ max
-  pub size : used ≡ idSize form + 1 + octets (getD s (idSize form) 0)
+  pub size : used ≡ itemEnd form s
   pub room : used ≤ length s
   pub is : row ≡ itemRow form (take used s)
+
+-- that the first `used` bytes of s can be put as a row: what putting asks
+pub record Placeable (max : ℕ) (form : Form) (used : ℕ) (s : List ℕ) : Type 0 where
+  pub front : idSize form + 1 ≤ used
+  pub end : used ≤ idSize form + 1 + octets max
+  pub within : used ≤ length s
 
 -- what holds of each answer where it is given holds of the answer
 pub prefix-cases {ℓ} : (s : List ℕ) (max : ℕ) (form : Form) (P : PrefixAnswer → Type ℓ)

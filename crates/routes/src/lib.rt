@@ -4,12 +4,14 @@ ghost use Prim.Native.Nat.{_+_, _-_, _*_, _/_, _^_, _≤_, _<_};
 ghost use mathlib.Core.List.{[], _∷_};
 ghost use lib.ListN.{length, getD, take};
 ghost use Rattle.wire.specs.Number.{beAt};
+ghost use Rattle.wire.specs.Refusal.{listLimit};
 ghost use Rattle.wire.specs.Store.{laid};
 ghost use Rattle.wire.specs.Walk.{flat};
-ghost use Rattle.routes.specs.Prefix.{maxOf, idSize, markOf, octets, wordAt, rowOf, itemRow, words, prefixOf};
-ghost use Rattle.routes.specs.List.{plainHere, stepOf, listOf, sectionOf, strange};
+ghost use Rattle.routes.specs.Prefix.{maxOf, idSize, markOf, octets, itemEnd, wordAt, rowOf, itemRow, words, prefixOf};
+ghost use Rattle.routes.specs.PrefixLaws.{Placeable};
+ghost use Rattle.routes.specs.List.{plainHere, guessForm, fixed, stepOf, listOf, sectionOf, strange};
 ghost use Rattle.routes.specs.Size.{sizeOf, sized, kept};
-ghost use Rattle.routes.specs.Promises.{countAnswer, readAnswer, filled, storeAfter};
+ghost use Rattle.routes.specs.Promises.{countAnswer, readAnswer, filled, storeAfter, Fitting};
 ghost use Rattle.routes.specs.Pair.{hasRoom, pairAnswer, firstAfter, secondAfter};
 ghost use mathlib.Core.Bool.{true};
 use wire::refusal;
@@ -127,13 +129,8 @@ fn past(i: usize, n: usize) -> u32
     requires { ⌜ i ≤ 12 ⌝ }
     ensures { λ r. ⌜ r ≡ 32 - 8 * (n - i) ⌝ }
 {
-    if n <= i {
-        return 32;
-    }
-    if i + 4 <= n {
-        return 0;
-    }
-    (32 - 8 * (n - i)) as u32
+    let end = wire::least(wire::most(n, i), i + 4);
+    (32 - 8 * (end - i)) as u32
 }
 
 // The address word at octet i of n octets, which stand at the front of t.
@@ -142,6 +139,14 @@ fn word_of(t: &[u8], i: usize, n: usize) -> u32
     ensures { λ r. ⌜ r ≡ wordAt (take n (now (t .entry))) i ⌝ }
 {
     cut(wire::u32_at(t, i), past(i, n))
+}
+
+// The first address word of at most four octets.
+fn front_word(t: &[u8], n: usize) -> u32
+    requires { ⌜ n ≤ 4 ⌝ }
+    ensures { λ r. ⌜ r ≡ wordAt (take n (now (t .entry))) 0 ⌝ }
+{
+    cut(wire::u32_at(t, 0), (32 - 8 * n) as u32)
 }
 
 // Six words at a place of a store.
@@ -157,26 +162,22 @@ fn put_words(store: &mut [u32], to: usize, first: u32, id: u32, w0: u32, w1: u32
     store[to + 5] = w3;
 }
 
-// The row of n octets at the front of t, at a place of a store. A family of at most 32 bits has one address word.
+// The row of n octets at the front of t, at a place of a store. A family of at most 32 bits has one address word. The last word
+// is read first: where its four bytes are there, so are those of the others.
 fn put_row(store: &mut [u32], to: usize, t: &[u8], n: usize, max: u8, first: u32, id: u32)
     requires { ⌜ to + 6 ≤ length (now store) ⌝ }
     requires { ⌜ n ≤ octets max ⌝ }
     ensures { λ _. ⌜ now (store .exit) ≡ laid (now (store .entry)) to (words (rowOf (take n (now (t .entry))) first id)) ⌝ }
 {
     if max <= 32 {
-        put_words(store, to, first, id, word_of(t, 0, n), 0, 0, 0);
+        put_words(store, to, first, id, front_word(t, n), 0, 0, 0);
         return;
     }
-    put_words(
-        store,
-        to,
-        first,
-        id,
-        word_of(t, 0, n),
-        word_of(t, 4, n),
-        word_of(t, 8, n),
-        word_of(t, 12, n),
-    );
+    let w3 = word_of(t, 12, n);
+    let w2 = word_of(t, 8, n);
+    let w1 = word_of(t, 4, n);
+    let w0 = word_of(t, 0, n);
+    put_words(store, to, first, id, w0, w1, w2, w3);
 }
 
 // What an id adds to a row's first word.
@@ -202,9 +203,7 @@ fn id_of(s: &[u8], form: Form) -> u32
 // The row of the item of e bytes at the front of s, at a place of a store.
 fn put_item(store: &mut [u32], to: usize, s: &[u8], e: usize, max: u8, form: Form)
     requires { ⌜ to + 6 ≤ length (now store) ⌝ }
-    requires { ⌜ idSize form + 1 ≤ e ⌝ }
-    requires { ⌜ e ≤ idSize form + 1 + octets max ⌝ }
-    requires { ⌜ e ≤ length (now s) ⌝ }
+    requires { ⌜ Placeable max form e (now s) ⌝ }
     ensures { λ _. ⌜ now (store .exit) ≡ laid (now (store .entry)) to (words (itemRow form (take e (now (s .entry))))) ⌝ }
 {
     let k = id_size(form);
@@ -229,9 +228,7 @@ pub fn try_parse_prefix(s: &[u8], afi: Afi, form: Form) -> PrefixAnswer
 
 // The row of the item of e bytes at the front of s.
 fn row_of(s: &[u8], e: usize, max: u8, form: Form) -> Row
-    requires { ⌜ idSize form + 1 ≤ e ⌝ }
-    requires { ⌜ e ≤ idSize form + 1 + octets max ⌝ }
-    requires { ⌜ e ≤ length (now s) ⌝ }
+    requires { ⌜ Placeable max form e (now s) ⌝ }
     ensures { λ r. ⌜ r ≡ itemRow form (take e (now (s .entry))) ⌝ }
 {
     let mut row = [0u32; 6];
@@ -282,29 +279,44 @@ fn guess_size(s: &[u8], max: u8, form: Form) -> StepAnswer
     }
 }
 
-// A step under a setting.
-fn step_size(s: &[u8], max: u8, mode: AddPath, form: Form) -> StepAnswer
-    ensures { λ r. ⌜ r ≡ sized (stepOf max mode form (now (s .entry))) ⌝ }
+// A step in one form.
+fn form_size(s: &[u8], max: u8, form: Form) -> StepAnswer
+    ensures { λ r. ⌜ r ≡ sized (stepOf max (fixed form) form (now (s .entry))) ⌝ }
 {
-    match mode {
-        AddPath::On => keep_size(item_size(s, max, Form::Tagged), Form::Tagged),
-        AddPath::Off => keep_size(item_size(s, max, Form::Plain), Form::Plain),
-        AddPath::Guess => guess_size(s, max, form),
-    }
+    keep_size(item_size(s, max, form), form)
 }
 
-// How many rows a list has.
-fn count_rows(s: &[u8], max: u8, mode: AddPath) -> ListAnswer
-    ensures { λ r. ⌜ r ≡ countAnswer (now (s .entry)) (listOf (now (s .entry)) max mode) ⌝ }
+// How many rows a list has whose items all stand in one form.
+fn count_form(s: &[u8], max: u8, form: Form) -> ListAnswer
+    requires { ⌜ length (now s) ≤ listLimit ⌝ }
+    ensures { λ r. ⌜ r ≡ countAnswer (now (s .entry)) (listOf (now (s .entry)) max (fixed form)) ⌝ }
 {
-    if wire::LIST_LIMIT < s.len() {
-        return ListAnswer::Refused(refusal::TOO_LONG);
+    let mut at: usize = 0;
+    let mut count: usize = 0;
+    while at < s.len() {
+        match form_size(&s[at..], max, form) {
+            StepAnswer::Item { used, form: _ } => {
+                at = at + used;
+                count = count + 1;
+            }
+            StepAnswer::Refused(n) => {
+                return ListAnswer::Refused(n);
+            }
+        }
     }
+    ListAnswer::Rows(count)
+}
+
+// How many rows a list has by the guess.
+fn count_guess(s: &[u8], max: u8) -> ListAnswer
+    requires { ⌜ length (now s) ≤ listLimit ⌝ }
+    ensures { λ r. ⌜ r ≡ countAnswer (now (s .entry)) (listOf (now (s .entry)) max AddPath.Guess) ⌝ }
+{
     let mut at: usize = 0;
     let mut count: usize = 0;
     let mut form = Form::Plain;
     while at < s.len() {
-        match step_size(&s[at..], max, mode, form) {
+        match guess_size(&s[at..], max, form) {
             StepAnswer::Item { used, form: next } => {
                 at = at + used;
                 count = count + 1;
@@ -318,27 +330,82 @@ fn count_rows(s: &[u8], max: u8, mode: AddPath) -> ListAnswer
     ListAnswer::Rows(count)
 }
 
-// The rows of a good list that has room, from the front of a store.
-fn fill_rows(s: &[u8], max: u8, mode: AddPath, store: &mut [u32])
-    requires { ⌜ listOf (now s) max mode .verdict ≡ 0 ⌝ }
-    requires { ⌜ length (flat words (listOf (now s) max mode .rows)) ≤ length (now store) ⌝ }
-    ensures { λ _. ⌜ now (store .exit) ≡ laid (now (store .entry)) 0 (flat words (listOf (now (s .entry)) max mode .rows)) ⌝ }
+// How many rows a list has under a setting.
+fn count_rows(s: &[u8], max: u8, mode: AddPath) -> ListAnswer
+    ensures { λ r. ⌜ r ≡ countAnswer (now (s .entry)) (listOf (now (s .entry)) max mode) ⌝ }
+{
+    if wire::LIST_LIMIT < s.len() {
+        return ListAnswer::Refused(refusal::TOO_LONG);
+    }
+    match mode {
+        AddPath::On => count_form(s, max, Form::Tagged),
+        AddPath::Off => count_form(s, max, Form::Plain),
+        AddPath::Guess => count_guess(s, max),
+    }
+}
+
+// The bytes of the item at the front of a list that is known to be good.
+fn item_end(s: &[u8], form: Form) -> usize
+    requires { ⌜ idSize form < length (now s) ⌝ }
+    ensures { λ r. ⌜ r ≡ itemEnd form (now (s .entry)) ⌝ }
+{
+    let k = id_size(form);
+    k + 1 + octet_count(s[k])
+}
+
+// The form in which the guess reads the item at the front.
+fn guess_form(s: &[u8], max: u8, form: Form) -> Form
+    ensures { λ r. ⌜ r ≡ guessForm max form (now (s .entry)) ⌝ }
+{
+    if plain_here(s, form) {
+        return Form::Plain;
+    }
+    match item_size(s, max, Form::Tagged) {
+        SizeAnswer::Size(_) => Form::Tagged,
+        SizeAnswer::Refused(_) => Form::Plain,
+    }
+}
+
+// The rows of a good list that has room, from the front of a store: items in one form, items by the guess, and under a setting.
+fn fill_form(s: &[u8], max: u8, form: Form, store: &mut [u32])
+    requires { ⌜ Fitting (listOf (now s) max (fixed form)) (now store) ⌝ }
+    ensures { λ _. ⌜ now (store .exit) ≡ laid (now (store .entry)) 0 (flat words (listOf (now (s .entry)) max (fixed form) .rows)) ⌝ }
+{
+    let mut at: usize = 0;
+    let mut to: usize = 0;
+    while at < s.len() {
+        let used = item_end(&s[at..], form);
+        put_item(store, to, &s[at..], used, max, form);
+        at = at + used;
+        to = to + 6;
+    }
+}
+
+fn fill_guess(s: &[u8], max: u8, store: &mut [u32])
+    requires { ⌜ Fitting (listOf (now s) max AddPath.Guess) (now store) ⌝ }
+    ensures { λ _. ⌜ now (store .exit) ≡ laid (now (store .entry)) 0 (flat words (listOf (now (s .entry)) max AddPath.Guess .rows)) ⌝ }
 {
     let mut at: usize = 0;
     let mut to: usize = 0;
     let mut form = Form::Plain;
     while at < s.len() {
-        match step_size(&s[at..], max, mode, form) {
-            StepAnswer::Item { used, form: next } => {
-                put_item(store, to, &s[at..], used, max, next);
-                at = at + used;
-                to = to + 6;
-                form = next;
-            }
-            StepAnswer::Refused(_) => {
-                return;
-            }
-        }
+        let next = guess_form(&s[at..], max, form);
+        let used = item_end(&s[at..], next);
+        put_item(store, to, &s[at..], used, max, next);
+        at = at + used;
+        to = to + 6;
+        form = next;
+    }
+}
+
+fn fill_rows(s: &[u8], max: u8, mode: AddPath, store: &mut [u32])
+    requires { ⌜ Fitting (listOf (now s) max mode) (now store) ⌝ }
+    ensures { λ _. ⌜ now (store .exit) ≡ laid (now (store .entry)) 0 (flat words (listOf (now (s .entry)) max mode .rows)) ⌝ }
+{
+    match mode {
+        AddPath::On => fill_form(s, max, Form::Tagged, store),
+        AddPath::Off => fill_form(s, max, Form::Plain, store),
+        AddPath::Guess => fill_guess(s, max, store),
     }
 }
 
@@ -363,12 +430,7 @@ fn read_rows(s: &[u8], max: u8, mode: AddPath, store: &mut [u32]) -> ListAnswer
 pub fn count_nlri_list(s: &[u8], afi: Afi, mode: AddPath) -> ListAnswer
     ensures answer { λ r. ⌜ r ≡ countAnswer (now (s .entry)) (listOf (now (s .entry)) (maxOf afi) mode) ⌝ }
 {
-    let max = max_len(afi);
-    match mode {
-        AddPath::On => count_rows(s, max, AddPath::On),
-        AddPath::Off => count_rows(s, max, AddPath::Off),
-        AddPath::Guess => count_rows(s, max, AddPath::Guess),
-    }
+    count_rows(s, max_len(afi), mode)
 }
 
 // A list into a lent store, six words a row.
@@ -376,12 +438,7 @@ pub fn parse_nlri_list(s: &[u8], afi: Afi, mode: AddPath, store: &mut [u32]) -> 
     ensures answer { λ r. ⌜ r ≡ readAnswer (now (s .entry)) (listOf (now (s .entry)) (maxOf afi) mode) (length (now (store .entry))) ⌝ }
     ensures store { λ _. ⌜ now (store .exit) ≡ storeAfter (now (s .entry)) (listOf (now (s .entry)) (maxOf afi) mode) (now (store .entry)) ⌝ }
 {
-    let max = max_len(afi);
-    match mode {
-        AddPath::On => read_rows(s, max, AddPath::On, store),
-        AddPath::Off => read_rows(s, max, AddPath::Off, store),
-        AddPath::Guess => read_rows(s, max, AddPath::Guess, store),
-    }
+    read_rows(s, max_len(afi), mode, store)
 }
 
 // Whether a section is one byte, and not 0.

@@ -20,7 +20,7 @@ fill-rows-requires c κs =
     let g = c .before .before .before .before .before .before in
     let a = g .args in
     let told = c .before .before .enum-told .given .1 in
-    rw (c .before .max-len .ensures) (counted-fits (a .s .now) (maxOf (a .afi)) (a .mode) (length (a .store .now)) _ (sym (g .pre .0) ∙ told) (sym (ap (λ (x : ListAnswer). hasRoom x (length (a .store .now))) told) ∙ g .pre .1))
+    rw (c .before .max-len .ensures) (counted-fits (a .s .now) (maxOf (a .afi)) (a .mode) (a .store .now) _ (sym (g .pre .0) ∙ told) (sym (ap (λ (x : ListAnswer). hasRoom x (length (a .store .now))) told) ∙ g .pre .1))
 
 enum-told-2 : tie.Need-enum-told-2
 enum-told-2 c = search needs

@@ -58,7 +58,7 @@ returns c =
     ap₂ _+_ (c .before .before .before .before .before .before .before .wide .ensures) (c .before .before .before .before .before .before .mark-of .ensures) in
     c .before .before .put-row .ensures
     ∙ ap (λ (r : Row). laid (a .store .now) (a .to) (words r))
-    (item-row (a .s .now) (a .form) (a .e) _ _ _ (k .ensures) first (c .before .before .before .id-of .ensures) (omega (arith, g .pre, k .ensures)) (g .pre .1 .1 .1))
+    (item-row (a .s .now) (a .form) (a .e) _ _ _ (k .ensures) first (c .before .before .before .id-of .ensures) (omega (arith, g .pre .1 .front, k .ensures)) (g .pre .1 .within))
 
 pub put-item-spec : {M : Type 1} → statement M
 put-item-spec =

@@ -8,8 +8,8 @@ use borrow.Author.Needs.{needs}
 use Rattle.routes.proofs.put_row.Statement.{statement}
 use Rattle.routes.proofs.put_row.Tie as tie
 
-word-of-requires : tie.Need-word-of-requires
-word-of-requires c κs = search needs
+front-word-requires : tie.Need-front-word-requires
+front-word-requires c κs = search needs
 
 put-words-requires : tie.Need-put-words-requires
 put-words-requires c κs = search needs
@@ -25,6 +25,9 @@ returns c =
     let short : length o ≤ 4 = omega (arith, length-take (a .n) (a .t .now), min-le-left (a .n) (length (a .t .now)), c .before .before .before .before .before .if1 .taken) in
     cc (c .before .before .put-words .ensures, word-past o 4 short, word-past o 8 (omega arith), word-past o 12 (omega arith))
 
+word-of-requires : tie.Need-word-of-requires
+word-of-requires c κs = search needs
+
 word-of-requires-2 : tie.Need-word-of-requires-2
 word-of-requires-2 c κs = search needs
 
@@ -33,9 +36,6 @@ word-of-requires-3 c κs = search needs
 
 word-of-requires-4 : tie.Need-word-of-requires-4
 word-of-requires-4 c κs = search needs
-
-word-of-requires-5 : tie.Need-word-of-requires-5
-word-of-requires-5 c κs = search needs
 
 put-words-requires-2 : tie.Need-put-words-requires-2
 put-words-requires-2 c κs = search needs
@@ -51,14 +51,14 @@ pub put-row-spec : {M : Type 1} → statement M
 put-row-spec =
     tie.close
     (tie.spec
-    word-of-requires
+    front-word-requires
     put-words-requires
     same-length
     returns
+    word-of-requires
     word-of-requires-2
     word-of-requires-3
     word-of-requires-4
-    word-of-requires-5
     put-words-requires-2
     same-length-2
     returns-2)

@@ -23,7 +23,7 @@ fill-rows-requires c κs =
     let a = c .before .before .before .before .before .before .before .before .args in
     let counted = sym (c .before .before .before .before .before .count-rows .ensures) ∙ c .before .before .before .n .given .1 in
     let h = count-rows (a .s .now) (listOf (a .s .now) (a .max) (a .mode)) _ counted in
-    (h .0, omega (arith, h .1, c .before .if1 .left, words-length (listOf (a .s .now) (a .max) (a .mode) .rows)))
+    record { good = h .0; room = omega (arith, h .1, c .before .if1 .left, words-length (listOf (a .s .now) (a .max) (a .mode) .rows)) }
 
 enum-known-n-2 : tie.Need-enum-known-n-2
 enum-known-n-2 c = search needs
