@@ -1,9 +1,9 @@
 -- The message header. RFC 4271 section 4.1: sixteen octets of marker, two of length, header and all, and one of type.
-use Prim.Native.Nat.{ℕ, _-_, _≤_}
+use Prim.Native.Nat.{ℕ, _-_, _≤_, min}
 use mathlib.Core.List.{List, [], _∷_}
 use mathlib.Core.Bool.{Bool, true, false, not}
 use lib.ListN.{length, getD, take}
-use lib.Dec.{ltb, leb, eqb}
+use lib.Dec.{ltb, eqb}
 use Rattle.wire.specs.Choice.{pick}
 use Rattle.wire.specs.Extent.{Extent, nothing}
 use Rattle.wire.specs.Number.{beAt}
@@ -74,9 +74,6 @@ unfoldable pub allFF : List ℕ → Bool
 allFF [] = true
 allFF (b ∷ s) = pick (eqb b 255) (allFF s) false
 
-unfoldable pub smaller : ℕ → ℕ → ℕ
-smaller a b = pick (leb a b) a b
-
 -- ---- the fields
 
 abbrev pub markerOf : List ℕ → List ℕ
@@ -92,7 +89,7 @@ kindOf s = getD s 18 0
 
 -- what the crate takes is the smaller of what the message claims and what there is
 abbrev pub takenOf : List ℕ → ℕ
-takenOf s = smaller (claimedOf s) (length s)
+takenOf s = min (claimedOf s) (length s)
 
 -- a message that the crate accepts, and one that the strict reading does
 abbrev pub accepted : List ℕ → MessageAnswer

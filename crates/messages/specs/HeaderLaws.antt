@@ -4,16 +4,17 @@ use Prim.Native.Nat.{ℕ, _+_, _-_, _≤_, _<_}
 use mathlib.Core.Path.{_≡_, refl, sym, ap, _∙_}
 use mathlib.Core.List.{List, [], _∷_, _++_}
 use mathlib.Core.Bool.{Bool, true, false, not}
+use native.Mathlib.Nat.{le-min, min-le-right}
 use native.Mathlib.Omega.{arith}
-use borrow.Author.Tests.{eq-eqb, ne-eqb, le-leb, le-ltb, ltb-false, not-false}
+use borrow.Author.Tests.{eq-eqb, ne-eqb, le-ltb, ltb-false, not-false}
 use lib.ListN.{length, getD, take, drop}
 use lib.Dec.{eqb, ltb}
 use lib.Seq.{drop-drop}
-use Rattle.wire.specs.Choice.{pick, pick-leb, pick-eqb, pick-unless}
+use Rattle.wire.specs.Choice.{pick, pick-eqb, pick-unless}
 use Rattle.wire.specs.Number.{be, beAt, padded, Bytes}
 use Rattle.wire.specs.NumberLaws.{padded-cells, padded-add, padded-take}
 use Rattle.wire.specs.Refusal.{truncated, messageLength, messageType, shortBody, badMarker}
-use Rattle.messages.specs.Header.{allFF, smaller, isOutside, isUnknown, headerSize, crateLimit, leastLength, mostLength, messageOf, strictWithin, markerOf, claimedOf, kindOf, takenOf, accepted, whole, Fits}
+use Rattle.messages.specs.Header.{allFF, isOutside, isUnknown, headerSize, crateLimit, leastLength, mostLength, messageOf, strictWithin, markerOf, claimedOf, kindOf, takenOf, accepted, whole, Fits}
 use Rattle.messages.specs.declared.MessageAnswer.{MessageAnswer}
 use Rattle.messages.specs.declared.MessageAnswer.the-variants.{Refused}
 
@@ -73,18 +74,6 @@ module _ (s : List ℕ) (long : 16 ≤ length s) where
       (allFF-append (word 4) (word 8 ++ word 12) ∙ ap (λ (x : Bool). pick (allFF (word 4)) x false) (allFF-append (word 8) (word 12)))
 
 -- ---- the checks
-
-pub smaller-is-left : (a b : ℕ) → a ≤ b → smaller a b ≡ a
-unfolding smaller
-smaller-is-left a b h = rw (le-leb a b h)
-
-pub smaller-right : (a b : ℕ) → smaller a b ≤ b
-unfolding smaller
-smaller-right a b = pick-leb (λ (n : ℕ). n ≤ b) a b a b (λ h. omega arith) (λ h. omega arith)
-
-pub smaller-both : (n a b : ℕ) → n ≤ a → n ≤ b → n ≤ smaller a b
-unfolding smaller
-smaller-both n a b h k = pick-leb (λ (m : ℕ). n ≤ m) a b a b (λ _. h) (λ _. k)
 
 -- within two bounds
 inside-both : (lo hi n : ℕ) → isOutside lo hi n ≡ false → (lo ≤ n) × (n ≤ hi)
@@ -164,7 +153,7 @@ module _ {ℓ} (s : List ℕ) (P : MessageAnswer → Type ℓ) (bad : (n : ℕ) 
 pub accepted-by : (s : List ℕ) → Accepted s → messageOf s ≡ accepted s
 unfolding messageOf
 accepted-by s h =
-    let body : takenOf s - headerSize ≤ length s - headerSize = omega (arith, smaller-right (claimedOf s) (length s)) in
+    let body : takenOf s - headerSize ≤ length s - headerSize = omega (arith, min-le-right (claimedOf s) (length s)) in
     simp (le-ltb (length s) headerSize (h .long), le-ltb (claimedOf s) headerSize (h .claims), h .known, le-ltb (crateLimit (kindOf s)) (claimedOf s) (h .short), le-ltb (length s - headerSize) (takenOf s - headerSize) body)
 
 pub whole-by : (limit : ℕ) (s : List ℕ) → Whole limit s → strictWithin limit s ≡ whole s
@@ -183,7 +172,7 @@ whole-by limit s h =
 pub message-fits : (s : List ℕ) → Fits (messageOf s) (length s)
 message-fits s =
     message-cases s (λ a. Fits a (length s)) (λ n. omega arith)
-    (λ h. (smaller-both headerSize (claimedOf s) (length s) (h .claims) (h .long), smaller-right (claimedOf s) (length s)))
+    (λ h. (le-min (h .claims) (h .long), min-le-right (claimedOf s) (length s)))
 
 pub strict-fits : (limit : ℕ) (s : List ℕ) → Fits (strictWithin limit s) (length s)
 strict-fits limit s = strict-cases s (λ a. Fits a (length s)) (λ n. omega arith) limit (λ h. (h .claims, h .there))

@@ -1,17 +1,18 @@
 -- What is shown of framing: what the writer writes comes back from both readings, and no cut message passes for a whole one.
 -- Assumes nothing.
-use Prim.Native.Nat.{ℕ, _+_, _-_, _≤_, _<_}
+use Prim.Native.Nat.{ℕ, _+_, _-_, _≤_, _<_, min}
 use mathlib.Core.Path.{_≡_, refl, sym, ap, ap₂, _∙_}
 use mathlib.Core.List.{List, _++_}
 use mathlib.Core.Bool.{Bool, true, false}
+use native.Mathlib.Nat.{min-eq-left}
 use native.Mathlib.Omega.{arith}
 use borrow.Author.Tests.{le-ltb, lt-ltb, ltb-true, ltb-false}
 use lib.ListN.{length, take}
 use lib.Seq.{take-at}
 use lib.Dec.{ltb}
 use Rattle.wire.specs.Extent.{within}
-use Rattle.messages.specs.Header.{headerSize, smaller, claimedOf, messageOf, strictWithin, bodyAt}
-use Rattle.messages.specs.HeaderLaws.{smaller-is-left, Accepted, Whole, accepted-by, whole-by, message-cases, strict-cases}
+use Rattle.messages.specs.Header.{headerSize, claimedOf, messageOf, strictWithin, bodyAt}
+use Rattle.messages.specs.HeaderLaws.{Accepted, Whole, accepted-by, whole-by, message-cases, strict-cases}
 use Rattle.messages.specs.Written.{totalOf, messageBytes, writeAnswer}
 use Rattle.messages.specs.WrittenLaws.{most-small, most-crate, Fit, written-fit, written-long, written-kind, written-marker, written-past, written-claimed}
 use Rattle.messages.specs.declared.MessageAnswer.{MessageAnswer}
@@ -84,7 +85,7 @@ module _ (kind : ℕ) (body rest : List ℕ) (places n : ℕ) (wrote : writeAnsw
       let f = written-fit kind body places n wrote in
       let total : ℕ = totalOf body in
       let more : ℕ = total + length rest in
-      let taken : smaller total more ≡ total = smaller-is-left total more (omega arith) in
+      let taken : min total more ≡ total = min-eq-left (omega arith) in
       framed kind body rest (messageOf message)
       (accepted-by message (crate-facts f)
       ∙ rw (claims f, written-kind kind body rest, written-marker kind body rest, written-long kind body rest, taken, le-ltb more total (omega arith)))

@@ -1,7 +1,6 @@
 -- A message to write: a type and a body under a header of an all-FF marker (RFC 4271 section 4.1).
 use Prim.Native.Nat.{ℕ, _+_}
 use mathlib.Core.List.{List, [], _∷_, _++_}
-use mathlib.Core.Bool.{Bool}
 use lib.ListN.{length, replicate}
 use lib.Dec.{ltb}
 use Rattle.wire.specs.Choice.{pick}

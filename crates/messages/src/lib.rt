@@ -5,7 +5,7 @@ ghost use lib.ListN.{length, take, drop};
 ghost use Rattle.wire.specs.Extent.{PartOf};
 ghost use Rattle.wire.specs.Number.{padded};
 ghost use Rattle.wire.specs.Store.{laid};
-ghost use Rattle.messages.specs.Header.{allFF, isOutside, isUnknown, smaller, leastLength, mostLength, crateLimit, messageOf, strictWithin, strictOf, bodyAt, Fits};
+ghost use Rattle.messages.specs.Header.{allFF, isOutside, isUnknown, leastLength, mostLength, crateLimit, messageOf, strictWithin, strictOf, bodyAt, Fits};
 ghost use Rattle.messages.specs.Written.{header, writeAnswer, outAfter};
 use wire::refusal;
 
@@ -102,12 +102,6 @@ fn most_length(kind: u8) -> usize
     crate_limit(kind)
 }
 
-fn least(a: usize, b: usize) -> usize
-    ensures { λ r. ⌜ r ≡ smaller a b ⌝ }
-{
-    if a <= b { a } else { b }
-}
-
 // Whether the four bytes at a place are all FF.
 fn ones_at(s: &[u8], at: usize) -> bool
     ensures { λ r. ⌜ r ≡ allFF (padded 4 (drop at (now (s .entry)))) ⌝ }
@@ -147,7 +141,7 @@ pub fn parse_bgp_message(s: &[u8]) -> MessageAnswer
     if unknown(kind) {
         return MessageAnswer::Refused(refusal::MESSAGE_TYPE);
     }
-    let taken = least(claimed, s.len());
+    let taken = wire::least(claimed, s.len());
     if crate_limit(kind) < claimed {
         return MessageAnswer::Refused(refusal::MESSAGE_LENGTH);
     }

@@ -1,24 +1,16 @@
 -- Laws of an UPDATE body to write.
 -- Assumes nothing.
-use Prim.Native.Nat.{ℕ, _+_, _≤_, _<_}
+use Prim.Native.Nat.{ℕ, _+_, _≤_}
 use mathlib.Core.Path.{_≡_, refl, sym, ap, _∙_}
 use mathlib.Core.List.{List, _++_, append-assoc}
-use mathlib.Core.Bool.{Bool, true, false}
 use native.Mathlib.Omega.{arith}
 use borrow.Author.Tests.{ltb-false}
 use lib.ListN.{length, length-append}
 use lib.Dec.{ltb}
 use Rattle.wire.specs.Choice.{pick-unless}
 use Rattle.wire.specs.Number.{toBe}
-use Rattle.wire.specs.NumberLaws.{length-toBe}
 use Rattle.wire.specs.Refusal.{tooLong, noRoom, listLimit, bodyLimit}
 use Rattle.wire.specs.Store.{laid, placed, placed-fits, placed-next}
-use Rattle.routes.specs.Prefix.{maxOf}
-use Rattle.routes.specs.declared.Afi.the-variants.{Ipv4}
-use Rattle.routes.specs.declared.Form.{Form}
-use Rattle.route_writer.specs.Encode.{bytesOf}
-use Rattle.route_writer.specs.Promises.{measured}
-use Rattle.route_writer.specs.PromiseLaws.{measured-bytes}
 use Rattle.route_writer.specs.declared.WriteAnswer.{WriteAnswer}
 use Rattle.route_writer.specs.declared.WriteAnswer.the-variants.{Bytes, Refused}
 use Rattle.update_writer.specs.Body.{lengthSize, sections, totalOf, sized}

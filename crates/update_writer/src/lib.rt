@@ -71,7 +71,13 @@ fn put_sections(
     let at = LENGTH_SIZE + first;
     wire::put_u16(out, at, attributes.len() as u16);
     wire::copy_at(out, at + LENGTH_SIZE, attributes);
-    put_routes(announced, form, last, out, at + LENGTH_SIZE + attributes.len());
+    put_routes(
+        announced,
+        form,
+        last,
+        out,
+        at + LENGTH_SIZE + attributes.len(),
+    );
 }
 
 // A body of lists that were measured, if it fits.
@@ -110,8 +116,20 @@ pub fn encode_bgp_update_message(
     ensures out { λ r. ⌜ now (out .exit) ≡ filled r (bodyBytes (now (withdrawn .entry)) (now (attributes .entry)) (now (announced .entry)) form) (now (out .entry)) ⌝ }
 {
     match route_writer::measure_nlri_prefixes(withdrawn, Afi::Ipv4, form) {
-        WriteAnswer::Bytes(w) => match route_writer::measure_nlri_prefixes(announced, Afi::Ipv4, form) {
-            WriteAnswer::Bytes(a) => write_sections(withdrawn, attributes, announced, form, w, a, out),
+        WriteAnswer::Bytes(w) => match route_writer::measure_nlri_prefixes(
+            announced,
+            Afi::Ipv4,
+            form,
+        ) {
+            WriteAnswer::Bytes(a) => write_sections(
+                withdrawn,
+                attributes,
+                announced,
+                form,
+                w,
+                a,
+                out,
+            ),
             WriteAnswer::Refused(n) => WriteAnswer::Refused(n),
         },
         WriteAnswer::Refused(n) => WriteAnswer::Refused(n),

@@ -1,7 +1,7 @@
 use mathlib.Core.Path.{sym, _∙_}
 use borrow.Author.Tests.{lt-ltb, le-ltb}
-use Rattle.messages.specs.Header.{messageOf, headerSize}
-use Rattle.messages.specs.HeaderLaws.{smaller-both}
+use Rattle.messages.specs.Header.{messageOf}
+use native.Mathlib.Nat.{le-min}
 use borrow.Author.Needs.{needs}
 use Rattle.messages.proofs.parse_bgp_message.Statement.{statement}
 use Rattle.messages.proofs.parse_bgp_message.Tie as tie
@@ -53,7 +53,7 @@ sub-if5 c = search needs
 sub-if5-2 : tie.Need-sub-if5-2
 sub-if5-2 c =
     let b = c .before .before .before .before .before .before in
-    rw (c .before .before .least .ensures) (smaller-both headerSize _ _ (b .if2 .left) (b .before .before .if1 .left))
+    rw (c .before .before .least .ensures) (le-min (b .if2 .left) (b .before .before .if1 .left))
 
 returns-5 : tie.Need-returns-5
 unfolding messageOf

@@ -6,20 +6,15 @@ use Rattle.update_writer.specs.Body.{sized, totalOf}
 use borrow.Author.Needs.{needs}
 use Rattle.update_writer.proofs.body_size.Statement.{statement}
 use Rattle.update_writer.proofs.body_size.Tie as tie
-use Rattle.update_writer.proofs.body_size.Reads as reads
-use Rattle.update_writer.proofs.body_size.Lts as lts
 
--- src/lib.rt:26:9
 returns : tie.Need-returns
 unfolding sized
 returns c = simp (lt-ltb _ _ (c .if1 .taken))
 
--- src/lib.rt:29:9
 returns-2 : tie.Need-returns-2
 unfolding sized
 returns-2 c = simp (le-ltb _ _ (c .before .if1 .left), lt-ltb _ _ (c .if2 .taken))
 
--- src/lib.rt:32:9
 returns-3 : tie.Need-returns-3
 unfolding sized
 returns-3 c =
@@ -27,35 +22,28 @@ returns-3 c =
     let over : bodyLimit < totalOf (a .withdrawn) (a .attributes) (a .announced) = omega arith in
     simp (le-ltb _ _ (c .before .before .if1 .left), le-ltb _ _ (c .before .if2 .left), lt-ltb bodyLimit (totalOf (a .withdrawn) (a .attributes) (a .announced)) over)
 
--- src/lib.rt:34:17
 add-total : tie.Need-add-total
 add-total c = search needs
 
--- src/lib.rt:34:17
 add-total-2 : tie.Need-add-total-2
 add-total-2 c = search needs
 
--- src/lib.rt:34:17
 add-total-3 : tie.Need-add-total-3
 add-total-3 c = search needs
 
--- src/lib.rt:34:17
 add-total-4 : tie.Need-add-total-4
 add-total-4 c = search needs
 
--- src/lib.rt:36:9
 returns-4 : tie.Need-returns-4
 unfolding sized
 returns-4 c = simp (le-ltb _ _ (c .before .before .before .if1 .left), le-ltb _ _ (c .before .before .if2 .left), lt-ltb _ _ (c .if4 .taken))
 
--- src/lib.rt:39:9
 returns-5 : tie.Need-returns-5
 unfolding sized
 returns-5 c =
     let q = c .before in
     simp (le-ltb _ _ (q .before .before .before .if1 .left), le-ltb _ _ (q .before .before .if2 .left), le-ltb _ _ (q .if4 .left), lt-ltb _ _ (c .if5 .taken))
 
--- src/lib.rt:22:1
 returns-6 : tie.Need-returns-6
 unfolding sized
 returns-6 c =

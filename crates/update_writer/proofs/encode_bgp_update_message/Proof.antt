@@ -3,47 +3,34 @@ use Rattle.update_writer.specs.Body.{bodyAnswer}
 use borrow.Author.Needs.{needs}
 use Rattle.update_writer.proofs.encode_bgp_update_message.Statement.{statement}
 use Rattle.update_writer.proofs.encode_bgp_update_message.Tie as tie
-use Rattle.update_writer.proofs.encode_bgp_update_message.Reads as reads
-use Rattle.update_writer.proofs.encode_bgp_update_message.Lts as lts
-use Rattle.route_writer.proofs.measure_nlri_prefixes.Reads as measure-nlri-prefixes-reads
-use Rattle.update_writer.proofs.write_sections.Reads as write-sections-reads
 
--- src/lib.rt:112:11
 measure-nlri-prefixes-requires : tie.Need-measure-nlri-prefixes-requires
 measure-nlri-prefixes-requires c κs = search needs
 
--- src/lib.rt:113:28
 enum-known-w : tie.Need-enum-known-w
 enum-known-w c = search needs
 
--- src/lib.rt:113:40
 measure-nlri-prefixes-requires-2 : tie.Need-measure-nlri-prefixes-requires-2
 measure-nlri-prefixes-requires-2 c κs = search needs
 
--- src/lib.rt:114:32
 enum-known-a : tie.Need-enum-known-a
 enum-known-a c = search needs
 
--- src/lib.rt:114:38
 write-sections-requires : tie.Need-write-sections-requires
 write-sections-requires c κs =
     let b = c .before .before in
     let k = b .before .before .before .before in
     (sym (k .before .before .measure-nlri-prefixes .ensures) ∙ k .w .given .1, sym (b .before .before .measure-nlri-prefixes2 .ensures) ∙ b .a .given .1)
 
--- src/lib.rt:115:34
 enum-known-n : tie.Need-enum-known-n
 enum-known-n c = search needs
 
--- src/lib.rt:117:30
 enum-known-n-2 : tie.Need-enum-known-n-2
 enum-known-n-2 c = search needs
 
--- src/lib.rt:102:1
 same-length : tie.Need-same-length
 same-length c = search needs
 
--- src/lib.rt:102:1
 returns : tie.Need-returns
 unfolding bodyAnswer
 returns c =
@@ -51,7 +38,6 @@ returns c =
     let k = b .before .before .before .before in
     (rw (sym (k .before .before .measure-nlri-prefixes .ensures) ∙ k .w .given .1, sym (b .before .before .measure-nlri-prefixes2 .ensures) ∙ b .a .given .1) (c .before .before .write-sections .ensures .0), c .before .before .write-sections .ensures .1)
 
--- src/lib.rt:102:1
 returns-2 : tie.Need-returns-2
 unfolding bodyAnswer
 returns-2 c =
@@ -59,7 +45,6 @@ returns-2 c =
     let k = b .before .before .before .before in
     (rw (sym (k .before .before .measure-nlri-prefixes .ensures) ∙ k .w .given .1, sym (b .before .before .measure-nlri-prefixes2 .ensures) ∙ b .n .given .1), refl)
 
--- src/lib.rt:102:1
 returns-3 : tie.Need-returns-3
 unfolding bodyAnswer
 returns-3 c = (rw (sym (c .before .before .before .measure-nlri-prefixes .ensures) ∙ c .before .n2 .given .1), refl)

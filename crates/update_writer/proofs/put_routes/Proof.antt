@@ -12,31 +12,22 @@ use Rattle.route_writer.specs.PromiseLaws.{leave-bytes, measured-bytes}
 use borrow.Author.Needs.{needs}
 use Rattle.update_writer.proofs.put_routes.Statement.{statement}
 use Rattle.update_writer.proofs.put_routes.Tie as tie
-use Rattle.update_writer.proofs.put_routes.Reads as reads
-use Rattle.update_writer.proofs.put_routes.Lts as lts
-use Rattle.route_writer.proofs.encode_nlri_prefixes.Reads as encode-nlri-prefixes-reads
 
--- src/lib.rt:52:63
 sub-encode-nlri-prefixes : tie.Need-sub-encode-nlri-prefixes
 sub-encode-nlri-prefixes c = search needs
 
--- src/lib.rt:52:63
 part-encode-nlri-prefixes-start : tie.Need-part-encode-nlri-prefixes-start
 part-encode-nlri-prefixes-start c = search needs
 
--- src/lib.rt:52:63
 part-encode-nlri-prefixes-end : tie.Need-part-encode-nlri-prefixes-end
 part-encode-nlri-prefixes-end c = search needs
 
--- src/lib.rt:52:5
 encode-nlri-prefixes-requires : tie.Need-encode-nlri-prefixes-requires
 encode-nlri-prefixes-requires c κs = search needs
 
--- src/lib.rt:47:1
 same-length : tie.Need-same-length
 same-length c = search needs
 
--- src/lib.rt:47:1
 returns : tie.Need-returns
 returns c =
     let s = c .before .before .before .before .before .before in

@@ -1,72 +1,54 @@
-use mathlib.Core.Path.{_≡_, sym, ap, _∙_}
+use mathlib.Core.Path.{_≡_}
 use mathlib.Core.List.{List}
-use Prim.Native.Nat.{ℕ, _≤_}
+use Prim.Native.Nat.{ℕ}
 use native.Mathlib.Omega.{arith}
 use lib.ListN.{length}
 use Rattle.routes.specs.Prefix.{maxOf}
 use Rattle.routes.specs.declared.Afi.the-variants.{Ipv4}
 use Rattle.route_writer.specs.Encode.{bytesOf}
 use Rattle.route_writer.specs.PromiseLaws.{measured-bytes}
-use Rattle.update_writer.specs.Body.{totalOf, bodyBytes}
+use Rattle.update_writer.specs.Body.{bodyBytes}
 use Rattle.update_writer.specs.BodyLaws.{sections-put}
 use borrow.Author.Needs.{needs}
 use Rattle.update_writer.proofs.put_sections.Statement.{statement}
 use Rattle.update_writer.proofs.put_sections.Tie as tie
-use Rattle.update_writer.proofs.put_sections.Reads as reads
-use Rattle.update_writer.proofs.put_sections.Lts as lts
-use Rattle.update_writer.proofs.put_routes.Reads as put-routes-reads
-use Rattle.wire.proofs.copy_at.Reads as copy-at-reads
-use Rattle.wire.proofs.put_u16.Reads as put-u16-reads
 
--- src/lib.rt:69:27
 cast-put-u16 : tie.Need-cast-put-u16
 cast-put-u16 c = search needs
 
--- src/lib.rt:69:5
 put-u16-requires : tie.Need-put-u16-requires
 put-u16-requires c κs = search needs
 
--- src/lib.rt:70:5
 put-routes-requires : tie.Need-put-routes-requires
 put-routes-requires c κs = search needs
 
--- src/lib.rt:71:14
 add-at : tie.Need-add-at
 add-at c = search needs
 
--- src/lib.rt:72:28
 cast-put-u16-2 : tie.Need-cast-put-u16-2
 cast-put-u16-2 c = search needs
 
--- src/lib.rt:72:5
 put-u16-requires-2 : tie.Need-put-u16-requires-2
 put-u16-requires-2 c κs = search needs
 
--- src/lib.rt:73:24
 add-copy-at : tie.Need-add-copy-at
 add-copy-at c = search needs
 
--- src/lib.rt:73:5
 copy-at-requires : tie.Need-copy-at-requires
 copy-at-requires c κs = search needs
 
--- src/lib.rt:74:44
 add-put-routes : tie.Need-add-put-routes
 add-put-routes c = search needs
 
--- src/lib.rt:74:44
 add-put-routes-2 : tie.Need-add-put-routes-2
 add-put-routes-2 c = search needs
 
--- src/lib.rt:74:5
 put-routes-requires-2 : tie.Need-put-routes-requires-2
 put-routes-requires-2 c κs = search needs
 
--- src/lib.rt:56:1
 same-length : tie.Need-same-length
 same-length c = search needs
 
--- src/lib.rt:56:1
 returns : tie.Need-returns
 unfolding bodyBytes
 returns c =

@@ -3,41 +3,30 @@ use Rattle.update_writer.specs.BodyLaws.{sized-bytes}
 use borrow.Author.Needs.{needs}
 use Rattle.update_writer.proofs.write_sections.Statement.{statement}
 use Rattle.update_writer.proofs.write_sections.Tie as tie
-use Rattle.update_writer.proofs.write_sections.Reads as reads
-use Rattle.update_writer.proofs.write_sections.Lts as lts
-use Rattle.update_writer.proofs.body_size.Reads as body-size-reads
-use Rattle.update_writer.proofs.put_sections.Reads as put-sections-reads
 
--- src/lib.rt:92:11
 body-size-requires : tie.Need-body-size-requires
 body-size-requires c κs = search needs
 
--- src/lib.rt:93:28
 enum-known-n : tie.Need-enum-known-n
 enum-known-n c = search needs
 
--- src/lib.rt:94:13
 put-sections-requires : tie.Need-put-sections-requires
 put-sections-requires c κs =
     let k = c .before .before in
     let s = k .before .before .before .before .before .before .before in
     ((s .pre .0, s .pre .1), sized-bytes _ _ _ _ _ (sym (k .before .before .body-size .ensures) ∙ k .n .given .1))
 
--- src/lib.rt:97:30
 enum-known-n-2 : tie.Need-enum-known-n-2
 enum-known-n-2 c = search needs
 
--- src/lib.rt:78:1
 same-length : tie.Need-same-length
 same-length c = search needs
 
--- src/lib.rt:78:1
 returns : tie.Need-returns
 returns c =
     let k = c .before .before .before .before .before in
     (sym (k .n .given .1) ∙ k .before .before .body-size .ensures, c .before .before .put-sections .ensures)
 
--- src/lib.rt:78:1
 returns-2 : tie.Need-returns-2
 returns-2 c = (sym (c .before .n2 .given .1) ∙ c .before .before .before .body-size .ensures, refl)
 

@@ -4,23 +4,16 @@ use Rattle.wire.specs.Store.{placed}
 use borrow.Author.Needs.{needs}
 use Rattle.wire.proofs.put_u16.Statement.{statement}
 use Rattle.wire.proofs.put_u16.Tie as tie
-use Rattle.wire.proofs.put_u16.Reads as reads
-use Rattle.wire.proofs.put_u16.Lts as lts
-use Rattle.wire.proofs.put_octets.Reads as put-octets-reads
 
--- src/lib.rt:144:25
 mul-put-octets : tie.Need-mul-put-octets
 mul-put-octets c = search needs
 
--- src/lib.rt:144:5
 put-octets-requires : tie.Need-put-octets-requires
 put-octets-requires c κs = search needs
 
--- src/lib.rt:141:1
 same-length : tie.Need-same-length
 same-length c = search needs
 
--- src/lib.rt:141:1
 returns : tie.Need-returns
 returns c = let a = c .before .before .before .before .before .args in c .before .before .put-octets .ensures ∙ ap (placed (a .out .now) (a .to)) (toBe-two (a .v) (search needs))
 
