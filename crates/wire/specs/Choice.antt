@@ -5,8 +5,8 @@ use mathlib.Core.Path.{_≡_, refl, sym, subst}
 use mathlib.Core.Bool.{Bool, true, false}
 use native.Mathlib.Nat.{lt-of-not-le}
 use native.Mathlib.Decide.{decLe}
-use borrow.Author.Tests.{le-leb, lt-leb}
-use lib.Dec.{leb}
+use borrow.Author.Tests.{le-leb, lt-leb, eqb-true, eqb-false}
+use lib.Dec.{leb, eqb}
 
 abbrev pub pick {ℓ} : {X : Type ℓ} → Bool → X → X → X
 pick true a b = a
@@ -24,3 +24,15 @@ pick-leb P a b x y f g =
 pub pick-any {ℓ} : {X : Type 0} (P : X → Type ℓ) (t : Bool) (x y : X) → P x → P y → P (pick t x y)
 pick-any P true x y p q = p
 pick-any P false x y p q = q
+
+pub pick-eqb {ℓ} : {X : Type 0} (P : X → Type ℓ) (a b : ℕ) (x y : X) → (a ≡ b → P x) → ((a ≡ b → ⊥) → P y) → P (pick (eqb a b) x y)
+pick-eqb P a b x y f g = by-test (eqb a b) refl
+  where
+    by-test : (t : Bool) → eqb a b ≡ t → P (pick t x y)
+    by-test true e = f (eqb-true a b e)
+    by-test false e = g (eqb-false a b e)
+
+-- of what is picked unless a test holds, with the test's answer
+pub pick-unless {ℓ} : {X : Type 0} (P : X → Type ℓ) (t : Bool) (x y : X) → P x → (t ≡ false → P y) → P (pick t x y)
+pick-unless P true x y p q = p
+pick-unless P false x y p q = q refl

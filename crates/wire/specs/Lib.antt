@@ -7,4 +7,5 @@ pub mod WalkLaws
 pub mod Parts
 pub mod Store
 pub mod Turn
+pub mod Extent
 pub mod Tight

@@ -1,13 +1,13 @@
 -- Values one after another from a place of a lent list.
 -- Assumes nothing.
-use Prim.Native.Nat.{ℕ, suc, _+_, _≤_, _<_}
+use Prim.Native.Nat.{ℕ, suc, _+_, _-_, _≤_, _<_}
 use mathlib.Core.Path.{_≡_, refl, sym, ap, ap₂, _∙_}
 use mathlib.Core.List.{List, [], _∷_, _++_, append-assoc, append-nil}
-use native.Mathlib.Nat.{add-zero, add-suc, add-assoc}
+use native.Mathlib.Nat.{add-zero, zero-add, add-suc, add-assoc}
 use native.Mathlib.Omega.{arith}
 use borrow.Author.Tests.{le-leb, lt-leb}
-use lib.ListN.{length, take, drop, set, length-append, length-drop, take-append-drop}
-use lib.Seq.{sets, sets-eq, take-at, drop-at, length-take-le, drop-drop}
+use lib.ListN.{length, take, drop, set, length-append, length-drop, drop-of-length-le, take-append-drop}
+use lib.Seq.{sets, sets-eq, take-at, drop-at, length-take-le, drop-drop, paste, take-length, take-all}
 use lib.Dec.{leb}
 use Rattle.wire.specs.Choice.{pick, pick-leb}
 use Rattle.wire.specs.NumberLaws.{off, off-add}
@@ -83,6 +83,28 @@ laid-laid d at vs ws h =
     ∙ append-assoc (take at d) vs (ws ++ drop (at + length (vs ++ ws)) d)
     ∙ ap (λ (r : List ℕ). take at d ++ r) (sym (append-assoc vs ws (drop (at + length (vs ++ ws)) d)))
 
+-- values placed after those at the front
+pub placed-next : (d vs : List ℕ) (at : ℕ) (ws : List ℕ) → at ≡ length vs → at + length ws ≤ length d → placed (laid d 0 vs) at ws ≡ laid d 0 (vs ++ ws)
+placed-next d vs at ws e h =
+    let zero-at : 0 + length vs ≡ at = omega arith in
+    let front : 0 + length vs ≤ length d = omega arith in
+    placed-fits (laid d 0 vs) at ws (omega (arith, length-laid d 0 vs front))
+    ∙ ap (λ (k : ℕ). laid (laid d 0 vs) k ws) (sym zero-at)
+    ∙ laid-laid d 0 vs ws (omega arith)
+
+-- values at the front of what stands from `at` on, put back after what stands before
+pub laid-part : (d : List ℕ) (at : ℕ) (vs : List ℕ) → at + length vs ≤ length d
+    → take at d ++ (laid (take (length d - at) (drop at d)) 0 vs ++ drop (length d - at) (drop at d)) ≡ laid d at vs
+laid-part d at vs h =
+    let k : ℕ = length d - at in
+    let t : List ℕ = drop at d in
+    let size : length t ≤ k = omega (arith, length-drop at d) in
+    let same : take k t ≡ t = take-all k t size in
+    let none : drop k t ≡ [] = drop-of-length-le t size in
+    let past : drop (0 + length vs) t ≡ drop (at + length vs) d = drop-drop (0 + length vs) at d ∙ ap (λ (j : ℕ). drop (at + j) d) (zero-add (length vs)) in
+    ap₂ (λ (m e : List ℕ). take at d ++ (laid m 0 vs ++ e)) same none
+    ∙ ap (λ (l : List ℕ). take at d ++ l) (append-nil (vs ++ drop (0 + length vs) t) ∙ ap (λ (l : List ℕ). vs ++ l) past)
+
 -- no values leave the list as it was
 pub laid-nil : (d : List ℕ) (at : ℕ) → laid d at [] ≡ d
 laid-nil d at = ap (λ (k : ℕ). take at d ++ drop k d) (add-zero at) ∙ take-append-drop at d
@@ -90,6 +112,11 @@ laid-nil d at = ap (λ (k : ℕ). take at d ++ drop k d) (add-zero at) ∙ take-
 pub placed-nil : (d : List ℕ) (at : ℕ) → placed d at [] ≡ d
 unfolding placed
 placed-nil d at = pick-leb (λ (l : List ℕ). l ≡ d) (at + 0) (length d) (laid d at []) d (λ _. laid-nil d at) (λ _. refl)
+
+-- what a copy element by element leaves, once all are copied
+pub paste-laid : (d : List ℕ) (at : ℕ) (vs : List ℕ) → paste d at vs (length vs) ≡ laid d at vs
+paste-laid d at vs =
+    ap (λ (l : List ℕ). (take at d ++ l) ++ drop (at + length vs) d) (take-length vs) ∙ append-assoc (take at d) vs (drop (at + length vs) d)
 
 -- ---- values laid part by part
 

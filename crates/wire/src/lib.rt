@@ -5,6 +5,7 @@ ghost use mathlib.Core.List.{[], _∷_};
 ghost use lib.ListN.{length, getD, take};
 ghost use Rattle.wire.specs.Number.{be, toBe, beAt};
 ghost use Rattle.wire.specs.Store.{placed};
+ghost use Rattle.wire.specs.Extent.{extent, clipped, PartOf};
 
 pub mod refusal;
 
@@ -135,4 +136,35 @@ fn put4(out: &mut [u8], to: usize, v: u32)
     out[to + 1] = (v / 65536 % 256) as u8;
     out[to + 2] = (v / 256 % 256) as u8;
     out[to + 3] = (v % 256) as u8;
+}
+
+// All of src, at a place of the output.
+pub fn copy_at(out: &mut [u8], to: usize, src: &[u8])
+    ensures { λ _. ⌜ now (out .exit) ≡ placed (now (out .entry)) to (now (src .entry)) ⌝ }
+{
+    if out.len() < to {
+        return;
+    }
+    if out.len() - to < src.len() {
+        return;
+    }
+    let mut i: usize = 0;
+    while i < src.len() {
+        out[to + i] = src[i];
+        i = i + 1;
+    }
+}
+
+// So many bytes from a place on, as a part of s; nothing where they are not all there.
+pub fn part(s: &[u8], start: usize, size: usize) -> &[u8]
+    ensures { λ r. ⌜ PartOf (s .entry) (clipped (extent start size) (length (now (s .entry)))) r ⌝ }
+{
+    if s.len() < start {
+        return &s[..0];
+    }
+    if s.len() - start < size {
+        return &s[..0];
+    }
+    let end = start + size;
+    &s[start..end]
 }

@@ -1,0 +1,178 @@
+-- Laws of the header: its marker as words, and the checks one after another.
+-- Assumes nothing.
+use Prim.Native.Nat.{ℕ, _+_, _-_, _≤_, _<_}
+use mathlib.Core.Path.{_≡_, refl, sym, ap, _∙_}
+use mathlib.Core.List.{List, [], _∷_, _++_}
+use mathlib.Core.Bool.{Bool, true, false, not}
+use native.Mathlib.Nat.{le-min, min-le-right}
+use native.Mathlib.Omega.{arith}
+use borrow.Author.Tests.{eq-eqb, ne-eqb, le-ltb, ltb-false, not-false}
+use lib.ListN.{length, getD, take, drop}
+use lib.Dec.{eqb, ltb}
+use lib.Seq.{drop-drop}
+use Rattle.wire.specs.Choice.{pick, pick-eqb, pick-unless}
+use Rattle.wire.specs.Number.{be, beAt, padded, Bytes}
+use Rattle.wire.specs.NumberLaws.{padded-cells, padded-add, padded-take}
+use Rattle.wire.specs.Refusal.{truncated, messageLength, messageType, shortBody, badMarker}
+use Rattle.messages.specs.Header.{allFF, isOutside, isUnknown, headerSize, crateLimit, leastLength, mostLength, messageOf, strictWithin, markerOf, claimedOf, kindOf, takenOf, accepted, whole, Fits}
+use Rattle.messages.specs.declared.MessageAnswer.{MessageAnswer}
+use Rattle.messages.specs.declared.MessageAnswer.the-variants.{Refused}
+
+-- ---- the marker
+
+allFF-byte : (x : Bool) (s t : List ℕ) → allFF (s ++ t) ≡ pick (allFF s) (allFF t) false → pick x (allFF (s ++ t)) false ≡ pick (pick x (allFF s) false) (allFF t) false
+allFF-byte true s t again = again
+allFF-byte false s t again = refl
+
+allFF-append : (s t : List ℕ) → allFF (s ++ t) ≡ pick (allFF s) (allFF t) false
+unfolding allFF
+allFF-append [] t = refl
+allFF-append (b ∷ s) t = allFF-byte (eqb b 255) s t (allFF-append s t)
+
+-- four bytes are all FF where their number is the greatest of four bytes
+ones-four : (a b c d : ℕ) → a < 256 → b < 256 → c < 256 → d < 256 → eqb (be (a ∷ b ∷ c ∷ d ∷ [])) 4294967295 ≡ allFF (a ∷ b ∷ c ∷ d ∷ [])
+unfolding allFF
+ones-four a b c d ha hb hc hd =
+    let n : ℕ = be (a ∷ b ∷ c ∷ d ∷ []) in
+    let P : Bool → Type 0 = λ t. eqb n 4294967295 ≡ t in
+    pick-eqb P a 255 _ false
+    (λ ea. pick-eqb P b 255 _ false
+    (λ eb. pick-eqb P c 255 _ false
+    (λ ec. pick-eqb P d 255 true false
+    (λ ed. eq-eqb n 4294967295 (omega arith))
+    (λ no. ne-eqb n 4294967295 (λ e. no (omega arith))))
+    (λ no. ne-eqb n 4294967295 (λ e. no (omega arith))))
+    (λ no. ne-eqb n 4294967295 (λ e. no (omega arith))))
+    (λ no. ne-eqb n 4294967295 (λ e. no (omega arith)))
+
+pub ones-word : (s : List ℕ) (at : ℕ) → Bytes s → eqb (beAt s at 4) 4294967295 ≡ allFF (padded 4 (drop at s))
+unfolding beAt
+ones-word s at h =
+    rw (padded-cells s at 4) (ones-four (getD s at 0) (getD s (at + 1) 0) (getD s (at + 2) 0) (getD s (at + 3) 0) (h at) (h (at + 1)) (h (at + 2)) (h (at + 3)))
+
+-- the marker, word by word
+module _ (s : List ℕ) (long : 16 ≤ length s) where
+  word : ℕ → List ℕ
+  word at = padded 4 (drop at s)
+
+  words : take 16 s ≡ word 0 ++ (word 4 ++ (word 8 ++ word 12))
+  unfolding word
+  words =
+      sym (padded-take 16 s long)
+      ∙ sym (padded-add 4 12 s)
+      ∙ ap (λ (l : List ℕ). padded 4 s ++ l) (sym (padded-add 4 8 (drop 4 s)))
+      ∙ ap (λ (l : List ℕ). padded 4 s ++ (padded 4 (drop 4 s) ++ l))
+      (ap (padded 8) (drop-drop 4 4 s) ∙ sym (padded-add 4 4 (drop 8 s)) ∙ ap (λ (l : List ℕ). padded 4 (drop 8 s) ++ padded 4 l) (drop-drop 4 8 s))
+
+  pub marker-words : allFF (take 16 s)
+      ≡ pick (allFF (padded 4 (drop 0 s))) (pick (allFF (padded 4 (drop 4 s))) (pick (allFF (padded 4 (drop 8 s))) (allFF (padded 4 (drop 12 s))) false) false) false
+  unfolding word
+  marker-words =
+      ap allFF words
+      ∙ allFF-append (word 0) (word 4 ++ (word 8 ++ word 12))
+      ∙ ap (λ (x : Bool). pick (allFF (word 0)) x false)
+      (allFF-append (word 4) (word 8 ++ word 12) ∙ ap (λ (x : Bool). pick (allFF (word 4)) x false) (allFF-append (word 8) (word 12)))
+
+-- ---- the checks
+
+-- within two bounds
+inside-both : (lo hi n : ℕ) → isOutside lo hi n ≡ false → (lo ≤ n) × (n ≤ hi)
+unfolding isOutside
+inside-both lo hi n e = by-test (ltb n lo) refl e
+  where
+    by-test : (t : Bool) → ltb n lo ≡ t → pick t true (ltb hi n) ≡ false → (lo ≤ n) × (n ≤ hi)
+    by-test true e₁ e₂ = let z : _≡_ {A = ℕ} 0 1 = cc in omega arith
+    by-test false e₁ e₂ = (ltb-false n lo e₁, ltb-false hi n e₂)
+
+pub inside-low : (lo hi n : ℕ) → isOutside lo hi n ≡ false → lo ≤ n
+inside-low lo hi n e = inside-both lo hi n e .0
+
+pub inside-high : (lo hi n : ℕ) → isOutside lo hi n ≡ false → n ≤ hi
+inside-high lo hi n e = inside-both lo hi n e .1
+
+pub inside : (lo hi n : ℕ) → lo ≤ n → n ≤ hi → isOutside lo hi n ≡ false
+unfolding isOutside
+inside lo hi n low high = rw (le-ltb n lo low) (le-ltb hi n high)
+
+-- what the crate's reading has found of a message that it does not refuse
+pub record Accepted (s : List ℕ) : Type 0 where
+  pub long : headerSize ≤ length s
+  pub claims : headerSize ≤ claimedOf s
+  pub known : isUnknown (kindOf s) ≡ false
+  pub short : claimedOf s ≤ crateLimit (kindOf s)
+
+-- and the strict reading, under a limit
+pub record Whole (limit : ℕ) (s : List ℕ) : Type 0 where
+  pub long : headerSize ≤ length s
+  pub ones : allFF (markerOf s) ≡ true
+  pub claims : headerSize ≤ claimedOf s
+  pub within : claimedOf s ≤ limit
+  pub known : isUnknown (kindOf s) ≡ false
+  pub least : leastLength (kindOf s) ≤ claimedOf s
+  pub most : claimedOf s ≤ mostLength (kindOf s)
+  pub there : claimedOf s ≤ length s
+
+module _ {ℓ} (s : List ℕ) (P : MessageAnswer → Type ℓ) (bad : (n : ℕ) → P (Refused n)) where
+  -- what holds of every refusal, and of what is accepted, holds of a reading
+  pub message-cases : (Accepted s → P (accepted s)) → P (messageOf s)
+  unfolding messageOf
+  message-cases good =
+      pick-unless P (ltb (length s) headerSize) (Refused truncated) _ (bad truncated) (λ long.
+      pick-unless P (ltb (claimedOf s) headerSize) (Refused messageLength) _ (bad messageLength) (λ claims.
+      pick-unless P (isUnknown (kindOf s)) (Refused messageType) _ (bad messageType) (λ known.
+      pick-unless P (ltb (crateLimit (kindOf s)) (claimedOf s)) (Refused messageLength) _ (bad messageLength) (λ short.
+      pick-unless P (ltb (length s - headerSize) (takenOf s - headerSize)) (Refused shortBody) _ (bad shortBody) (λ _.
+      good (record {
+        long = ltb-false (length s) headerSize long;
+        claims = ltb-false (claimedOf s) headerSize claims;
+        known = known;
+        short = ltb-false (crateLimit (kindOf s)) (claimedOf s) short;
+      }))))))
+
+  pub strict-cases : (limit : ℕ) → (Whole limit s → P (whole s)) → P (strictWithin limit s)
+  unfolding strictWithin
+  strict-cases limit good =
+      pick-unless P (ltb (length s) headerSize) (Refused truncated) _ (bad truncated) (λ long.
+      pick-unless P (not (allFF (markerOf s))) (Refused badMarker) _ (bad badMarker) (λ ones.
+      pick-unless P (isOutside headerSize limit (claimedOf s)) (Refused messageLength) _ (bad messageLength) (λ claims.
+      pick-unless P (isUnknown (kindOf s)) (Refused messageType) _ (bad messageType) (λ known.
+      pick-unless P (isOutside (leastLength (kindOf s)) (mostLength (kindOf s)) (claimedOf s)) (Refused messageLength) _ (bad messageLength) (λ own.
+      pick-unless P (ltb (length s) (claimedOf s)) (Refused truncated) _ (bad truncated) (λ there.
+      good (record {
+        long = ltb-false (length s) headerSize long;
+        ones = not-false (allFF (markerOf s)) ones;
+        claims = inside-low headerSize limit (claimedOf s) claims;
+        within = inside-high headerSize limit (claimedOf s) claims;
+        known = known;
+        least = inside-low (leastLength (kindOf s)) (mostLength (kindOf s)) (claimedOf s) own;
+        most = inside-high (leastLength (kindOf s)) (mostLength (kindOf s)) (claimedOf s) own;
+        there = ltb-false (length s) (claimedOf s) there;
+      })))))))
+
+-- and a message of which that is so is accepted
+pub accepted-by : (s : List ℕ) → Accepted s → messageOf s ≡ accepted s
+unfolding messageOf
+accepted-by s h =
+    let body : takenOf s - headerSize ≤ length s - headerSize = omega (arith, min-le-right (claimedOf s) (length s)) in
+    simp (le-ltb (length s) headerSize (h .long), le-ltb (claimedOf s) headerSize (h .claims), h .known, le-ltb (crateLimit (kindOf s)) (claimedOf s) (h .short), le-ltb (length s - headerSize) (takenOf s - headerSize) body)
+
+pub whole-by : (limit : ℕ) (s : List ℕ) → Whole limit s → strictWithin limit s ≡ whole s
+unfolding strictWithin
+whole-by limit s h =
+    simp (
+      le-ltb (length s) headerSize (h .long),
+      h .ones,
+      inside headerSize limit (claimedOf s) (h .claims) (h .within),
+      h .known,
+      inside (leastLength (kindOf s)) (mostLength (kindOf s)) (claimedOf s) (h .least) (h .most),
+      le-ltb (length s) (claimedOf s) (h .there),
+    )
+
+-- what is taken of a message that is not refused is there
+pub message-fits : (s : List ℕ) → Fits (messageOf s) (length s)
+message-fits s =
+    message-cases s (λ a. Fits a (length s)) (λ n. omega arith)
+    (λ h. (le-min (h .claims) (h .long), min-le-right (claimedOf s) (length s)))
+
+pub strict-fits : (limit : ℕ) (s : List ℕ) → Fits (strictWithin limit s) (length s)
+strict-fits limit s = strict-cases s (λ a. Fits a (length s)) (λ n. omega arith) limit (λ h. (h .claims, h .there))

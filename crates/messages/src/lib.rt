@@ -1,0 +1,267 @@
+// Messages by their header (RFC 4271 section 4.1): the crate's reading of messages.rs, the strict one of the RFC, and the writer.
+ghost use mathlib.Core.Path.{_≡_};
+ghost use Prim.Native.Nat.{_+_, _≤_};
+ghost use lib.ListN.{length, take, drop};
+ghost use Rattle.wire.specs.Extent.{PartOf};
+ghost use Rattle.wire.specs.Number.{padded};
+ghost use Rattle.wire.specs.Store.{laid};
+ghost use Rattle.messages.specs.Header.{allFF, isOutside, isUnknown, leastLength, mostLength, crateLimit, messageOf, strictWithin, strictOf, bodyAt, Fits};
+ghost use Rattle.messages.specs.Written.{header, writeAnswer, outAfter};
+use wire::refusal;
+
+pub mod kind;
+
+// The bytes of a header: sixteen of marker, two of length, one of type.
+pub const HEADER_SIZE: usize = 19;
+
+// The most bytes of a message (RFC 4271 section 4.1), and of one where both ends agreed on long ones (RFC 8654 section 4).
+pub const MESSAGE_LIMIT: usize = 4096;
+
+pub const EXTENDED_LIMIT: usize = 65535;
+
+// A message: its type, the length it claims, the bytes taken with the header, and whether its marker is not all FF, it claims
+// more than there is, or less; or a refusal number.
+pub enum MessageAnswer {
+    Message {
+        kind: u8,
+        claimed: usize,
+        taken: usize,
+        marker: bool,
+        cut: bool,
+        trailing: bool,
+    },
+    Refused(u8),
+}
+
+// A message to write: the bytes written, or a refusal number.
+pub enum WriteAnswer {
+    Bytes(usize),
+    Refused(u8),
+}
+
+// Whether n is under lo or over hi.
+fn outside(lo: usize, hi: usize, n: usize) -> bool
+    ensures { λ r. ⌜ r ≡ isOutside lo hi n ⌝ }
+{
+    if n < lo {
+        return true;
+    }
+    hi < n
+}
+
+// Whether no message has this type.
+fn unknown(kind: u8) -> bool
+    ensures { λ r. ⌜ r ≡ isUnknown kind ⌝ }
+{
+    outside(
+        kind::OPEN as usize,
+        kind::ROUTE_REFRESH as usize,
+        kind as usize,
+    )
+}
+
+// The most bytes that the crate takes of a type: OPEN and KEEPALIVE are never long.
+fn crate_limit(kind: u8) -> usize
+    ensures { λ r. ⌜ r ≡ crateLimit kind ⌝ }
+{
+    if kind == kind::OPEN {
+        return MESSAGE_LIMIT;
+    }
+    if kind == kind::KEEPALIVE {
+        return MESSAGE_LIMIT;
+    }
+    EXTENDED_LIMIT
+}
+
+// The fewest bytes of a type: the header and what its body always has.
+fn least_length(kind: u8) -> usize
+    ensures { λ r. ⌜ r ≡ leastLength kind ⌝ }
+{
+    if kind == kind::OPEN {
+        return 29;
+    }
+    if kind == kind::UPDATE {
+        return 23;
+    }
+    if kind == kind::NOTIFICATION {
+        return 21;
+    }
+    if kind == kind::ROUTE_REFRESH {
+        return 23;
+    }
+    HEADER_SIZE
+}
+
+// The most bytes of a type: a KEEPALIVE is a header.
+fn most_length(kind: u8) -> usize
+    ensures { λ r. ⌜ r ≡ mostLength kind ⌝ }
+{
+    if kind == kind::KEEPALIVE {
+        return HEADER_SIZE;
+    }
+    crate_limit(kind)
+}
+
+// Whether the four bytes at a place are all FF.
+fn ones_at(s: &[u8], at: usize) -> bool
+    ensures { λ r. ⌜ r ≡ allFF (padded 4 (drop at (now (s .entry)))) ⌝ }
+{
+    wire::u32_at(s, at) == 4294967295
+}
+
+// Whether the sixteen marker bytes are all FF.
+fn marked(s: &[u8]) -> bool
+    requires { ⌜ 16 ≤ length (now s) ⌝ }
+    ensures { λ r. ⌜ r ≡ allFF (take 16 (now (s .entry))) ⌝ }
+{
+    if !ones_at(s, 0) {
+        return false;
+    }
+    if !ones_at(s, 4) {
+        return false;
+    }
+    if !ones_at(s, 8) {
+        return false;
+    }
+    ones_at(s, 12)
+}
+
+// The crate's reading: a message may be cut short, or followed by other bytes, and may have any marker.
+pub fn parse_bgp_message(s: &[u8]) -> MessageAnswer
+    ensures { λ r. ⌜ r ≡ messageOf (now (s .entry)) ⌝ }
+{
+    if s.len() < HEADER_SIZE {
+        return MessageAnswer::Refused(refusal::TRUNCATED);
+    }
+    let claimed = wire::u16_at(s, 16) as usize;
+    if claimed < HEADER_SIZE {
+        return MessageAnswer::Refused(refusal::MESSAGE_LENGTH);
+    }
+    let kind = s[18];
+    if unknown(kind) {
+        return MessageAnswer::Refused(refusal::MESSAGE_TYPE);
+    }
+    let taken = wire::least(claimed, s.len());
+    if crate_limit(kind) < claimed {
+        return MessageAnswer::Refused(refusal::MESSAGE_LENGTH);
+    }
+    if s.len() - HEADER_SIZE < taken - HEADER_SIZE {
+        return MessageAnswer::Refused(refusal::SHORT_BODY);
+    }
+    MessageAnswer::Message {
+        kind,
+        claimed,
+        taken,
+        marker: !marked(s),
+        cut: s.len() < claimed,
+        trailing: claimed < s.len(),
+    }
+}
+
+// The strict reading under a limit: the whole message is there, and the bytes after it belong to the next.
+fn parse_within(s: &[u8], limit: usize) -> MessageAnswer
+    ensures { λ r. ⌜ r ≡ strictWithin limit (now (s .entry)) ⌝ }
+{
+    if s.len() < HEADER_SIZE {
+        return MessageAnswer::Refused(refusal::TRUNCATED);
+    }
+    if !marked(s) {
+        return MessageAnswer::Refused(refusal::BAD_MARKER);
+    }
+    let claimed = wire::u16_at(s, 16) as usize;
+    if outside(HEADER_SIZE, limit, claimed) {
+        return MessageAnswer::Refused(refusal::MESSAGE_LENGTH);
+    }
+    let kind = s[18];
+    if unknown(kind) {
+        return MessageAnswer::Refused(refusal::MESSAGE_TYPE);
+    }
+    if outside(least_length(kind), most_length(kind), claimed) {
+        return MessageAnswer::Refused(refusal::MESSAGE_LENGTH);
+    }
+    if s.len() < claimed {
+        return MessageAnswer::Refused(refusal::TRUNCATED);
+    }
+    MessageAnswer::Message {
+        kind,
+        claimed,
+        taken: claimed,
+        marker: false,
+        cut: false,
+        trailing: claimed < s.len(),
+    }
+}
+
+// The strict reading of RFC 4271.
+pub fn parse_bgp_message_strict(s: &[u8]) -> MessageAnswer
+    ensures { λ r. ⌜ r ≡ strictOf (now (s .entry)) ⌝ }
+{
+    parse_within(s, MESSAGE_LIMIT)
+}
+
+// The body of a message that was found in s: that part of s, and nothing where it is refused.
+fn body_part(s: &[u8], found: MessageAnswer) -> &[u8]
+    requires { ⌜ Fits found (length (now s)) ⌝ }
+    ensures { λ r. ⌜ PartOf (s .entry) (bodyAt found) r ⌝ }
+{
+    match found {
+        MessageAnswer::Message {
+            kind: _,
+            claimed: _,
+            taken,
+            marker: _,
+            cut: _,
+            trailing: _,
+        } => &s[HEADER_SIZE..taken],
+        MessageAnswer::Refused(_) => &s[..0],
+    }
+}
+
+// The body of a message as the crate reads it.
+pub fn message_body(s: &[u8]) -> &[u8]
+    ensures { λ r. ⌜ PartOf (s .entry) (bodyAt (messageOf (now (s .entry)))) r ⌝ }
+{
+    body_part(s, parse_bgp_message(s))
+}
+
+// The body of a message as the strict reading has it.
+pub fn message_body_strict(s: &[u8]) -> &[u8]
+    ensures { λ r. ⌜ PartOf (s .entry) (bodyAt (strictOf (now (s .entry)))) r ⌝ }
+{
+    body_part(s, parse_bgp_message_strict(s))
+}
+
+// A header of an all-FF marker, at the front of the output.
+fn put_header(out: &mut [u8], total: usize, kind: u8)
+    requires { ⌜ (total ≤ 65535) × (19 ≤ length (now out)) ⌝ }
+    ensures { λ _. ⌜ now (out .exit) ≡ laid (now (out .entry)) 0 (header total kind) ⌝ }
+{
+    wire::put_octets(out, 0, 4294967295, 4);
+    wire::put_octets(out, 4, 4294967295, 4);
+    wire::put_octets(out, 8, 4294967295, 4);
+    wire::put_octets(out, 12, 4294967295, 4);
+    wire::put_octets(out, 16, (total as u32) * 65536 + (kind as u32) * 256, 3);
+}
+
+// Writes a message of a type and a body.
+pub fn encode_bgp_message(kind: u8, body: &[u8], out: &mut [u8]) -> WriteAnswer
+    ensures answer { λ r. ⌜ r ≡ writeAnswer kind (now (body .entry)) (length (now (out .entry))) ⌝ }
+    ensures output { λ _. ⌜ now (out .exit) ≡ outAfter kind (now (body .entry)) (now (out .entry)) ⌝ }
+{
+    if unknown(kind) {
+        return WriteAnswer::Refused(refusal::MESSAGE_TYPE);
+    }
+    if EXTENDED_LIMIT < body.len() {
+        return WriteAnswer::Refused(refusal::MESSAGE_LENGTH);
+    }
+    let total = HEADER_SIZE + body.len();
+    if outside(least_length(kind), most_length(kind), total) {
+        return WriteAnswer::Refused(refusal::MESSAGE_LENGTH);
+    }
+    if out.len() < total {
+        return WriteAnswer::Refused(refusal::NO_ROOM);
+    }
+    put_header(out, total, kind);
+    wire::copy_at(out, HEADER_SIZE, body);
+    WriteAnswer::Bytes(total)
+}

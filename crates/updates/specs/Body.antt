@@ -1,0 +1,64 @@
+-- The sections of an UPDATE body. RFC 4271 section 4.3: a two-octet length and the withdrawn routes, a two-octet length and the path
+-- attributes; the rest are the announced routes.
+use Prim.Native.Nat.{ℕ, _+_, _-_}
+use mathlib.Core.List.{List}
+use mathlib.Core.Bool.{Bool}
+use lib.ListN.{length}
+use lib.Dec.{ltb}
+use Rattle.wire.specs.Choice.{pick}
+use Rattle.wire.specs.Extent.{Extent, nothing, within}
+use Rattle.wire.specs.Number.{beAt}
+use Rattle.wire.specs.Refusal.{tooLong, truncated, bodyLimit}
+use Rattle.updates.specs.declared.PartsAnswer.{PartsAnswer}
+use Rattle.updates.specs.declared.PartsAnswer.the-variants.{Parts, Refused}
+
+-- the octets of a length
+abbrev pub lengthSize : ℕ
+lengthSize = 2
+
+-- ---- the lengths, and where the sections start and end
+
+abbrev pub withdrawnSize : List ℕ → ℕ
+withdrawnSize b = beAt b 0 lengthSize
+
+abbrev pub withdrawnEnd : List ℕ → ℕ
+withdrawnEnd b = lengthSize + withdrawnSize b
+
+abbrev pub attributesSize : List ℕ → ℕ
+attributesSize b = beAt b (withdrawnEnd b) lengthSize
+
+abbrev pub attributesEnd : List ℕ → ℕ
+attributesEnd b = withdrawnEnd b + lengthSize + attributesSize b
+
+-- 1 first; then each length and each section is all there
+unfoldable pub partsOf : List ℕ → PartsAnswer
+partsOf b =
+    pick (ltb bodyLimit (length b)) (Refused tooLong)
+    (pick (ltb (length b) lengthSize) (Refused truncated)
+    (pick (ltb (length b) (withdrawnEnd b)) (Refused truncated)
+    (pick (ltb (length b) (withdrawnEnd b + lengthSize)) (Refused truncated)
+    (pick (ltb (length b) (attributesEnd b)) (Refused truncated)
+    (Parts (withdrawnSize b) (attributesSize b) (length b - attributesEnd b))))))
+
+-- ---- the sections as parts of the body, and nothing where it is refused
+
+abbrev pub withdrawnAt : PartsAnswer → Extent
+withdrawnAt (Parts w a n) = record { start = lengthSize; size = w }
+withdrawnAt (Refused m) = nothing
+
+abbrev pub attributesAt : PartsAnswer → Extent
+attributesAt (Parts w a n) = record { start = lengthSize + w + lengthSize; size = a }
+attributesAt (Refused m) = nothing
+
+abbrev pub announcedAt : PartsAnswer → Extent
+announcedAt (Parts w a n) = record { start = lengthSize + w + lengthSize + a; size = n }
+announcedAt (Refused m) = nothing
+
+unfoldable pub withdrawnOf : List ℕ → List ℕ
+withdrawnOf b = within (withdrawnAt (partsOf b)) b
+
+unfoldable pub attributesOf : List ℕ → List ℕ
+attributesOf b = within (attributesAt (partsOf b)) b
+
+unfoldable pub announcedOf : List ℕ → List ℕ
+announcedOf b = within (announcedAt (partsOf b)) b

@@ -1,0 +1,64 @@
+-- The routes of an UPDATE: both sections are lists of IPv4 routes (RFC 4271 section 4.3). A malformed one has no rows and its own verdict,
+-- and does not refuse the UPDATE.
+use Prim.Native.Nat.{ℕ}
+use mathlib.Core.List.{List}
+use Rattle.routes.specs.Prefix.{maxOf}
+use Rattle.routes.specs.List.{sectionOf}
+use Rattle.routes.specs.Promises.{countAnswer, filled}
+use Rattle.routes.specs.Pair.{pairAnswer}
+use Rattle.routes.specs.declared.Afi.the-variants.{Ipv4}
+use Rattle.routes.specs.declared.AddPath.{AddPath}
+use Rattle.routes.specs.declared.Row.{Row}
+use Rattle.routes.specs.declared.ListAnswer.{ListAnswer}
+use Rattle.routes.specs.declared.ListAnswer.the-variants as L
+use Rattle.routes.specs.declared.PairAnswer.{PairAnswer}
+use Rattle.routes.specs.declared.PairAnswer.the-variants as P
+use Rattle.updates.specs.Body.{partsOf, withdrawnOf, announcedOf}
+use Rattle.updates.specs.declared.PartsAnswer.{PartsAnswer}
+use Rattle.updates.specs.declared.PartsAnswer.the-variants as S
+use Rattle.updates.specs.declared.UpdateAnswer.{UpdateAnswer}
+use Rattle.updates.specs.declared.UpdateAnswer.the-variants.{Update, Refused}
+
+-- the rows of a section, and its verdict: 0 where it is good
+abbrev pub rowsIn : ListAnswer → ℕ
+rowsIn (L.Rows n) = n
+rowsIn (L.Refused n) = 0
+
+abbrev pub verdictIn : ListAnswer → ℕ
+verdictIn (L.Rows n) = 0
+verdictIn (L.Refused n) = n
+
+-- a body whose sections are not all there is refused first
+abbrev pub ifParts : PartsAnswer → UpdateAnswer → UpdateAnswer
+ifParts (S.Parts w a n) u = u
+ifParts (S.Refused m) u = Refused m
+
+abbrev pub asUpdate : PairAnswer → UpdateAnswer
+asUpdate (P.Sections first second) = Update first second
+asUpdate (P.Refused n) = Refused n
+
+-- counting
+abbrev pub counted : List ℕ → AddPath → ListAnswer
+counted s mode = countAnswer s (sectionOf s (maxOf Ipv4) mode)
+
+unfoldable pub countUpdate : List ℕ → AddPath → UpdateAnswer
+countUpdate b mode = ifParts (partsOf b) (Update (counted (withdrawnOf b) mode) (counted (announcedOf b) mode))
+
+-- reading into stores of so many places: 11 last
+unfoldable pub readUpdate : List ℕ → AddPath → ℕ → ℕ → UpdateAnswer
+readUpdate b mode places places′ = ifParts (partsOf b) (asUpdate (pairAnswer (withdrawnOf b) (announcedOf b) (maxOf Ipv4) mode places places′))
+
+-- the stores afterwards, by the answer: the rows of each good section from the front, and else as it was
+abbrev pub withdrawnFilled : UpdateAnswer → List Row → List ℕ → List ℕ
+withdrawnFilled (Update first second) rows store = filled first rows store
+withdrawnFilled (Refused n) rows store = store
+
+abbrev pub announcedFilled : UpdateAnswer → List Row → List ℕ → List ℕ
+announcedFilled (Update first second) rows store = filled second rows store
+announcedFilled (Refused n) rows store = store
+
+abbrev pub withdrawnAfter : UpdateAnswer → List ℕ → AddPath → List ℕ → List ℕ
+withdrawnAfter u b mode store = withdrawnFilled u (sectionOf (withdrawnOf b) (maxOf Ipv4) mode .rows) store
+
+abbrev pub announcedAfter : UpdateAnswer → List ℕ → AddPath → List ℕ → List ℕ
+announcedAfter u b mode store = announcedFilled u (sectionOf (announcedOf b) (maxOf Ipv4) mode .rows) store
