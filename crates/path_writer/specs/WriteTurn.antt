@@ -55,12 +55,12 @@ module _ (rule : Rule) (w : ℕ) (pairs numbers : List ℕ) where
 
   -- ---- judging
 
-  no-weight : Light (lentOf rule w) (lent-sound rule w) (λ _. 0) 0
+  no-weight : Light (lentOf rule w) (λ _. 0) 0
   no-weight st st′ s used g e = omega arith
 
   -- at the head: nothing stands against what stands before `at`
   abbrev pub Judged : ℕ → ℕ → Type 0
-  Judged at from = Lending pairs numbers at from × Counted (lentOf rule w) (lent-sound rule w) (λ _. 0) 0 numbers pairs (drop from numbers) at 0
+  Judged at from = Lending pairs numbers at from × Counted (lentOf rule w) (λ _. 0) 0 numbers pairs (drop from numbers) at 0
 
   pub judged-start : addsUp pairs (length numbers) ≡ true → Judged 0 0
   judged-start e = (lending-start pairs numbers e, count-start (lentOf rule w) (lent-sound rule w) (λ _. 0) 0 no-weight numbers pairs)
@@ -90,7 +90,7 @@ module _ (rule : Rule) (w : ℕ) (pairs numbers : List ℕ) where
   module _ (d₀ : List ℕ) where
     -- at the head: the output has the bytes of what stands before `at`
     abbrev pub Writing : ℕ → ℕ → ℕ → List ℕ → Type 0
-    Writing at from to d = Lending pairs numbers at from × Filled (lentOf rule w) (lent-sound rule w) (segmentBytes w) numbers pairs d₀ (drop from numbers) at to d
+    Writing at from to d = Lending pairs numbers at from × Filled (lentOf rule w) (segmentBytes w) numbers pairs d₀ (drop from numbers) at to d
 
     pub writing-start : addsUp pairs (length numbers) ≡ true → lentPath rule w pairs numbers .verdict ≡ 0
         → length (pathBytes w (lentPath rule w pairs numbers .rows)) ≤ length d₀ → Writing 0 0 0 d₀
@@ -150,6 +150,6 @@ module _ (rule : Rule) (w : ℕ) (pairs numbers : List ℕ) where
             ap (laid d to) (sym bytes-is) ∙ sym (laid-laid d to head body (omega (arith, writing-fits, body-length))) in
             let place : to + length (segmentBytes w (segmentFrom at from)) ≡ to + (2 + span w (getD pairs (at + 1) 0)) = ap (λ (k : ℕ). to + k) size-is in (
               lending-next pairs numbers at from (h .0) lt .1,
-              subst (λ (l : List ℕ). Filled (lentOf rule w) (lent-sound rule w) (segmentBytes w) numbers pairs d₀ (drop (from + getD pairs (at + 1) 0) numbers) (at + 2) (to + (2 + span w (getD pairs (at + 1) 0))) l) same
-                  (subst (λ (k : ℕ). Filled (lentOf rule w) (lent-sound rule w) (segmentBytes w) numbers pairs d₀ (drop (from + getD pairs (at + 1) 0) numbers) (at + 2) k (laid d to (segmentBytes w (segmentFrom at from)))) place next),
+              subst (λ (l : List ℕ). Filled (lentOf rule w) (segmentBytes w) numbers pairs d₀ (drop (from + getD pairs (at + 1) 0) numbers) (at + 2) (to + (2 + span w (getD pairs (at + 1) 0))) l) same
+                  (subst (λ (k : ℕ). Filled (lentOf rule w) (segmentBytes w) numbers pairs d₀ (drop (from + getD pairs (at + 1) 0) numbers) (at + 2) k (laid d to (segmentBytes w (segmentFrom at from)))) place next),
             )

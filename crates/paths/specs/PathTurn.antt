@@ -26,7 +26,7 @@ use Rattle.paths.specs.declared.SegmentAnswer.the-variants as G
 -- at the head: so many segments and numbers stand before `at`
 abbrev pub CountedPath : Rule → ℕ → List ℕ → ℕ → ℕ → ℕ → Type 0
 CountedPath rule w s at m n =
-    Counted (segmentOf rule w) (segment-sound rule w) (λ _. 1) 1 tt s tt at m × Counted (segmentOf rule w) (segment-sound rule w) (λ g. length (asnsOf g)) 1 tt s tt at n
+    Counted (segmentOf rule w) (λ _. 1) 1 tt s tt at m × Counted (segmentOf rule w) (λ g. length (asnsOf g)) 1 tt s tt at n
 
 module _ (rule : Rule) (w : ℕ) (pos : 0 < w) (s : List ℕ) where
   pub path-start : CountedPath rule w s 0 0 0
@@ -48,7 +48,7 @@ module _ (rule : Rule) (w : ℕ) (pos : 0 < w) (s : List ℕ) where
         let len : length (asnsOf (segmentAt w (drop at s))) ≡ k = length-numbers w (getD (drop at s) 1 0) (drop 2 (drop at s)) ∙ t .1 in
         let one = count-step (segmentOf rule w) (segment-sound rule w) (λ _. 1) 1 (light-segments rule w) tt s tt at m (h .0) tt _ _ (t .0) in
         let more = count-step (segmentOf rule w) (segment-sound rule w) (λ g. length (asnsOf g)) 1 (light-numbers rule w pos) tt s tt at n (h .1) tt _ _ (t .0) in
-        (one .within, (one, subst (λ (j : ℕ). Counted (segmentOf rule w) (segment-sound rule w) (λ g. length (asnsOf g)) 1 tt s tt (at + (2 + span w k)) (n + j)) len more))
+        (one .within, (one, subst (λ (j : ℕ). Counted (segmentOf rule w) (λ g. length (asnsOf g)) 1 tt s tt (at + (2 + span w k)) (n + j)) len more))
 
     pub path-stop : (k : ℕ) → length s ≤ listLimit → at < length s → countIn (segmentOf rule w tt (drop at s)) ≡ G.Refused k → Refused k ≡ countAnswer s (pathOf rule w s)
     unfolding pathOf
@@ -69,7 +69,7 @@ module _ (rule : Rule) (w : ℕ) (pos : 0 < w) (s : List ℕ) where
 -- at the head: both stores have what stands before `at`
 abbrev pub FilledPath : Rule → ℕ → List ℕ → List ℕ → List ℕ → ℕ → ℕ → ℕ → List ℕ → List ℕ → Type 0
 FilledPath rule w s p₀ n₀ at pair to pairs numbers =
-    Filled (segmentOf rule w) (segment-sound rule w) pairOf tt s p₀ tt at pair pairs × Filled (segmentOf rule w) (segment-sound rule w) asnsOf tt s n₀ tt at to numbers
+    Filled (segmentOf rule w) pairOf tt s p₀ tt at pair pairs × Filled (segmentOf rule w) asnsOf tt s n₀ tt at to numbers
 
 module _ (rule : Rule) (w : ℕ) (s p₀ n₀ : List ℕ) where
   pub filling-start : pathOf rule w s .verdict ≡ 0 → length (flat pairOf (pathOf rule w s .rows)) ≤ length p₀ → length (flat asnsOf (pathOf rule w s .rows)) ≤ length n₀
@@ -122,7 +122,7 @@ module _ (rule : Rule) (w : ℕ) (s p₀ n₀ : List ℕ) where
           let size : ℕ = 2 + span w (getD s (at + 1) 0) in
           let p = fill-step (segmentOf rule w) (segment-sound rule w) pairOf tt s p₀ tt at pair pairs (h .0) tt _ _ taken in
           let n = fill-step (segmentOf rule w) (segment-sound rule w) asnsOf tt s n₀ tt at to numbers (h .1) tt _ _ taken in (
-            subst (λ (l : List ℕ). Filled (segmentOf rule w) (segment-sound rule w) pairOf tt s p₀ tt (at + size) (pair + 2) (laid pairs pair l)) pair-is p,
-            subst (λ (l : List ℕ). Filled (segmentOf rule w) (segment-sound rule w) asnsOf tt s n₀ tt (at + size) (to + getD s (at + 1) 0) (laid numbers to l)) asns-is
-                (subst (λ (k : ℕ). Filled (segmentOf rule w) (segment-sound rule w) asnsOf tt s n₀ tt (at + size) (to + k) (laid numbers to (asnsOf (segmentAt w (drop at s))))) asns-length n),
+            subst (λ (l : List ℕ). Filled (segmentOf rule w) pairOf tt s p₀ tt (at + size) (pair + 2) (laid pairs pair l)) pair-is p,
+            subst (λ (l : List ℕ). Filled (segmentOf rule w) asnsOf tt s n₀ tt (at + size) (to + getD s (at + 1) 0) (laid numbers to l)) asns-is
+                (subst (λ (k : ℕ). Filled (segmentOf rule w) asnsOf tt s n₀ tt (at + size) (to + k) (laid numbers to (asnsOf (segmentAt w (drop at s))))) asns-length n),
           )

@@ -128,10 +128,10 @@ module _ (rule : Rule) (w : ℕ) where
 
   -- ---- what a loop counts is no more than the bytes passed
 
-  pub light-segments : Light (segmentOf rule w) segment-sound (λ _. 1) 1
+  pub light-segments : Light (segmentOf rule w) (λ _. 1) 1
   light-segments st st′ s used g e = omega (arith, segment-taken st st′ s used g e .size)
 
-  pub light-numbers : 0 < w → Light (segmentOf rule w) segment-sound (λ g. length (asnsOf g)) 1
+  pub light-numbers : 0 < w → Light (segmentOf rule w) (λ g. length (asnsOf g)) 1
   unfolding segmentAt
   light-numbers pos st st′ s used g e =
       let t = segment-taken st st′ s used g e in

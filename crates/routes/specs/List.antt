@@ -45,6 +45,11 @@ formBy max On st s = Tagged
 formBy max Off st s = Plain
 formBy max Guess st s = guessForm max st s
 
+-- the setting under which every item stands in a form
+abbrev pub fixed : Form → AddPath
+fixed Plain = Off
+fixed Tagged = On
+
 unfoldable pub stepOf : ℕ → AddPath → Form → List ℕ → Step Form Row
 stepOf max mode st s = inForm max (formBy max mode st s) s
 

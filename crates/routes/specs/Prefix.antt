@@ -37,32 +37,30 @@ octets l = (l + 7) / 8
 unfoldable pub wordAt : List ℕ → ℕ → ℕ
 wordAt o i = beAt o i 4
 
--- the row of an item's bytes: no bit of them is changed
+-- the row of address octets, a first word and an id
+unfoldable pub rowOf : List ℕ → ℕ → ℕ → Row
+rowOf o first id = record { first = first; id = id; w0 = wordAt o 0; w1 = wordAt o 4; w2 = wordAt o 8; w3 = wordAt o 12 }
+
+-- the row of an item's bytes: id where there is one, length, octets; no bit of them is changed
 unfoldable pub itemRow : Form → List ℕ → Row
-itemRow form item =
-    let o : List ℕ = drop (idSize form + 1) item in
-    record {
-      first = getD item (idSize form) 0 + markOf form;
-      id = be (take (idSize form) item);
-      w0 = wordAt o 0;
-      w1 = wordAt o 4;
-      w2 = wordAt o 8;
-      w3 = wordAt o 12;
-    }
+itemRow form item = rowOf (drop (idSize form + 1) item) (getD item (idSize form) 0 + markOf form) (be (take (idSize form) item))
 
 -- six words to a row
 abbrev pub words : Row → List ℕ
 words r = r .first ∷ r .id ∷ r .w0 ∷ r .w1 ∷ r .w2 ∷ r .w3 ∷ []
 
+-- the bytes of the item at the front: id, length byte, octets
+abbrev pub itemEnd : Form → List ℕ → ℕ
+itemEnd form s = idSize form + 1 + octets (getD s (idSize form) 0)
+
 -- the item at the front: id and length byte there, 2; the length against the maximum, 7; the octets there, 2
 unfoldable pub prefixOf : List ℕ → ℕ → Form → PrefixAnswer
 prefixOf s max form =
     let k : ℕ = idSize form in
-    let l : ℕ = getD s k 0 in
     pick (ltb k (length s))
-    (pick (leb l max)
-    (pick (leb (k + 1 + octets l) (length s))
-    (Prefix (k + 1 + octets l) (itemRow form (take (k + 1 + octets l) s)))
+    (pick (leb (getD s k 0) max)
+    (pick (leb (itemEnd form s) (length s))
+    (Prefix (itemEnd form s) (itemRow form (take (itemEnd form s) s)))
     (Refused truncated))
     (Refused prefixLength))
     (Refused truncated)

@@ -1,5 +1,6 @@
 -- What the calls on a list or a section answer and leave, from the bytes and from the reading of them that `List` defines.
-use Prim.Native.Nat.{ℕ, zero, suc, _/_}
+use Prim.Native.Nat.{ℕ, zero, suc, _/_, _≤_}
+use mathlib.Core.Path.{_≡_}
 use mathlib.Core.List.{List}
 use lib.ListN.{length}
 use lib.Dec.{leb}
@@ -36,3 +37,8 @@ filled (Refused n) rows store = store
 
 unfoldable pub storeAfter : List ℕ → Reading Row → List ℕ → List ℕ
 storeAfter s r store = filled (readAnswer s r (length store)) (r .rows) store
+
+-- a good reading whose rows fit a store: what filling asks
+pub record Fitting (r : Reading Row) (store : List ℕ) : Type 0 where
+  pub good : r .verdict ≡ 0
+  pub room : length (flat words (r .rows)) ≤ length store

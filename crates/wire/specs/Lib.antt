@@ -4,5 +4,7 @@ pub mod Number
 pub mod NumberLaws
 pub mod Walk
 pub mod WalkLaws
+pub mod Parts
 pub mod Store
 pub mod Turn
+pub mod Tight

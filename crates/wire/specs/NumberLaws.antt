@@ -98,6 +98,12 @@ padded-take zero s h = refl
 padded-take (suc n) [] h = absurd (not-suc-le-zero h)
 padded-take (suc n) (b ∷ s) h = ap (λ (l : List ℕ). b ∷ l) (padded-take n s (omega arith))
 
+pub padded-of-more : (n m : ℕ) (s : List ℕ) → n ≤ m → padded n (take m s) ≡ padded n s
+padded-of-more zero m s h = refl
+padded-of-more (suc n) zero s h = absurd (not-suc-le-zero h)
+padded-of-more (suc n) (suc m) [] h = refl
+padded-of-more (suc n) (suc m) (b ∷ s) h = ap (λ (l : List ℕ). b ∷ l) (padded-of-more n m s (omega arith))
+
 pub getD-padded : (n : ℕ) (s : List ℕ) (i : ℕ) → i < n → getD (padded n s) i 0 ≡ getD s i 0
 getD-padded zero s i h = absurd (not-suc-le-zero h)
 getD-padded (suc n) [] zero h = refl

@@ -15,6 +15,29 @@ use Rattle.wire.specs.Store.{laid, take-laid, drop-laid, length-laid}
 pub rest : (s : List ℕ) (at : ℕ) → take (length s - at) (drop at s) ≡ drop at s
 rest s at = take-all (length s - at) (drop at s) (omega (arith, length-drop at s))
 
+module _ {S A : Type 0} (step : S → List ℕ → Step S A) where
+  -- ---- at the head of a loop
+
+  -- of one that counts: `sum` is the weight of what stands before `at`, c a place at most, and the rest of the reading is that from `at`
+  pub record Counted (weight : A → ℕ) (c : ℕ) (st₀ : S) (s : List ℕ) (st : S) (at sum : ℕ) : Type 0 where
+    pub within : at ≤ length s
+    pub few : sum ≤ c * at
+    pub verdict : readAll step st₀ s .verdict ≡ readAll step st (drop at s) .verdict
+    pub total : tally weight (readAll step st₀ s .rows) ≡ sum + tally weight (readAll step st (drop at s) .rows)
+
+  -- no item weighs more than c for each place that it takes
+  abbrev pub Light : (A → ℕ) → ℕ → Type 0
+  Light weight c = (st st′ : S) (s : List ℕ) (used : ℕ) (a : A) → step st s ≡ took used a st′ → weight a ≤ c * used
+
+  -- of one that fills: the store has the places of what stands before `at`, and is as it was from `to` on
+  pub record Filled (emit : A → List ℕ) (st₀ : S) (s : List ℕ) (d₀ : List ℕ) (st : S) (at to : ℕ) (d : List ℕ) : Type 0 where
+    pub within : at ≤ length s
+    pub good : readAll step st (drop at s) .verdict ≡ 0
+    pub long : length d ≡ length d₀
+    pub room : to + length (flat emit (readAll step st (drop at s) .rows)) ≤ length d₀
+    pub front : take to d ++ flat emit (readAll step st (drop at s) .rows) ≡ flat emit (readAll step st₀ s .rows)
+    pub back : drop to d ≡ drop to d₀
+
 module _ {S A : Type 0} (step : S → List ℕ → Step S A) (sound : Sound step) where
   -- ---- one turn
 
@@ -36,23 +59,12 @@ module _ {S A : Type 0} (step : S → List ℕ → Step S A) (sound : Sound step
 
   -- ---- a loop that counts
 
-  -- at its head: `sum` is the weight of what stands before `at`, c a place at most, and the rest of the reading is that from `at`
-  pub record Counted (weight : A → ℕ) (c : ℕ) (st₀ : S) (s : List ℕ) (st : S) (at sum : ℕ) : Type 0 where
-    pub within : at ≤ length s
-    pub few : sum ≤ c * at
-    pub verdict : readAll step st₀ s .verdict ≡ readAll step st (drop at s) .verdict
-    pub total : tally weight (readAll step st₀ s .rows) ≡ sum + tally weight (readAll step st (drop at s) .rows)
-
-  -- no item weighs more than c for each place that it takes
-  abbrev pub Light : (A → ℕ) → ℕ → Type 0
-  Light weight c = (st st′ : S) (s : List ℕ) (used : ℕ) (a : A) → step st s ≡ took used a st′ → weight a ≤ c * used
-
-  module _ (weight : A → ℕ) (c : ℕ) (light : Light weight c) (st₀ : S) (s : List ℕ) where
-    pub count-start : Counted weight c st₀ s st₀ 0 0
+  module _ (weight : A → ℕ) (c : ℕ) (light : Light step weight c) (st₀ : S) (s : List ℕ) where
+    pub count-start : Counted step weight c st₀ s st₀ 0 0
     count-start = record { within = omega arith; few = omega arith; verdict = refl; total = omega arith }
 
-    module _ (st : S) (at sum : ℕ) (h : Counted weight c st₀ s st at sum) where
-      pub count-step : (st′ : S) (used : ℕ) (a : A) → step st (drop at s) ≡ took used a st′ → Counted weight c st₀ s st′ (at + used) (sum + weight a)
+    module _ (st : S) (at sum : ℕ) (h : Counted step weight c st₀ s st at sum) where
+      pub count-step : (st′ : S) (used : ℕ) (a : A) → step st (drop at s) ≡ took used a st′ → Counted step weight c st₀ s st′ (at + used) (sum + weight a)
       unfolding tally
       count-step st′ used a e =
           let fits = turn-fits s st at st′ used a e (h .within) in
@@ -78,20 +90,11 @@ module _ {S A : Type 0} (step : S → List ℕ → Step S A) (sound : Sound step
 
   -- ---- a loop that fills
 
-  -- at its head: the store has the places of what stands before `at`, and is as it was from `to` on
-  pub record Filled (emit : A → List ℕ) (st₀ : S) (s : List ℕ) (d₀ : List ℕ) (st : S) (at to : ℕ) (d : List ℕ) : Type 0 where
-    pub within : at ≤ length s
-    pub good : readAll step st (drop at s) .verdict ≡ 0
-    pub long : length d ≡ length d₀
-    pub room : to + length (flat emit (readAll step st (drop at s) .rows)) ≤ length d₀
-    pub front : take to d ++ flat emit (readAll step st (drop at s) .rows) ≡ flat emit (readAll step st₀ s .rows)
-    pub back : drop to d ≡ drop to d₀
-
   module _ (emit : A → List ℕ) (st₀ : S) (s : List ℕ) (d₀ : List ℕ) where
-    pub fill-start : readAll step st₀ s .verdict ≡ 0 → length (flat emit (readAll step st₀ s .rows)) ≤ length d₀ → Filled emit st₀ s d₀ st₀ 0 0 d₀
+    pub fill-start : readAll step st₀ s .verdict ≡ 0 → length (flat emit (readAll step st₀ s .rows)) ≤ length d₀ → Filled step emit st₀ s d₀ st₀ 0 0 d₀
     fill-start v r = record { within = omega arith; good = v; long = refl; room = omega arith; front = refl; back = refl }
 
-    module _ (st : S) (at to : ℕ) (d : List ℕ) (h : Filled emit st₀ s d₀ st at to d) where
+    module _ (st : S) (at to : ℕ) (d : List ℕ) (h : Filled step emit st₀ s d₀ st at to d) where
       module _ (st′ : S) (used : ℕ) (a : A) (e : step st (drop at s) ≡ took used a st′) where
         flat-next : flat emit (readAll step st (drop at s) .rows) ≡ emit a ++ flat emit (readAll step st′ (drop (at + used) s) .rows)
         unfolding flat
@@ -102,7 +105,7 @@ module _ {S A : Type 0} (step : S → List ℕ → Step S A) (sound : Sound step
             let t = turn-fits s st at st′ used a e (h .within) in
             (t .0, t .1, omega (arith, h .room, h .long, ap length flat-next, length-append (emit a) (flat emit (readAll step st′ (drop (at + used) s) .rows))))
 
-        pub fill-step : Filled emit st₀ s d₀ st′ (at + used) (to + length (emit a)) (laid d to (emit a))
+        pub fill-step : Filled step emit st₀ s d₀ st′ (at + used) (to + length (emit a)) (laid d to (emit a))
         fill-step =
             let f = fill-fits in
             let tl : List ℕ = flat emit (readAll step st′ (drop (at + used) s) .rows) in

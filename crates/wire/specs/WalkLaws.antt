@@ -7,7 +7,7 @@ use native.Mathlib.Nat.{not-suc-le-zero, le-refl, mul-zero, mul-suc}
 use native.Mathlib.Numerals.{sub-one}
 use native.Mathlib.Omega.{arith}
 use lib.ListN.{length, take, drop, length-drop, length-append}
-use Rattle.wire.specs.Walk.{Step, took, stop, Reading, whole, refused, more, walk, readAll, taken, pieces, tally, flat}
+use Rattle.wire.specs.Walk.{Step, took, stop, Reading, whole, refused, more, after, walk, readAll, taken, pieces, tally, flat}
 
 -- ---- the equations that a reader expects
 
@@ -101,3 +101,11 @@ pub flat-length : {A : Type 0} (emit : A → List ℕ) (k : ℕ) → ((a : A) �
 unfolding flat
 flat-length emit k h [] = omega (arith, mul-zero k)
 flat-length emit k h (a ∷ rows) = omega (arith, flat-length emit k h rows, length-append (emit a) (flat emit rows), h a, mul-suc k (length rows))
+
+-- ---- a step that does not look at the state
+
+module _ {S A : Type 0} (step : S → List ℕ → Step S A) (blind : (st st′ : S) (s : List ℕ) → step st s ≡ step st′ s) where
+  pub all-blind : (st st′ : S) (s : List ℕ) → readAll step st s ≡ readAll step st′ s
+  unfolding readAll walk
+  all-blind st st′ [] = refl
+  all-blind st st′ (b ∷ s) = ap (λ (x : Step S A). after x (λ st₁ k. walk step st₁ k s)) (blind st st′ (b ∷ s))

@@ -1,6 +1,6 @@
 // Numbers as bytes at a place of a slice: reads that take every place, and writes that change nothing where there is no room.
 ghost use mathlib.Core.Path.{_≡_};
-ghost use Prim.Native.Nat.{_+_, _≤_, _<_};
+ghost use Prim.Native.Nat.{_+_, _≤_, _<_, min, max};
 ghost use mathlib.Core.List.{[], _∷_};
 ghost use lib.ListN.{length, getD, take};
 ghost use Rattle.wire.specs.Number.{be, toBe, beAt};
@@ -20,6 +20,19 @@ pub fn wide(b: u8) -> u32
     b as u32
 }
 
+// The smaller and the larger of two numbers.
+pub fn least(a: usize, b: usize) -> usize
+    ensures { λ r. ⌜ r ≡ min a b ⌝ }
+{
+    if a <= b { a } else { b }
+}
+
+pub fn most(a: usize, b: usize) -> usize
+    ensures { λ r. ⌜ r ≡ max a b ⌝ }
+{
+    if a <= b { b } else { a }
+}
+
 // The byte at a place, 0 past the end.
 pub fn octet(s: &[u8], i: usize) -> u8
     ensures { λ r. ⌜ r ≡ getD (now (s .entry)) i 0 ⌝ }
@@ -28,14 +41,14 @@ pub fn octet(s: &[u8], i: usize) -> u8
 }
 
 // Two bytes as one number.
-pub fn join2(a: u8, b: u8) -> u32
+fn join2(a: u8, b: u8) -> u32
     ensures { λ r. ⌜ r ≡ be (a ∷ b ∷ []) ⌝ }
 {
     wide(a) * 256 + wide(b)
 }
 
 // Four bytes as one number.
-pub fn join4(a: u8, b: u8, c: u8, d: u8) -> u32
+fn join4(a: u8, b: u8, c: u8, d: u8) -> u32
     ensures { λ r. ⌜ r ≡ be (a ∷ b ∷ c ∷ d ∷ []) ⌝ }
 {
     ((wide(a) * 256 + wide(b)) * 256 + wide(c)) * 256 + wide(d)
@@ -51,17 +64,22 @@ pub fn u16_at(s: &[u8], at: usize) -> u32
     join2(s[at], octet(s, at + 1))
 }
 
-// The number of the four bytes at a place.
+// The number of the four bytes at a place: read together where they are all there.
 pub fn u32_at(s: &[u8], at: usize) -> u32
     ensures { λ r. ⌜ r ≡ beAt (now (s .entry)) at 4 ⌝ }
 {
     if s.len() <= at {
         return 0;
     }
-    if s.len() - at < 4 {
-        return join4(s[at], octet(s, at + 1), octet(s, at + 2), octet(s, at + 3));
+    if 4 <= s.len() - at {
+        return join4(s[at], s[at + 1], s[at + 2], s[at + 3]);
     }
-    join4(s[at], s[at + 1], s[at + 2], s[at + 3])
+    join4(
+        octet(s, at),
+        octet(s, at + 1),
+        octet(s, at + 2),
+        octet(s, at + 3),
+    )
 }
 
 // The two bytes of a number, at a place of the output.

@@ -1,46 +1,51 @@
+use mathlib.Core.Path.{_≡_, refl, sym, ap}
+use native.Mathlib.Omega.{arith}
+use Prim.Native.Nat.{_+_}
+use lib.ListN.{getD}
+use Rattle.routes.specs.Prefix.{idSize, octets}
+use Rattle.routes.specs.PrefixLaws.{prefix-none, prefix-long, prefix-short, took-prefix}
+use Rattle.routes.specs.Size.{sizeOf}
 use borrow.Author.Needs.{needs}
 use Rattle.routes.proofs.item_size.Statement.{statement}
 use Rattle.routes.proofs.item_size.Tie as tie
-use Rattle.routes.proofs.item_size.Reads as reads
-use Rattle.routes.proofs.item_size.Lts as lts
-use Rattle.routes.proofs.id_size.Reads as id-size-reads
-use Rattle.routes.proofs.octet_count.Reads as octet-count-reads
 
--- src/lib.rt:98:9
 id-size-requires : tie.Need-id-size-requires
 id-size-requires c κs = search needs
 
--- src/lib.rt:100:9
 returns : tie.Need-returns
-returns c = ?
+returns c = let a = c .before .before .before .args in sym (ap sizeOf (prefix-none (a .s .now) (a .max) (a .form) (omega arith)))
 
--- src/lib.rt:102:13
 shared-slice-read-l : tie.Need-shared-slice-read-l
 shared-slice-read-l c = search needs
 
--- src/lib.rt:104:9
 returns-2 : tie.Need-returns-2
-returns-2 c = ?
+returns-2 c =
+    let a = c .before .before .before .before .before .args in
+    let k : idSize (a .form) ≡ c .before .before .before .id-size .result = sym (c .before .before .before .id-size .ensures) in
+    sym (ap sizeOf (prefix-long (a .s .now) (a .max) (a .form) (omega arith) (rw k (c .if2 .taken))))
 
--- src/lib.rt:106:13
 add-e : tie.Need-add-e
 add-e c = search needs
 
--- src/lib.rt:106:21
 octet-count-requires : tie.Need-octet-count-requires
 octet-count-requires c κs = search needs
 
--- src/lib.rt:106:13
 add-e-2 : tie.Need-add-e-2
 add-e-2 c = search needs
 
--- src/lib.rt:108:9
 returns-3 : tie.Need-returns-3
-returns-3 c = ?
+returns-3 c =
+    let a = c .before .before .before .before .before .before .before .args in
+    let k : idSize (a .form) ≡ c .before .before .before .before .before .id-size .result = sym (c .before .before .before .before .before .id-size .ensures) in
+    sym (ap sizeOf (prefix-short (a .s .now) (a .max) (a .form) (omega arith) (rw k (c .before .before .if2 .left)) (rw (k, ← c .before .octet-count .ensures) (c .if3 .taken))))
 
--- src/lib.rt:95:1
 returns-4 : tie.Need-returns-4
-returns-4 c = ?
+returns-4 c =
+    let a = c .before .before .before .before .before .before .before .args in
+    let k : idSize (a .form) ≡ c .before .before .before .before .before .id-size .result = sym (c .before .before .before .before .before .id-size .ensures) in
+    let e : c .before .before .before .before .before .id-size .result + 1 + c .before .octet-count .result ≡ idSize (a .form) + 1 + octets (getD (a .s .now) (idSize (a .form)) 0) =
+    rw (k, ← c .before .octet-count .ensures) refl in
+    sym (ap sizeOf (took-prefix (a .s .now) (a .max) (a .form) _ _ (record { there = omega arith; fits = rw k (c .before .before .if2 .left); size = e; room = c .if3 .left; is = refl })))
 
 pub item-size-spec : {M : Type 1} → statement M
 item-size-spec =

@@ -1,27 +1,23 @@
+use Rattle.wire.specs.Number.{Bytes}
+use Rattle.routes.specs.PrefixLaws.{word-at}
 use borrow.Author.Needs.{needs}
 use Rattle.routes.proofs.word_of.Statement.{statement}
 use Rattle.routes.proofs.word_of.Tie as tie
-use Rattle.routes.proofs.word_of.Reads as reads
-use Rattle.routes.proofs.word_of.Lts as lts
-use Rattle.routes.proofs.cut.Reads as cut-reads
-use Rattle.routes.proofs.past.Reads as past-reads
-use Rattle.wire.proofs.u32_at.Reads as u32-at-reads
 
--- src/lib.rt:141:9
 u32-at-requires : tie.Need-u32-at-requires
 u32-at-requires c κs = search needs
 
--- src/lib.rt:141:29
 past-requires : tie.Need-past-requires
 past-requires c κs = search needs
 
--- src/lib.rt:141:5
 cut-requires : tie.Need-cut-requires
 cut-requires c κs = search needs
 
--- src/lib.rt:137:1
 returns : tie.Need-returns
-returns c = ?
+returns c =
+    let a = c .before .before .before .before .args in
+    let bytes : Bytes (a .t .now) = λ i. c .before .before .before .shared-slice-known .given i .fits in
+    cc (c .cut .ensures, c .before .past .ensures, c .before .before .u32-at .ensures, word-at (a .t .now) (a .i) (a .n) bytes)
 
 pub word-of-spec : {M : Type 1} → statement M
 word-of-spec = tie.close (tie.spec u32-at-requires past-requires cut-requires returns)

@@ -1,0 +1,4 @@
+pub mod Cutting
+pub mod CuttingLaws
+pub mod RowLaws
+pub mod Theorems

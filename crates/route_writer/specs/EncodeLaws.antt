@@ -1,0 +1,360 @@
+-- Laws of a row's bytes, and of a store of rows written row by row.
+-- Assumes nothing.
+use Prim.Native.Nat.{ℕ, zero, suc, _+_, _-_, _*_, _/_, _%_, _^_, _≤_, _<_}
+use mathlib.Core.Path.{_≡_, refl, sym, ap, ap₂, _∙_}
+use mathlib.Core.List.{List, [], _∷_, _++_, append-nil, append-assoc}
+use mathlib.Core.Bool.{Bool, true, false, _&&_}
+use native.Mathlib.Nat.{lt-of-not-le, mod-lt, not-suc-le-zero, zero-mul, suc-mul, sub-zero, suc-sub-suc, mod-eq-of-lt, add-sub-of-le}
+use native.Mathlib.Decide.{decLe}
+use native.Mathlib.Omega.{arith}
+use borrow.Author.Tests.{le-leb, lt-leb, leb-true, ne-eqb}
+use lib.ListN.{length, getD, take, drop, set, length-append, length-take, drop-of-length-le}
+use lib.Seq.{length-take-le, take-all, take-append-le}
+use lib.Dec.{leb, eqb}
+use lib.Arith.{mod-mul, digits-mod}
+use lib.Pow.{pow-add}
+use Rattle.wire.specs.Choice.{pick}
+use Rattle.wire.specs.Number.{be, toBe}
+use Rattle.wire.specs.NumberLaws.{length-toBe, be-toBe, pow-pos256}
+use Rattle.wire.specs.Parts.{take-append, drop-append}
+use Rattle.wire.specs.Refusal.{notWritable}
+use Rattle.wire.specs.Store.{placed, placed-fits, placed-nil, length-placed, laid, laid-laid, length-laid, puts-laid}
+use Rattle.wire.specs.Walk.{Step, took, stop}
+use Rattle.wire.specs.WalkLaws.{Sound}
+use Rattle.wire.specs.Turn.{Light, Filled, fill-takes, fill-fits, fill-step}
+use Rattle.routes.specs.Prefix.{maxOf, idSize, markOf, octets}
+use Rattle.routes.specs.declared.Afi.{Afi}
+use Rattle.routes.specs.declared.Afi.the-variants.{Ipv4, Ipv6}
+use Rattle.routes.specs.declared.Form.{Form}
+use Rattle.routes.specs.declared.Form.the-variants.{Plain, Tagged}
+use Rattle.routes.specs.declared.Row.{Row}
+use Rattle.route_writer.specs.Encode.{fourWords, address, lengthOf, rowBytes, allZero, idFits, writable, frontRow, writeStep}
+
+-- ---- octets that are 0
+
+and-assoc : (a b c : Bool) → (a && b) && c ≡ a && (b && c)
+and-assoc true b c = refl
+and-assoc false b c = refl
+
+zero-append : (s t : List ℕ) → allZero (s ++ t) ≡ allZero s && allZero t
+unfolding allZero
+zero-append [] t = refl
+zero-append (b ∷ s) t = ap (λ (r : Bool). eqb b 0 && r) (zero-append s t) ∙ sym (and-assoc (eqb b 0) (allZero s) (allZero t))
+
+-- the octets past n of a word and of what follows
+pub zero-word : (n w : ℕ) (s : List ℕ) → allZero (drop n (toBe 4 w ++ s)) ≡ allZero (drop n (toBe 4 w)) && allZero (drop (n - 4) s)
+zero-word n w s = ap allZero (drop-append n (toBe 4 w) s) ∙ zero-append (drop n (toBe 4 w)) (drop (n - 4) s)
+
+pub zero-past : (n a b c d : ℕ) → allZero (drop n (fourWords a b c d))
+    ≡ allZero (drop n (toBe 4 a)) && (allZero (drop (n - 4) (toBe 4 b)) && (allZero (drop (n - 8) (toBe 4 c)) && allZero (drop (n - 12) (toBe 4 d))))
+unfolding fourWords
+zero-past n a b c d =
+    let e : n - 4 - 4 ≡ n - 8 = omega arith in
+    let f : n - 8 - 4 ≡ n - 12 = omega arith in
+    let last : allZero (drop (n - 8) (toBe 4 c ++ toBe 4 d)) ≡ allZero (drop (n - 8) (toBe 4 c)) && allZero (drop (n - 12) (toBe 4 d)) =
+    zero-word (n - 8) c (toBe 4 d) ∙ ap (λ (k : ℕ). allZero (drop (n - 8) (toBe 4 c)) && allZero (drop k (toBe 4 d))) f in
+    zero-word n a (toBe 4 b ++ (toBe 4 c ++ toBe 4 d))
+    ∙ ap (λ (t : Bool). allZero (drop n (toBe 4 a)) && t) (zero-word (n - 4) b (toBe 4 c ++ toBe 4 d)
+    ∙ ap (λ (t : Bool). allZero (drop (n - 4) (toBe 4 b)) && t) (ap (λ (k : ℕ). allZero (drop k (toBe 4 c ++ toBe 4 d))) e ∙ last))
+
+-- a digit and the rest are 0 where the number is
+digit-zero : (b r c : ℕ) → 0 < c → eqb b 0 && eqb r 0 ≡ eqb (b * c + r) 0
+digit-zero zero r c h = let e : 0 * c + r ≡ r = omega (arith, zero-mul c) in ap (λ (k : ℕ). eqb k 0) (sym e)
+digit-zero (suc b) r c h = rw (ne-eqb (suc b) 0 (λ z. omega arith)) (sym (ne-eqb (suc b * c + r) 0 (λ z. omega (arith, suc-mul b c))))
+
+zero-be : (s : List ℕ) → allZero s ≡ eqb (be s) 0
+unfolding allZero
+zero-be [] = refl
+zero-be (b ∷ s) = ap (λ (t : Bool). eqb b 0 && t) (zero-be s) ∙ digit-zero b (be s) (256 ^ length s) (pow-pos256 (length s))
+
+-- the bytes of a number past the first m are those of its remainder
+drop-toBe : (n m v : ℕ) → m ≤ n → v < 256 ^ n → drop m (toBe n v) ≡ toBe (n - m) (v % 256 ^ (n - m))
+drop-toBe zero zero v h k = refl
+drop-toBe zero (suc m) v h k = absurd (not-suc-le-zero h)
+drop-toBe (suc n) zero v h k = rw sub-zero (ap (toBe (suc n)) (sym (mod-eq-of-lt k)))
+drop-toBe (suc n) (suc m) v h k =
+    let le : m ≤ n = omega arith in
+    let split : 256 ^ n ≡ 256 ^ m * 256 ^ (n - m) = ap (λ (j : ℕ). 256 ^ j) (sym (add-sub-of-le le)) ∙ pow-add 256 m (n - m) in
+    let same : v % 256 ^ n % 256 ^ (n - m) ≡ v % 256 ^ (n - m) =
+    ap (λ (j : ℕ). v % j % 256 ^ (n - m)) split
+    ∙ ap (λ (x : ℕ). x % 256 ^ (n - m)) (mod-mul v (pow-pos256 m) (pow-pos256 (n - m)))
+    ∙ digits-mod (v / 256 ^ (n - m) % 256 ^ m) (mod-lt v (pow-pos256 (n - m))) in
+    rw suc-sub-suc (drop-toBe n m (v % 256 ^ n) le (mod-lt v (pow-pos256 n)) ∙ ap (toBe (n - m)) same)
+
+zero-mod-is : (m v : ℕ) → m ≤ 4 → v < 256 ^ 4 → allZero (drop m (toBe 4 v)) ≡ eqb (v % 256 ^ (4 - m)) 0
+zero-mod-is m v h k =
+    ap allZero (drop-toBe 4 m v h k) ∙ zero-be (toBe (4 - m) (v % 256 ^ (4 - m)))
+    ∙ ap (λ (x : ℕ). eqb x 0) (be-toBe (4 - m) (v % 256 ^ (4 - m)) (mod-lt v (pow-pos256 (4 - m))))
+
+-- a word's octets past the first m, as code tests them
+pub word-full : (m v : ℕ) → 4 ≤ m → allZero (drop m (toBe 4 v)) ≡ true
+unfolding allZero
+word-full m v h = ap allZero (drop-of-length-le (toBe 4 v) {i = m} (omega (arith, length-toBe 4 v)))
+
+pub word-zero : (m v : ℕ) → v < 256 ^ 4 → m ≡ 0 → allZero (drop m (toBe 4 v)) ≡ eqb v 0
+word-zero m v k e = ap (λ (j : ℕ). allZero (drop j (toBe 4 v))) e ∙ zero-mod-is 0 v (omega arith) k ∙ ap (λ (x : ℕ). eqb x 0) (mod-eq-of-lt {n = v} {m = 256 ^ 4} k)
+
+-- a bit shifted to where the octets past the first m begin
+pub shifted : (m : ℕ) → 0 < m → m < 4 → 1 * 2 ^ (8 * (4 - m)) % 4294967296 ≡ 256 ^ (4 - m)
+shifted zero h k = absurd (not-suc-le-zero h)
+shifted (suc zero) h k = refl
+shifted (suc (suc zero)) h k = refl
+shifted (suc (suc (suc zero))) h k = refl
+shifted (suc (suc (suc (suc m)))) h k = omega arith
+
+pub word-some : (m v : ℕ) → v < 256 ^ 4 → 0 < m → m < 4 → allZero (drop m (toBe 4 v)) ≡ eqb (v % (1 * 2 ^ (8 * (4 - m)) % 4294967296)) 0
+word-some m v k p h = zero-mod-is m v (omega arith) k ∙ ap (λ (c : ℕ). eqb (v % c) 0) (sym (shifted m p h))
+
+-- ---- octets of words, one word after another in a store
+
+joined : (d : List ℕ) (at : ℕ) (vs ws : List ℕ) → at + length vs + length ws ≤ length d → placed (placed d at vs) (at + length vs) ws ≡ laid d at (vs ++ ws)
+joined d at vs ws h =
+    let first : at + length vs ≤ length d = omega arith in
+    ap (λ (l : List ℕ). placed l (at + length vs) ws) (placed-fits d at vs first)
+    ∙ placed-fits (laid d at vs) (at + length vs) ws (omega (arith, length-laid d at vs first))
+    ∙ laid-laid d at vs ws h
+
+-- the first n octets of a word, and then those of what follows that are left
+word-after : (d : List ℕ) (to n w : ℕ) (s : List ℕ) → (4 < n → to + n ≤ length d)
+    → placed (placed d to (take n (toBe 4 w))) (to + 4) (take (n - 4) s) ≡ placed d to (take n (toBe 4 w ++ s))
+word-after d to n w s h =
+    let parts : take n (toBe 4 w ++ s) ≡ take n (toBe 4 w) ++ take (n - 4) s = take-append n (toBe 4 w) s in
+    let d₁ : List ℕ = placed d to (take n (toBe 4 w)) in
+    elim (decLe n 4) [
+      | yes le ↦
+          let none : take (n - 4) s ≡ [] = let z : n - 4 ≡ 0 = omega arith in ap (λ (k : ℕ). take k s) z in
+          ap (placed d₁ (to + 4)) none ∙ placed-nil d₁ (to + 4)
+          ∙ ap (placed d to) (sym (parts ∙ ap (λ (l : List ℕ). take n (toBe 4 w) ++ l) none ∙ append-nil (take n (toBe 4 w))))
+      | no gt ↦
+          let all : take n (toBe 4 w) ≡ toBe 4 w = take-all n (toBe 4 w) (omega (arith, length-toBe 4 w, lt-of-not-le gt)) in
+          let four : length (toBe 4 w) ≡ 4 = length-toBe 4 w in
+          let some : length (take (n - 4) s) ≤ n - 4 = omega (arith, length-take (n - 4) s) in
+          let room : to + n ≤ length d = h (lt-of-not-le gt) in
+          let fits : to + length (toBe 4 w) + length (take (n - 4) s) ≤ length d = omega (arith, lt-of-not-le gt) in
+          ap₂ (λ (l : List ℕ) (k : ℕ). placed (placed d to l) (to + k) (take (n - 4) s)) all (sym four)
+          ∙ joined d to (toBe 4 w) (take (n - 4) s) fits
+          ∙ sym (placed-fits d to (toBe 4 w ++ take (n - 4) s) (omega (arith, length-append (toBe 4 w) (take (n - 4) s))))
+          ∙ ap (placed d to) (sym (parts ∙ ap (λ (l : List ℕ). l ++ take (n - 4) s) all))
+    ]
+
+module _ (d : List ℕ) (to n a b c e : ℕ) (h : to + n ≤ length d) where
+  fourWords-fits : to + length (take n (fourWords a b c e)) ≤ length d
+  fourWords-fits = omega (arith, length-take n (fourWords a b c e))
+
+  -- where they are in the first word
+  pub one-word : n ≤ 4 → placed d to (take n (toBe 4 a)) ≡ laid d to (take n (fourWords a b c e))
+  unfolding fourWords
+  one-word le =
+      ap (placed d to) (sym (take-append-le n (toBe 4 a) (toBe 4 b ++ (toBe 4 c ++ toBe 4 e)) (omega (arith, length-toBe 4 a))))
+      ∙ placed-fits d to (take n (fourWords a b c e)) fourWords-fits
+
+  pub four-words : placed (placed (placed (placed d to (take n (toBe 4 a))) (to + 4) (take (n - 4) (toBe 4 b))) (to + 8) (take (n - 8) (toBe 4 c))) (to + 12) (take (n - 12) (toBe 4 e))
+      ≡ laid d to (take n (fourWords a b c e))
+  unfolding fourWords
+  four-words =
+      let d₁ : List ℕ = placed d to (take n (toBe 4 a)) in
+      let d₂ : List ℕ = placed d₁ (to + 4) (take (n - 4) (toBe 4 b)) in
+      let l₁ : length d₁ ≡ length d = length-placed d to (take n (toBe 4 a)) in
+      let l₂ : length d₂ ≡ length d₁ = length-placed d₁ (to + 4) (take (n - 4) (toBe 4 b)) in
+      let t₂ : to + 4 + 4 ≡ to + 8 = omega arith in
+      let t₃ : to + 8 + 4 ≡ to + 12 = omega arith in
+      let n₂ : n - 4 - 4 ≡ n - 8 = omega arith in
+      let n₃ : n - 8 - 4 ≡ n - 12 = omega arith in
+      sym (ap₂ (λ (t k : ℕ). placed (placed d₂ (to + 8) (take (n - 8) (toBe 4 c))) t (take k (toBe 4 e))) t₃ n₃)
+      ∙ word-after d₂ (to + 8) (n - 8) c (toBe 4 e) (λ lt. omega arith)
+      ∙ sym (ap₂ (λ (t k : ℕ). placed d₂ t (take k (toBe 4 c ++ toBe 4 e))) t₂ n₂)
+      ∙ word-after d₁ (to + 4) (n - 4) b (toBe 4 c ++ toBe 4 e) (λ lt. omega arith)
+      ∙ word-after d to n a (toBe 4 b ++ (toBe 4 c ++ toBe 4 e)) (λ lt. h)
+      ∙ placed-fits d to (take n (fourWords a b c e)) fourWords-fits
+
+-- a row's id, length byte and octets
+pub row-laid : (d : List ℕ) (to : ℕ) (p : List ℕ) (l : ℕ) (o : List ℕ) → to + length (p ++ (l ∷ o)) ≤ length d
+    → laid (set (placed d to p) (to + length p) l) (to + length p + 1) o ≡ laid d to (p ++ (l ∷ o))
+row-laid d to p l o h =
+    let one : List ℕ = l ∷ [] in
+    let len : length (p ++ (l ∷ o)) ≡ length p + suc (length o) = length-append p (l ∷ o) in
+    let seam : length (p ++ one) ≡ length p + 1 = length-append p one in
+    let at : to + length (p ++ one) ≡ to + length p + 1 = omega arith in
+    let fits : to + length p + length one ≤ length d = omega arith in
+    let put : set (placed d to p) (to + length p) l ≡ laid d to (p ++ one) =
+    puts-laid (placed d to p) (to + length p) one (omega (arith, length-placed d to p))
+    ∙ sym (placed-fits (placed d to p) (to + length p) one (omega (arith, length-placed d to p)))
+    ∙ joined d to p one fits in
+    ap₂ (λ (x : List ℕ) (k : ℕ). laid x k o) put (sym at)
+    ∙ laid-laid d to (p ++ one) o (omega arith)
+    ∙ ap (laid d to) (append-assoc p one o)
+
+pub id-small : (form : Form) → idSize form ≤ 4
+id-small Plain = omega arith
+id-small Tagged = omega arith
+
+pub id-bytes : (form : Form) (id : ℕ) → take (idSize form) (toBe 4 id) ≡ toBe (idSize form) id
+id-bytes Plain id = refl
+id-bytes Tagged id = refl
+
+-- ---- a row that can be written
+
+pub record Writable (max : ℕ) (form : Form) (r : Row) : Type 0 where
+  pub mark : markOf form ≤ r .first
+  pub fits : lengthOf form r ≤ max
+  pub id : idFits form (r .id) ≡ true
+  pub past : allZero (drop (octets (lengthOf form r)) (address r)) ≡ true
+
+pub and-true : (a b : Bool) → a && b ≡ true → (a ≡ true) × (b ≡ true)
+and-true true b e = (refl, e)
+and-true false b e = let z : _≡_ {A = ℕ} 0 1 = cc in absurd (omega arith)
+
+pub and-false : (a b : Bool) → a ≡ false → a && b ≡ false
+and-false a b e = rw e
+
+module _ (max : ℕ) (form : Form) (r : Row) where
+  pub is-writable : writable max form r ≡ true → Writable max form r
+  unfolding writable
+  is-writable e =
+      let p = and-true _ _ e in
+      let q = and-true _ _ (p .1) in
+      let t = and-true _ _ (q .1) in
+      record { mark = leb-true _ _ (p .0); fits = leb-true _ _ (q .0); id = t .0; past = t .1 }
+
+  pub writable-is : Writable max form r → writable max form r ≡ true
+  unfolding writable
+  writable-is w = simp (le-leb (markOf form) (r .first) (w .mark), le-leb (lengthOf form r) max (w .fits), w .id, w .past)
+
+pub address-length : (r : Row) → length (address r) ≡ 16
+unfolding fourWords
+address-length r = refl
+
+pub row-size : (form : Form) (r : Row) → lengthOf form r ≤ 128 → length (rowBytes form r) ≡ idSize form + 1 + octets (lengthOf form r)
+unfolding rowBytes
+row-size form r h =
+    let n : ℕ = octets (lengthOf form r) in
+    let o : length (take n (address r)) ≡ n = length-take-le n (address r) (omega (arith, address-length r)) in
+    omega (arith, length-append (toBe (idSize form) (r .id)) (lengthOf form r ∷ take n (address r)), length-toBe (idSize form) (r .id))
+
+-- ---- the step
+
+pub record WriteTook (ws : List ℕ) (max : ℕ) (form : Form) (used : ℕ) (row : Row) : Type 0 where
+  pub size : used ≡ 6
+  pub there : 6 ≤ length ws
+  pub is : row ≡ frontRow ws
+  pub good : Writable max form (frontRow ws)
+
+step-by : (t : Bool) (row : Row) (used : ℕ) (a : Row) (st : Unit {0}) → pick t (took 6 row tt) (stop notWritable) ≡ took used a st → (t ≡ true) × (used ≡ 6) × (a ≡ row)
+step-by true row used a st e = (refl, cc, cc)
+step-by false row used a st e = let z : _≡_ {A = ℕ} 0 1 = cc in absurd (omega arith)
+
+stop-by : (t : Bool) (row : Row) (n : ℕ) → _≡_ {A = Step (Unit {0}) Row} (pick t (took 6 row tt) (stop notWritable)) (stop n) → (t ≡ false) × (n ≡ notWritable)
+stop-by true row n e = let z : _≡_ {A = ℕ} 0 1 = cc in absurd (omega arith)
+stop-by false row n e = (refl, cc)
+
+module _ (max : ℕ) (form : Form) where
+  pub write-took : (st st′ : Unit {0}) (ws : List ℕ) (used : ℕ) (row : Row) → writeStep max form st ws ≡ took used row st′ → WriteTook ws max form used row
+  unfolding writeStep
+  write-took st st′ ws used row e =
+      let t = step-by (leb 6 (length ws) && writable max form (frontRow ws)) (frontRow ws) used row st′ e in
+      let b = and-true _ _ (t .0) in
+      record { size = t .1; there = leb-true _ _ (b .0); is = t .2; good = is-writable max form (frontRow ws) (b .1) }
+
+  pub took-write : (st : Unit {0}) (ws : List ℕ) → 6 ≤ length ws → Writable max form (frontRow ws) → writeStep max form st ws ≡ took 6 (frontRow ws) tt
+  unfolding writeStep
+  took-write st ws h w = simp (le-leb 6 (length ws) h, writable-is max form (frontRow ws) w)
+
+  pub write-stop : (st : Unit {0}) (ws : List ℕ) (n : ℕ) → writeStep max form st ws ≡ stop n → n ≡ notWritable
+  unfolding writeStep
+  write-stop st ws n e = stop-by (leb 6 (length ws) && writable max form (frontRow ws)) (frontRow ws) n e .1
+
+  pub stop-write : (st : Unit {0}) (ws : List ℕ) → leb 6 (length ws) && writable max form (frontRow ws) ≡ false → writeStep max form st ws ≡ stop notWritable
+  unfolding writeStep
+  stop-write st ws e = rw e
+
+  pub write-sound : Sound (writeStep max form)
+  write-sound = record {
+    takes = λ st st′ ws used row e. let t = write-took st st′ ws used row e in (omega (arith, t .size), omega (arith, t .size, t .there));
+    names = λ st ws n e. omega (arith, write-stop st ws n e);
+  }
+
+  pub write-light : max ≤ 128 → Light (writeStep max form) (λ row. length (rowBytes form row)) 4
+  write-light small st st′ ws used row e =
+      let t = write-took st st′ ws used row e in
+      let id = id-small form in
+      let size : length (rowBytes form row) ≡ idSize form + 1 + octets (lengthOf form (frontRow ws)) =
+      ap (λ (r : Row). length (rowBytes form r)) (t .is) ∙ row-size form (frontRow ws) (omega (arith, t .good .fits)) in
+      omega (arith, t .size, t .good .fits)
+
+-- ---- the row at the front, by its words
+
+pub no-and : (a : Bool) → a && false ≡ false
+no-and true = refl
+no-and false = refl
+
+module _ (ws : List ℕ) (max : ℕ) (form : Form) where
+  -- what makes it one that cannot be written
+  pub low-mark : getD ws 0 0 < markOf form → writable max form (frontRow ws) ≡ false
+  unfolding writable frontRow
+  low-mark h = rw (lt-leb (markOf form) (getD ws 0 0) h)
+
+  pub long-prefix : max < getD ws 0 0 - markOf form → writable max form (frontRow ws) ≡ false
+  unfolding writable frontRow
+  long-prefix h = simp (lt-leb (getD ws 0 0 - markOf form) max h, no-and)
+
+  pub strange-id : idFits form (getD ws 1 0) ≡ false → writable max form (frontRow ws) ≡ false
+  unfolding writable frontRow
+  strange-id e = simp (e, no-and)
+
+  pub set-octets : allZero (drop (octets (getD ws 0 0 - markOf form)) (fourWords (getD ws 2 0) (getD ws 3 0) (getD ws 4 0) (getD ws 5 0))) ≡ false
+      → writable max form (frontRow ws) ≡ false
+  unfolding writable frontRow
+  set-octets e = simp (e, no-and)
+
+  -- and what one that can be written has
+  pub front-writable : markOf form ≤ getD ws 0 0 → getD ws 0 0 - markOf form ≤ max → idFits form (getD ws 1 0) ≡ true
+      → allZero (drop (octets (getD ws 0 0 - markOf form)) (fourWords (getD ws 2 0) (getD ws 3 0) (getD ws 4 0) (getD ws 5 0))) ≡ true
+      → Writable max form (frontRow ws)
+  unfolding frontRow
+  front-writable m f i p = record { mark = m; fits = f; id = i; past = p }
+
+  pub front-parts : Writable max form (frontRow ws) → max ≤ 128
+      → (markOf form ≤ getD ws 0 0) × (getD ws 0 0 - markOf form ≤ max) × (length (rowBytes form (frontRow ws)) ≡ idSize form + 1 + octets (getD ws 0 0 - markOf form))
+  unfolding frontRow
+  front-parts w small = (w .mark, w .fits, row-size form (frontRow ws) (omega (arith, w .fits)))
+
+-- its bytes as code puts them: the id, the length byte, the octets
+pub front-laid : (d : List ℕ) (to k n l : ℕ) (ws : List ℕ) (form : Form) → k ≡ idSize form → l ≡ getD ws 0 0 - markOf form → n ≡ octets l
+    → to + length (rowBytes form (frontRow ws)) ≤ length d
+    → laid (set (placed d to (take k (toBe 4 (getD ws 1 0)))) (to + k) l) (to + k + 1) (take n (fourWords (getD ws 2 0) (getD ws 3 0) (getD ws 4 0) (getD ws 5 0)))
+    ≡ laid d to (rowBytes form (frontRow ws))
+unfolding rowBytes frontRow
+front-laid d to k n l ws form ks ls ns room =
+    let p : List ℕ = toBe (idSize form) (getD ws 1 0) in
+    let m : ℕ = getD ws 0 0 - markOf form in
+    let o : List ℕ = fourWords (getD ws 2 0) (getD ws 3 0) (getD ws 4 0) (getD ws 5 0) in
+    let ids : take k (toBe 4 (getD ws 1 0)) ≡ p = ap (λ (j : ℕ). take j (toBe 4 (getD ws 1 0))) ks ∙ id-bytes form (getD ws 1 0) in
+    let kp : k ≡ length p = ks ∙ sym (length-toBe (idSize form) (getD ws 1 0)) in
+    let nm : n ≡ octets m = ns ∙ ap octets ls in
+    ap₂ (λ (x : List ℕ) (j : ℕ). laid (set (placed d to x) (to + j) l) (to + j + 1) (take n o)) ids kp
+    ∙ ap₂ (λ (i j : ℕ). laid (set (placed d to p) (to + length p) i) (to + length p + 1) (take j o)) ls nm
+    ∙ row-laid d to p m (take (octets m) o) room
+
+-- ---- a turn of the loop that fills
+
+module _ (max : ℕ) (form : Form) (rows d₀ : List ℕ) (at to : ℕ) (d : List ℕ) (h : Filled (writeStep max form) (rowBytes form) tt rows d₀ tt at to d) (lt : at < length rows) where
+  fill-took : (writeStep max form tt (drop at rows) ≡ took 6 (frontRow (drop at rows)) tt) × (6 ≤ length (drop at rows)) × Writable max form (frontRow (drop at rows))
+  fill-took =
+      let t = fill-takes (writeStep max form) (write-sound max form) (rowBytes form) tt rows d₀ tt at to d h lt in
+      let w = write-took max form tt (t .2) (drop at rows) (t .0) (t .1) (t .3) in
+      (took-write max form tt (drop at rows) (w .there) (w .good), w .there, w .good)
+
+  -- the row there can be written and has room
+  pub fill-row : (6 ≤ length (drop at rows)) × (writable max form (frontRow (drop at rows)) ≡ true) × (to + length (rowBytes form (frontRow (drop at rows))) ≤ length d)
+  fill-row =
+      let t = fill-took in
+      (t .1, writable-is max form (frontRow (drop at rows)) (t .2), fill-fits (writeStep max form) (write-sound max form) (rowBytes form) tt rows d₀ tt at to d h tt 6 (frontRow (drop at rows)) (t .0) .2)
+
+  -- and after its bytes the loop's head is reached again
+  pub fill-next : Filled (writeStep max form) (rowBytes form) tt rows d₀ tt (at + 6) (to + length (rowBytes form (frontRow (drop at rows)))) (laid d to (rowBytes form (frontRow (drop at rows))))
+  fill-next = fill-step (writeStep max form) (write-sound max form) (rowBytes form) tt rows d₀ tt at to d h tt 6 (frontRow (drop at rows)) (fill-took .0)
+
+-- no family has more than 128 bits
+pub max-small : (afi : Afi) → maxOf afi ≤ 128
+max-small Ipv4 = omega arith
+max-small Ipv6 = omega arith

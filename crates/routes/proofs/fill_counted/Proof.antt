@@ -1,0 +1,52 @@
+use mathlib.Core.Path.{sym, ap, _∙_}
+use lib.ListN.{length}
+use Rattle.routes.specs.Prefix.{maxOf}
+use Rattle.routes.specs.Pair.{hasRoom}
+use Rattle.routes.specs.ListLaws.{section-counted}
+use Rattle.routes.specs.PairLaws.{counted-fits}
+use Rattle.routes.specs.declared.ListAnswer.{ListAnswer}
+use borrow.Author.Needs.{needs}
+use Rattle.routes.proofs.fill_counted.Statement.{statement}
+use Rattle.routes.proofs.fill_counted.Tie as tie
+
+enum-told : tie.Need-enum-told
+enum-told c = search needs
+
+max-len-requires : tie.Need-max-len-requires
+max-len-requires c κs = search needs
+
+fill-rows-requires : tie.Need-fill-rows-requires
+fill-rows-requires c κs =
+    let g = c .before .before .before .before .before .before in
+    let a = g .args in
+    let told = c .before .before .enum-told .given .1 in
+    rw (c .before .max-len .ensures) (counted-fits (a .s .now) (maxOf (a .afi)) (a .mode) (a .store .now) _ (sym (g .pre .0) ∙ told) (sym (ap (λ (x : ListAnswer). hasRoom x (length (a .store .now))) told) ∙ g .pre .1))
+
+enum-told-2 : tie.Need-enum-told-2
+enum-told-2 c = search needs
+
+same-length : tie.Need-same-length
+same-length c = search needs
+
+returns : tie.Need-returns
+returns c =
+    let g = c .before .before .before .before .before .before .before .before .before in
+    let a = g .args in
+    let told = c .before .before .before .before .before .enum-told .given .1 in
+    let same = section-counted (a .s .now) (maxOf (a .afi)) (a .mode) _ (sym (g .pre .0) ∙ told) in
+    rw (told, same, ← c .before .before .before .before .max-len .ensures) (c .before .before .fill-rows .ensures)
+
+returns-2 : tie.Need-returns-2
+returns-2 c = search needs
+
+pub fill-counted-spec : {M : Type 1} → statement M
+fill-counted-spec =
+    tie.close
+    (tie.spec
+    enum-told
+    max-len-requires
+    fill-rows-requires
+    enum-told-2
+    same-length
+    returns
+    returns-2)
