@@ -1,15 +1,16 @@
 //! The fixed sample: requests over every op, setting and refusal number, and all captured messages.
 
 use crate::inputs::captures::Capture;
-use crate::inputs::{examples, random};
+use crate::inputs::examples::{self, words};
+use crate::inputs::random;
 use crate::programs::Program;
 use crate::rng::Rng;
-use records::Request;
+use records::{Request, FOUR_BYTE_AS};
 use std::io::{self, Write as _};
 use std::path::Path;
 
 /// Random requests of each op and settings byte.
-const OF_EACH: usize = 5;
+const OF_EACH: usize = 3;
 
 fn requests(seed: u64, captures: &[Capture]) -> Vec<Request> {
     let mut rng = Rng::new(seed);
@@ -18,9 +19,7 @@ fn requests(seed: u64, captures: &[Capture]) -> Vec<Request> {
     for op in 1..=17 {
         for settings in 0..32 {
             for _ in 0..OF_EACH {
-                let mut request = random::request_of(&mut rng, op);
-                request.settings = settings;
-                requests.push(request);
+                requests.push(random::request_of(&mut rng, op, settings));
             }
         }
     }
@@ -28,15 +27,18 @@ fn requests(seed: u64, captures: &[Capture]) -> Vec<Request> {
     requests
 }
 
-/// One request past each size limit, and one at it.
+/// Requests at a size limit and past one.
 fn over_long() -> Vec<Request> {
-    let mut requests = vec![];
-    for size in [65_535, 65_536] {
-        requests.push(examples::on_bytes(3, 0, (0, 0), &vec![0; size]));
-    }
-    requests.push(examples::on_bytes(7, 8, (0, 0), &vec![0; 65_536]));
-    requests.push(examples::on_bytes(11, 0, (0, 0), &vec![0; 65_517]));
-    requests
+    let on_bytes = |op, size: usize| examples::on_bytes(op, 0, (0, 0), &vec![0; size]);
+    let path = [words(&[2, 255].repeat(65)), words(&vec![64_512; 255 * 65]), vec![]];
+    vec![
+        on_bytes(3, 65_535),
+        on_bytes(3, 65_536),
+        on_bytes(7, 65_536),
+        on_bytes(11, 65_517),
+        examples::request(14, FOUR_BYTE_AS, (70_000, 0), path, 0),
+        examples::request(17, 0, (70_000, 0), [vec![], vec![0; 65_536], vec![]], 0),
+    ]
 }
 
 /// Writes `requests.bin` and `lines.txt`: the crate's line where it has one, else the model's.

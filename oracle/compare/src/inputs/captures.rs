@@ -78,7 +78,7 @@ impl Capture {
         }
     }
 
-    /// The settings of the session, guess off; the guess matters only where Add-Path is off.
+    /// The settings of the session, guess off. The crate's reading has the guess on where Add-Path is off.
     fn settings(&self) -> u8 {
         self.width_setting() | if self.add_path_ipv4 { ADD_PATH } else { 0 }
     }
@@ -97,10 +97,11 @@ impl Capture {
 
     fn update_requests(&self, body: &[u8]) -> Vec<Request> {
         let mut requests = vec![];
-        let guesses: &[u8] = if self.add_path_ipv4 { &[0] } else { &[0, GUESS] };
-        for guess in guesses {
-            requests.extend([10, 11].map(|op| on_bytes(op, self.settings() | guess, (ROWS, ROWS), body)));
+        requests.push(on_bytes(10, self.settings(), (ROWS, ROWS), body));
+        if !self.add_path_ipv4 {
+            requests.push(on_bytes(10, self.settings() | GUESS, (ROWS, ROWS), body));
         }
+        requests.push(on_bytes(11, self.settings() | GUESS, (0, 0), body));
         requests.push(on_bytes(12, self.settings(), (0, 0), body));
         let withdrawn = two(body);
         let rest = &body[2 + withdrawn..];
@@ -133,9 +134,6 @@ impl Capture {
         }
         let settings: &[u8] = if self.add_path_ipv6 { &[ADD_PATH] } else { &[0, GUESS] };
         let list = &value[start..];
-        settings
-            .iter()
-            .flat_map(|setting| [2, 3].map(|op| on_bytes(op, IPV6 | setting, (ROWS, 0), list)))
-            .collect()
+        settings.iter().map(|setting| on_bytes(2, IPV6 | setting, (ROWS, 0), list)).collect()
     }
 }

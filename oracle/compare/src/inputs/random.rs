@@ -8,8 +8,8 @@ use records::{Request, ADD_PATH, FOUR_BYTE_AS, GUESS, IPV6};
 /// One in this many requests is large.
 const LARGE: usize = 1_500;
 
-pub fn request_of(rng: &mut Rng, op: u8) -> Request {
-    let settings = rng.under(32) as u8;
+/// A request of this op under these settings.
+pub fn request_of(rng: &mut Rng, op: u8, settings: u8) -> Request {
     match op {
         1 => one_route(rng, settings),
         2..=5 => list(rng, op, settings),
@@ -30,7 +30,8 @@ pub fn request(rng: &mut Rng) -> Request {
     if rng.one_in(LARGE) {
         large(rng, op)
     } else {
-        request_of(rng, op)
+        let settings = rng.under(32) as u8;
+        request_of(rng, op, settings)
     }
 }
 
