@@ -1,6 +1,7 @@
 //! The crate's own calls behind the request records. What the crate has no call for is not answered (`None`).
 //! Around the crate's result stand only what document 01 adds by design: refusals 1 and 11, and the stores.
 
+pub mod facts;
 mod messages;
 mod paths;
 mod routes;
