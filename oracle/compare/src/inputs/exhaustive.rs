@@ -13,6 +13,7 @@ impl Short {
             headers()
                 .chain(written_messages())
                 .chain(written_rows())
+                .chain(written_paths())
                 .chain(aggregators())
                 .chain(updates())
                 .chain(paths())
@@ -141,6 +142,25 @@ fn written_rows() -> impl Iterator<Item = Request> {
                     let row = words(&[first, id, a[0], a[1], a[2], a[3]]);
                     request(13, settings, (24, 0), [row, vec![], vec![]], 0)
                 })
+            })
+        })
+    })
+}
+
+/// Two segments of good and bad types and counts; the numbers all fit two bytes, or the first or last does not.
+fn written_paths() -> impl Iterator<Item = Request> {
+    const SEGMENTS: [[u32; 2]; 12] =
+        [[0, 0], [0, 1], [0, 256], [1, 0], [2, 1], [3, 255], [4, 1], [4, 256], [5, 0], [5, 1], [6, 256], [257, 1]];
+    SEGMENTS.into_iter().flat_map(move |first| {
+        SEGMENTS.into_iter().flat_map(move |second| {
+            let count = (first[1] + second[1]) as usize;
+            [None, Some(0), Some(count.saturating_sub(1))].into_iter().flat_map(move |wide| {
+                let mut numbers = vec![65_535; count];
+                if let Some(number) = wide.and_then(|at| numbers.get_mut(at)) {
+                    *number = 65_536;
+                }
+                let parts = [words(&[first, second].concat()), words(&numbers), vec![]];
+                [0, FOUR_BYTE_AS].map(|settings| request(14, settings, (2_100, 0), parts.clone(), 0))
             })
         })
     })

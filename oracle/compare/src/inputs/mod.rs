@@ -4,6 +4,7 @@
 pub mod captures;
 pub mod examples;
 pub mod exhaustive;
+pub mod limits;
 pub mod pieces;
 pub mod random;
 
@@ -22,6 +23,7 @@ pub struct Inputs {
 impl Inputs {
     pub fn new(seed: u64, captures: Vec<Capture>) -> Inputs {
         let mut first = examples::all();
+        first.extend(limits::all());
         first.extend(captures.iter().flat_map(Capture::requests));
         Inputs { rng: Rng::new(seed), first: first.into_iter(), short: exhaustive::Short::new(), captures }
     }

@@ -1,6 +1,7 @@
 //! Random requests: good inputs, damaged ones, rooms just enough and just too small, and a few of the largest.
 
 use super::examples::{on_bytes, words};
+use super::limits::raw_attribute;
 use super::pieces::{self, damage};
 use crate::rng::Rng;
 use records::{Request, ADD_PATH, FOUR_BYTE_AS, GUESS, IPV6};
@@ -306,7 +307,7 @@ pub fn large(rng: &mut Rng, op: u8) -> Request {
             request_on(16, settings, 70_000, [body, vec![], vec![]], kind)
         }
         _ => {
-            let attributes = large_attributes(rng.pick(&[60_000, 65_000, 65_535, 65_536, 4]));
+            let attributes = raw_attribute(rng.pick(&[60_000, 65_000, 65_535, 65_536, 4]));
             let rest = rng.pick(&[5_000, 500, 60, 20, 65_516]);
             let withdrawn = large_rows(rng, settings, false, rest, 8_000);
             let announced = large_rows(rng, settings, false, rest, 8_000);
@@ -380,17 +381,4 @@ fn large_written_path(rng: &mut Rng, settings: u8) -> Request {
     }
     let numbers = vec![64_512u32; segments * 255 + last];
     request_on(14, settings, 70_000, [words(&pairs), words(&numbers), vec![]], 0)
-}
-
-/// One or two attributes of a type that the crate keeps raw, so that the section has this size.
-fn large_attributes(size: usize) -> Vec<u8> {
-    let first = size.min(60_000) - 4;
-    let mut section = [&[0xD0, 200], &(first as u16).to_be_bytes()[..], &vec![5; first]].concat();
-    if size - section.len() >= 4 {
-        let second = size - section.len() - 4;
-        section.extend([0xD0, 201]);
-        section.extend((second as u16).to_be_bytes());
-        section.extend(vec![6; second]);
-    }
-    section
 }
