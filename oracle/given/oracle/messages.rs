@@ -42,8 +42,7 @@ pub fn header(request: &Request) -> Outcome {
     }
     let given = request.parts[0].as_slice();
     let mut data = Bytes::copy_from_slice(given);
-    let (read, warned) =
-        warnings::during(|| parse_bgp_message(&mut data, request.has(ADD_PATH), &width(request)));
+    let (read, warned) = warnings::during(|| parse_bgp_message(&mut data, request.has(ADD_PATH), &width(request)));
     let kind = match read {
         Ok(message) => message.msg_type() as u8,
         Err(error) => match stop(&error, given.len()) {

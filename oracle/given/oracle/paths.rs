@@ -56,9 +56,8 @@ pub fn aggregator(request: &Request) -> Outcome {
     let flags = AttrFlags::OPTIONAL | AttrFlags::TRANSITIVE | AttrFlags::EXTENDED;
     let length = (value.len() as u16).to_be_bytes();
     let section = [&[flags.bits(), u8::from(AttrType::AGGREGATOR)], &length[..], value].concat();
-    let (read, warned) = warnings::during(|| {
-        parse_attributes(Bytes::from(section), &width(request), false, None, None, None)
-    });
+    let (read, warned) =
+        warnings::during(|| parse_attributes(Bytes::from(section), &width(request), false, None, None, None));
     let attributes = read.expect("one whole attribute");
     if let Some((asn, identifier)) = attributes.aggregator() {
         let differs = warnings::any_begins(&warned, "Aggregator attribute with ASN length set to");

@@ -9,6 +9,7 @@ use bytes::{Buf, Bytes};
 use ipnet::IpNet;
 use records::{Request, ADD_PATH, IPV6};
 use std::net::{IpAddr, Ipv4Addr, Ipv6Addr};
+use std::sync::OnceLock;
 
 const HAS_ID: u32 = 256;
 
@@ -51,10 +52,12 @@ pub fn one_route(request: &Request) -> Outcome {
 
 /// Ops 2 to 5: a list or a section, stored or counted.
 pub fn list_or_section(request: &Request) -> Outcome {
-    if !crate_reads_so(request) {
-        return Outcome::NoCounterpart;
-    }
-    let read = if request.op <= 3 { list(request) } else { section(request) };
+    let read = match (crate_reads_so(request), request.op) {
+        (true, 2 | 3) => list(request),
+        (true, _) => section(request),
+        (false, 2 | 3) if item_by_item_is_asked() => item_by_item(request),
+        (false, _) => return Outcome::NoCounterpart,
+    };
     match read {
         Ok(prefixes) => {
             let stores = if request.op % 2 == 0 { vec![Contents::Rows(rows(&prefixes))] } else { vec![] };
@@ -67,6 +70,23 @@ pub fn list_or_section(request: &Request) -> Outcome {
 fn list(request: &Request) -> Result<Vec<NetworkPrefix>, u32> {
     let bytes = Bytes::copy_from_slice(&request.parts[0]);
     parse_nlri_list(bytes, request.has(ADD_PATH), &family(request)).map_err(|error| reader_refusal(&error))
+}
+
+/// Whether lists with neither Add-Path nor the guess are read item by item; it is not the crate's list reader.
+fn item_by_item_is_asked() -> bool {
+    static ASKED: OnceLock<bool> = OnceLock::new();
+    *ASKED.get_or_init(|| std::env::var_os("CRATE_ITEM_BY_ITEM").is_some())
+}
+
+/// The crate's reader of one item, again and again.
+fn item_by_item(request: &Request) -> Result<Vec<NetworkPrefix>, u32> {
+    let mut bytes = Bytes::copy_from_slice(&request.parts[0]);
+    let mut prefixes = vec![];
+    while bytes.has_remaining() {
+        let item = bytes.read_nlri_prefix(&family(request), false);
+        prefixes.push(item.map_err(|error| reader_refusal(&error))?);
+    }
+    Ok(prefixes)
 }
 
 /// The crate's section reader is private: the section is put into an UPDATE, once as the withdrawn routes and

@@ -32,10 +32,7 @@ impl Request {
 
     /// The part as big-endian numbers of four bytes; only asked for where the page says it holds numbers.
     pub fn numbers(&self, part: usize) -> Vec<u32> {
-        self.parts[part]
-            .chunks_exact(4)
-            .map(|four| u32::from_be_bytes([four[0], four[1], four[2], four[3]]))
-            .collect()
+        self.parts[part].chunks_exact(4).map(|four| u32::from_be_bytes([four[0], four[1], four[2], four[3]])).collect()
     }
 
     /// The record's bytes.

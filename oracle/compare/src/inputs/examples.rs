@@ -30,7 +30,8 @@ const PATHS: &[&str] = &["", "02 02 00 00 FD E9 00 00 FD EA", "02 00", "05 01", 
 const AGGREGATORS: &[&str] = &["FD E9 0A 00 00 01", "00 00 FD E9 0A 00 00 01", "00 FD E9 0A 00 00 01", ""];
 
 /// What comes after an all-FF marker.
-const HEADERS: &[&str] = &["00 13 04", "00 12 09", "10 01 01", "00 1B 02 00 00 00 00 18 0A 01 08", "00 1B 02 00 00 00 00 18 0A 01"];
+const HEADERS: &[&str] =
+    &["00 13 04", "00 12 09", "10 01 01", "00 1B 02 00 00 00 00 18 0A 01 08", "00 1B 02 00 00 00 00 18 0A 01"];
 
 pub fn request(op: u8, settings: u8, rooms: (usize, usize), parts: [Vec<u8>; 3], argument: u8) -> Request {
     Request { op, settings, room_a: rooms.0, room_b: rooms.1, parts, argument }

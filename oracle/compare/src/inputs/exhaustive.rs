@@ -10,11 +10,11 @@ pub struct Short(Box<dyn Iterator<Item = Request>>);
 impl Short {
     pub fn new() -> Short {
         Short(Box::new(
-            headers()
+            written_paths()
                 .chain(written_messages())
                 .chain(written_rows())
-                .chain(written_paths())
                 .chain(aggregators())
+                .chain(headers())
                 .chain(updates())
                 .chain(paths())
                 .chain(lists()),
@@ -56,9 +56,8 @@ const READINGS: [u8; 3] = [0, GUESS, ADD_PATH];
 fn lists() -> impl Iterator<Item = Request> {
     let all_settings = READINGS.map(|reading| [reading, reading | IPV6]).concat();
     let around_zero = strings(&[0, 1, 8, 32, 33, 255], 3..=6).chain(strings(&[0, 8, 24], 7..=9));
-    let long = around_zero.flat_map(|bytes| {
-        [GUESS, GUESS | IPV6, ADD_PATH, 0].map(|settings| on_bytes(2, settings, (54, 0), &bytes))
-    });
+    let long = around_zero
+        .flat_map(|bytes| [GUESS, GUESS | IPV6, ADD_PATH, 0].map(|settings| on_bytes(2, settings, (54, 0), &bytes)));
     let short = strings(&BYTES, 0..=2).flat_map(move |bytes| {
         let mut requests = vec![];
         requests.extend(all_settings.iter().map(|settings| on_bytes(2, *settings, (12, 0), &bytes)));
@@ -96,9 +95,9 @@ fn headers() -> impl Iterator<Item = Request> {
     const GIVEN: [usize; 17] = [0, 1, 15, 16, 17, 18, 19, 20, 21, 22, 23, 24, 28, 29, 30, 31, 64];
     const TYPES: [u8; 8] = [0, 1, 2, 3, 4, 5, 6, 255];
     CLAIMED.into_iter().flat_map(move |claimed| {
-        GIVEN.into_iter().flat_map(move |given| {
-            TYPES.into_iter().flat_map(move |kind| header_requests(claimed, given, kind))
-        })
+        GIVEN
+            .into_iter()
+            .flat_map(move |given| TYPES.into_iter().flat_map(move |kind| header_requests(claimed, given, kind)))
     })
 }
 
@@ -121,7 +120,31 @@ fn header_requests(claimed: u16, given: usize, kind: u8) -> Vec<Request> {
 
 fn written_rows() -> impl Iterator<Item = Request> {
     const FIRST: [u32; 26] = [
-        0, 1, 7, 8, 9, 16, 17, 24, 25, 31, 32, 33, 64, 127, 128, 129, 255, 256, 257, 288, 289, 384, 385, 511, 512,
+        0,
+        1,
+        7,
+        8,
+        9,
+        16,
+        17,
+        24,
+        25,
+        31,
+        32,
+        33,
+        64,
+        127,
+        128,
+        129,
+        255,
+        256,
+        257,
+        288,
+        289,
+        384,
+        385,
+        511,
+        512,
         u32::MAX,
     ];
     const ADDRESSES: [[u32; 4]; 9] = [

@@ -303,7 +303,11 @@ pub fn large(rng: &mut Rng, op: u8) -> Request {
         16 => {
             let kind = rng.pick(&[1, 2, 2, 3, 5, 5]);
             let size = rng.pick(&[4_076, 4_077, 4_078, 65_515, 65_516, 65_517]);
-            let body = if kind == 2 { pieces::body(&[], &[], &large_list(rng, size - 4, false, false)) } else { vec![9; size] };
+            let body = if kind == 2 {
+                pieces::body(&[], &[], &large_list(rng, size - 4, false, false))
+            } else {
+                vec![9; size]
+            };
             request_on(16, settings, 70_000, [body, vec![], vec![]], kind)
         }
         _ => {

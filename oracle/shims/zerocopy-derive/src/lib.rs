@@ -18,9 +18,7 @@ fn struct_name(input: TokenStream) -> String {
 
 fn mark(input: TokenStream, marker: &str) -> TokenStream {
     let name = struct_name(input);
-    format!("unsafe impl ::zerocopy::{marker} for {name} {{}}")
-        .parse()
-        .expect("an impl block")
+    format!("unsafe impl ::zerocopy::{marker} for {name} {{}}").parse().expect("an impl block")
 }
 
 #[proc_macro_derive(IntoBytes)]

@@ -8,6 +8,9 @@ pub fn parse_bfd_discriminator(_input: Bytes) -> Result<AttributeValue, ParserEr
     Err(ParserError::Unsupported("this attribute is not given".to_string()))
 }
 
-pub fn encode_bfd_discriminator(_value: &BfdDiscriminatorAttribute, _output: &mut BytesMut) -> Result<(), EncodingError> {
+pub fn encode_bfd_discriminator(
+    _value: &BfdDiscriminatorAttribute,
+    _output: &mut BytesMut,
+) -> Result<(), EncodingError> {
     unreachable!("no such value is ever read")
 }
