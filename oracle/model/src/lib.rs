@@ -50,12 +50,8 @@ fn call(request: &Request) -> Done {
         }
         16 => written(request, headers::write(request.argument, bytes)?, false),
         17 => {
-            let body = updates::write(
-                &request.numbers(0),
-                &request.parts[1],
-                &request.numbers(2),
-                request.has(ADD_PATH),
-            )?;
+            let body =
+                updates::write(&request.numbers(0), &request.parts[1], &request.numbers(2), request.has(ADD_PATH))?;
             written(request, body, false)
         }
         _ => unreachable!("records gives ops 1 to 17"),
