@@ -33,7 +33,17 @@ fn writer(
     let one = request::part_one(s, h);
     let two = request::part_two(s, h);
     if h.op == 17 {
-        return writes::answer(h, one, two, request::part_three(s, h), rows, more, w, out, at);
+        return writes::answer(
+            h,
+            one,
+            two,
+            request::part_three(s, h),
+            rows,
+            more,
+            w,
+            out,
+            at,
+        );
     }
     writes::answer(h, one, two, two, rows, more, w, out, at)
 }
@@ -223,5 +233,13 @@ fn main() {
     let mut rows = [0u32; 100000];
     let mut more = [0u32; 100000];
     let mut out = [0u8; 65536];
-    run(&mut input, &mut a, &mut b, &mut w, &mut rows, &mut more, &mut out);
+    run(
+        &mut input,
+        &mut a,
+        &mut b,
+        &mut w,
+        &mut rows,
+        &mut more,
+        &mut out,
+    );
 }

@@ -1,9 +1,9 @@
 // Ops 1 to 12: the readers.
-use asns::AggregatorAnswer;
 use crate::line;
 use crate::request;
 use crate::request::Head;
 use crate::store;
+use asns::AggregatorAnswer;
 use messages::MessageAnswer;
 use paths::PathAnswer;
 use routes::Afi;
@@ -79,11 +79,7 @@ fn path(h: Head, s: &[u8], a: &mut [u32], b: &mut [u32], out: &mut [u8], at: usi
 }
 
 fn counted_path(h: Head, s: &[u8], out: &mut [u8], at: usize) -> usize {
-    put_path(
-        out,
-        at,
-        paths::count_as_path(s, request::width(h.settings)),
-    )
+    put_path(out, at, paths::count_as_path(s, request::width(h.settings)))
 }
 
 // Op 8.

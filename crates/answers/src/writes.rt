@@ -39,17 +39,19 @@ fn aggregator(h: Head, one: &[u8], w: &mut [u8]) -> WriteAnswer {
 }
 
 // A writer's answer: rows and more are the numbers of the parts that hold numbers.
-fn written(h: Head, one: &[u8], two: &[u8], rows: &[u32], more: &[u32], w: &mut [u8]) -> WriteAnswer {
+fn written(
+    h: Head,
+    one: &[u8],
+    two: &[u8],
+    rows: &[u32],
+    more: &[u32],
+    w: &mut [u8],
+) -> WriteAnswer {
     let op = h.op;
     let form = request::form(h.settings);
     match op {
         13 => route_writer::encode_nlri_prefixes(rows, request::afi(h.settings), form, w),
-        14 => of_asns(path_writer::encode_as_path(
-            rows,
-            more,
-            request::width(h.settings),
-            w,
-        )),
+        14 => of_asns(path_writer::encode_as_path(rows, more, request::width(h.settings), w)),
         15 => aggregator(h, one, w),
         16 => of_messages(messages::encode_bgp_message(h.argument, one, w)),
         _ => update_writer::encode_bgp_update_message(rows, two, more, form, w),
