@@ -21,31 +21,19 @@ struct State {
     over: bool,
 }
 
+// A writer over the parts of a record: the stores take the numbers that the parts hold.
 fn writer(
     h: Head,
     s: &[u8],
-    rows: &mut [u32],
-    more: &mut [u32],
+    a: &mut [u32],
+    b: &mut [u32],
     w: &mut [u8],
     out: &mut [u8],
     at: usize,
 ) -> usize {
     let one = request::part_one(s, h);
     let two = request::part_two(s, h);
-    if h.op == 17 {
-        return writes::answer(
-            h,
-            one,
-            two,
-            request::part_three(s, h),
-            rows,
-            more,
-            w,
-            out,
-            at,
-        );
-    }
-    writes::answer(h, one, two, two, rows, more, w, out, at)
+    writes::answer(h, one, two, request::last_part(s, h), a, b, w, out, at)
 }
 
 // The call that an op names.
@@ -55,15 +43,13 @@ fn called(
     a: &mut [u32],
     b: &mut [u32],
     w: &mut [u8],
-    rows: &mut [u32],
-    more: &mut [u32],
     out: &mut [u8],
     at: usize,
 ) -> usize {
     if h.op < 13 {
         return reads::answer(h, request::part_one(s, h), a, b, out, at);
     }
-    writer(h, s, rows, more, w, out, at)
+    writer(h, s, a, b, w, out, at)
 }
 
 // The line of a whole record.
@@ -73,15 +59,13 @@ fn answer(
     a: &mut [u32],
     b: &mut [u32],
     w: &mut [u8],
-    rows: &mut [u32],
-    more: &mut [u32],
     out: &mut [u8],
     at: usize,
 ) -> usize {
     let h = request::read_head(s);
     let mut next = line::decimal(out, at, record);
     next = line::number(out, next, h.op as usize);
-    next = called(h, s, a, b, w, rows, more, out, next);
+    next = called(h, s, a, b, w, out, next);
     line::put(out, next, b"\n")
 }
 
@@ -179,8 +163,6 @@ fn turn(
     a: &mut [u32],
     b: &mut [u32],
     w: &mut [u8],
-    rows: &mut [u32],
-    more: &mut [u32],
     out: &mut [u8],
 ) -> State {
     let start = state.start;
@@ -188,7 +170,7 @@ fn turn(
     match request::judge(wire::part(input, start, left), state.ended) {
         Judged::Whole(size) => {
             let s = wire::part(input, start, size);
-            let at = answer(s, state.record, a, b, w, rows, more, out, state.at);
+            let at = answer(s, state.record, a, b, w, out, state.at);
             after(state, size, at, out)
         }
         Judged::More => refill(state, input, out),
@@ -198,15 +180,7 @@ fn turn(
 }
 
 // The budget is more turns than a run has.
-fn run(
-    input: &mut [u8],
-    a: &mut [u32],
-    b: &mut [u32],
-    w: &mut [u8],
-    rows: &mut [u32],
-    more: &mut [u32],
-    out: &mut [u8],
-) {
+fn run(input: &mut [u8], a: &mut [u32], b: &mut [u32], w: &mut [u8], out: &mut [u8]) {
     let mut state = State {
         start: 0,
         have: 0,
@@ -220,7 +194,7 @@ fn run(
         if state.over {
             return;
         }
-        state = turn(state, input, a, b, w, rows, more, out);
+        state = turn(state, input, a, b, w, out);
         budget = budget - 1;
     }
 }
@@ -230,16 +204,6 @@ fn main() {
     let mut a = [0u32; 400000];
     let mut b = [0u32; 400000];
     let mut w = [0u8; 400000];
-    let mut rows = [0u32; 100000];
-    let mut more = [0u32; 100000];
     let mut out = [0u8; 65536];
-    run(
-        &mut input,
-        &mut a,
-        &mut b,
-        &mut w,
-        &mut rows,
-        &mut more,
-        &mut out,
-    );
+    run(&mut input, &mut a, &mut b, &mut w, &mut out);
 }

@@ -137,8 +137,12 @@ pub fn part_two(s: &[u8], h: Head) -> &[u8] {
     wire::part(s, plus(HEAD_SIZE, h.one), h.two)
 }
 
-pub fn part_three(s: &[u8], h: Head) -> &[u8] {
-    wire::part(s, plus(plus(HEAD_SIZE, h.one), h.two), h.three)
+// The second part that holds numbers, where an op has two such.
+pub fn last_part(s: &[u8], h: Head) -> &[u8] {
+    if h.op == 17 {
+        return wire::part(s, plus(plus(HEAD_SIZE, h.one), h.two), h.three);
+    }
+    part_two(s, h)
 }
 
 // Settings, a sum: 1 Add-Path, 2 guess, 4 IPv6, 8 AS numbers of four bytes, 16 strict.

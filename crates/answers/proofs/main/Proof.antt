@@ -18,13 +18,7 @@ slice-aggregate-run-4 : tie.Need-slice-aggregate-run-4
 slice-aggregate-run-4 c = sym (length-replicate {A = ℕ} 400000 0)
 
 slice-aggregate-run-5 : tie.Need-slice-aggregate-run-5
-slice-aggregate-run-5 c = sym (length-replicate {A = ℕ} 100000 0)
-
-slice-aggregate-run-6 : tie.Need-slice-aggregate-run-6
-slice-aggregate-run-6 c = sym (length-replicate {A = ℕ} 100000 0)
-
-slice-aggregate-run-7 : tie.Need-slice-aggregate-run-7
-slice-aggregate-run-7 c = sym (length-replicate {A = ℕ} 65536 0)
+slice-aggregate-run-5 c = sym (length-replicate {A = ℕ} 65536 0)
 
 run-requires : tie.Need-run-requires
 run-requires c κs = search needs
@@ -33,4 +27,4 @@ returns : tie.Need-returns
 returns c = search needs
 
 pub main-spec : {M : Type 1} → statement M
-main-spec = tie.close (tie.spec slice-aggregate-run slice-aggregate-run-2 slice-aggregate-run-3 slice-aggregate-run-4 slice-aggregate-run-5 slice-aggregate-run-6 slice-aggregate-run-7 run-requires returns)
+main-spec = tie.close (tie.spec slice-aggregate-run slice-aggregate-run-2 slice-aggregate-run-3 slice-aggregate-run-4 slice-aggregate-run-5 run-requires returns)
