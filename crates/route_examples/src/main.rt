@@ -1,4 +1,5 @@
 // Runs the route examples of document 01 through the calls of routes and prints what they answer.
+use route_writer::WriteAnswer;
 use routes::AddPath;
 use routes::Afi;
 use routes::Form;
@@ -109,6 +110,57 @@ fn show_list(a: ListAnswer, store: &[u32], afi: Afi) {
     }
 }
 
+// Whether the first n bytes of a are those of b, and b has no more.
+fn same(a: &[u8], n: usize, b: &[u8]) -> bool {
+    if n != b.len() {
+        return false;
+    }
+    let mut i: usize = 0;
+    while i < b.len() {
+        if wire::octet(a, i) != b[i] {
+            return false;
+        }
+        i = i + 1;
+    }
+    true
+}
+
+fn form_of(mode: AddPath) -> Form {
+    match mode {
+        AddPath::On => Form::Tagged,
+        AddPath::Off => Form::Plain,
+        AddPath::Guess => Form::Plain,
+    }
+}
+
+// The rows of a list written again: the bytes they came from, or why they cannot be written.
+fn write_back(rows: &[u32], afi: Afi, mode: AddPath, s: &[u8]) {
+    let mut out = [0u8; 64];
+    text(b"  write ");
+    match route_writer::encode_nlri_prefixes(rows, afi, form_of(mode), &mut out) {
+        WriteAnswer::Bytes(n) => {
+            if same(&out, n, s) {
+                text(b"the same bytes\n");
+            } else {
+                text(b"other bytes\n");
+            }
+        }
+        WriteAnswer::Refused(n) => refused(n),
+    }
+}
+
+fn write_read(a: ListAnswer, store: &[u32], afi: Afi, mode: AddPath, s: &[u8]) {
+    match a {
+        ListAnswer::Rows(n) => {
+            if n <= store.len() / 6 {
+                let e = 6 * n;
+                write_back(&store[0..e], afi, mode, s);
+            }
+        }
+        ListAnswer::Refused(_) => {}
+    }
+}
+
 fn heading(afi: Afi, mode: AddPath, s: &[u8]) {
     match afi {
         Afi::Ipv4 => text(b"IPv4"),
@@ -123,7 +175,7 @@ fn heading(afi: Afi, mode: AddPath, s: &[u8]) {
     text(b"\n");
 }
 
-// A list: what the counting reader answers, and the rows.
+// A list: what the counting reader answers, the rows, and what they are written as.
 fn list(s: &[u8], afi: Afi, mode: AddPath) {
     text(b"list ");
     heading(afi, mode, s);
@@ -133,6 +185,7 @@ fn list(s: &[u8], afi: Afi, mode: AddPath) {
     text(b"  read ");
     let answer = routes::parse_nlri_list(s, afi, mode, &mut store);
     show_list(answer, &store, afi);
+    write_read(answer, &store, afi, mode, s);
 }
 
 // A section of an UPDATE, likewise.

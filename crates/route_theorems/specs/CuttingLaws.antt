@@ -11,23 +11,15 @@ use lib.ListN.{length, getD, take, drop, length-append, length-drop, take-append
 use lib.Seq.{length-take-le, take-add, drop-cons, take-append-seam, drop-append-seam, getD-at, getD-take}
 use Rattle.wire.specs.Walk.{took, stop, whole, more, readAll, pieces}
 use Rattle.wire.specs.WalkLaws.{all-nil, all-took, all-stop, all-ind, pieces-nil, pieces-took}
-use Rattle.routes.specs.Prefix.{idSize, octets, itemRow, prefixOf}
+use Rattle.routes.specs.Prefix.{idSize, octets, itemRow}
 use Rattle.routes.specs.PrefixLaws.{Took, took-prefix}
-use Rattle.routes.specs.List.{asStep, inForm, stepOf, strange}
-use Rattle.routes.specs.ListLaws.{sound, step-took, guess-plain}
+use Rattle.routes.specs.List.{fixed, asStep, inForm, stepOf, strange}
+use Rattle.routes.specs.ListLaws.{step-form, fixed-form, sound, step-took, guess-plain}
 use Rattle.routes.specs.declared.Form.{Form}
 use Rattle.routes.specs.declared.Form.the-variants.{Plain, Tagged}
-use Rattle.routes.specs.declared.AddPath.{AddPath}
-use Rattle.routes.specs.declared.AddPath.the-variants.{On, Off, Guess}
+use Rattle.routes.specs.declared.AddPath.the-variants.{Off, Guess}
 use Rattle.routes.specs.declared.Row.{Row}
-use Rattle.routes.specs.declared.PrefixAnswer.{PrefixAnswer}
-use Rattle.routes.specs.declared.PrefixAnswer.the-variants as P
 use Rattle.route_theorems.specs.Cutting.{WellFormed, AllFormed, none, one, joined, Cutting, NoZero, no-zero}
-
--- the setting under which every item has a form
-abbrev pub settingOf : Form → AddPath
-settingOf Plain = Off
-settingOf Tagged = On
 
 -- ---- one item
 
@@ -68,13 +60,12 @@ took-formed s max form used row t =
 
 -- ---- the step of a setting that has one form
 
-form-step : (max : ℕ) (form st : Form) (s : List ℕ) → stepOf max (settingOf form) st s ≡ inForm max form s
+form-step : (max : ℕ) (form st : Form) (s : List ℕ) → stepOf max (fixed form) st s ≡ inForm max form s
 unfolding stepOf
-form-step max Plain st s = refl
-form-step max Tagged st s = refl
+form-step max form st s = ap (λ (f : Form). inForm max f s) (fixed-form max form st s)
 
 pub formed-step : (max : ℕ) (form st : Form) (item rest : List ℕ) → WellFormed max form item
-    → stepOf max (settingOf form) st (item ++ rest) ≡ took (length item) (itemRow form item) form
+    → stepOf max (fixed form) st (item ++ rest) ≡ took (length item) (itemRow form item) form
 unfolding inForm
 formed-step max form st item rest w =
     form-step max form st (item ++ rest) ∙ ap (asStep form) (took-prefix (item ++ rest) max form (length item) (itemRow form item) (formed-took max form item rest w))
@@ -83,46 +74,41 @@ formed-long : (max : ℕ) (form : Form) (item : List ℕ) → WellFormed max for
 formed-long max form item w = omega (arith, ap length (w .parts), length-append (w .ident) (w .len ∷ w .prefix))
 
 -- whatever is taken under such a setting leaves its form
-step-form : (max : ℕ) (form st st′ : Form) (s : List ℕ) (used : ℕ) (row : Row) → stepOf max (settingOf form) st s ≡ took used row st′ → st′ ≡ form
-unfolding inForm
-step-form max form st st′ s used row e = by (prefixOf s max form) (sym (form-step max form st s) ∙ e)
-  where
-    by : (a : PrefixAnswer) → asStep form a ≡ took used row st′ → st′ ≡ form
-    by (P.Prefix u r) f = cc
-    by (P.Refused n) f = let z : _≡_ {A = ℕ} 0 1 = cc in absurd (let bad : ⊥ = omega arith in bad)
+left-form : (max : ℕ) (form st st′ : Form) (s : List ℕ) (used : ℕ) (row : Row) → stepOf max (fixed form) st s ≡ took used row st′ → st′ ≡ form
+left-form max form st st′ s used row e = sym (step-form max (fixed form) st st′ s used row e) ∙ fixed-form max form st s
 
 -- ---- all items
 
 module _ (max : ℕ) (form : Form) where
   -- from a cutting, the rows and the pieces of the reading
   pub cut-read : (st : Form) (items : List (List ℕ)) → AllFormed max form items
-      → readAll (stepOf max (settingOf form)) st (joined items) ≡ record { rows = map (itemRow form) items; verdict = 0 }
-  cut-read st [] none = all-nil (stepOf max (settingOf form)) st
+      → readAll (stepOf max (fixed form)) st (joined items) ≡ record { rows = map (itemRow form) items; verdict = 0 }
+  cut-read st [] none = all-nil (stepOf max (fixed form)) st
   cut-read st (item ∷ items) (one w ws) =
       let long = formed-long max form item w in
-      all-took (stepOf max (settingOf form)) st form (item ++ joined items) (length item) (itemRow form item) (omega (arith, length-append item (joined items))) long
+      all-took (stepOf max (fixed form)) st form (item ++ joined items) (length item) (itemRow form item) (omega (arith, length-append item (joined items))) long
       (formed-step max form st item (joined items) w)
-      ∙ ap (λ (t : List ℕ). more (itemRow form item) (readAll (stepOf max (settingOf form)) form t)) (drop-append-seam item (joined items))
+      ∙ ap (λ (t : List ℕ). more (itemRow form item) (readAll (stepOf max (fixed form)) form t)) (drop-append-seam item (joined items))
       ∙ ap (more (itemRow form item)) (cut-read form items ws)
 
-  pub cut-pieces : (st : Form) (items : List (List ℕ)) → AllFormed max form items → pieces (stepOf max (settingOf form)) st (joined items) ≡ items
-  cut-pieces st [] none = pieces-nil (stepOf max (settingOf form)) st
+  pub cut-pieces : (st : Form) (items : List (List ℕ)) → AllFormed max form items → pieces (stepOf max (fixed form)) st (joined items) ≡ items
+  cut-pieces st [] none = pieces-nil (stepOf max (fixed form)) st
   cut-pieces st (item ∷ items) (one w ws) =
       let long = formed-long max form item w in
-      pieces-took (stepOf max (settingOf form)) st form (item ++ joined items) (length item) (itemRow form item) (omega (arith, length-append item (joined items))) long
+      pieces-took (stepOf max (fixed form)) st form (item ++ joined items) (length item) (itemRow form item) (omega (arith, length-append item (joined items))) long
       (formed-step max form st item (joined items) w)
       ∙ ap₂ _∷_ (take-append-seam item (joined items))
-      (ap (pieces (stepOf max (settingOf form)) form) (drop-append-seam item (joined items)) ∙ cut-pieces form items ws)
+      (ap (pieces (stepOf max (fixed form)) form) (drop-append-seam item (joined items)) ∙ cut-pieces form items ws)
 
   -- from a reading that refuses nothing, a cutting
-  pub read-cut : (st : Form) (s : List ℕ) → readAll (stepOf max (settingOf form)) st s .verdict ≡ 0 → (items : List (List ℕ)) × Cutting max form s items
+  pub read-cut : (st : Form) (s : List ℕ) → readAll (stepOf max (fixed form)) st s .verdict ≡ 0 → (items : List (List ℕ)) × Cutting max form s items
   read-cut st s =
-      all-ind (stepOf max (settingOf form)) (sound max (settingOf form)) (λ _ t r. r .verdict ≡ 0 → (items : List (List ℕ)) × Cutting max form t items)
+      all-ind (stepOf max (fixed form)) (sound max (fixed form)) (λ _ t r. r .verdict ≡ 0 → (items : List (List ℕ)) × Cutting max form t items)
       (λ _ _. ([], record { formed = none; whole = refl }))
-      (λ st₁ t n pos e v. absurd (let lt : 0 < n = sound max (settingOf form) .names st₁ t n e in omega arith))
+      (λ st₁ t n pos e v. absurd (let lt : 0 < n = sound max (fixed form) .names st₁ t n e in omega arith))
       (λ st₁ st₂ t used row pos e again v.
-      let there : Took t max st₂ used row = step-took max (settingOf form) st₁ st₂ t used row e in
-      let item : WellFormed max form (take used t) = took-formed t max form used row (rw (step-form max form st₁ st₂ t used row e) at there) in
+      let there : Took t max st₂ used row = step-took max (fixed form) st₁ st₂ t used row e in
+      let item : WellFormed max form (take used t) = took-formed t max form used row (rw (left-form max form st₁ st₂ t used row e) at there) in
       let rest = again v in
       (take used t ∷ rest .0, record { formed = one item (rest .1 .formed); whole = ap (λ (l : List ℕ). take used t ++ l) (rest .1 .whole) ∙ take-append-drop used t }))
       st s
@@ -154,7 +140,7 @@ guess-same max st s =
     let here : NoZero (take used t ∷ pieces (stepOf max Off) st₂ (drop used t)) = subst NoZero (pieces-took (stepOf max Off) st₁ st₂ t used row pos up e) nz in
     let first = first-of here in
     let byte : getD t 0 0 ≡ 0 → ⊥ = λ z. first .0 (getD-take used t 0 0 up ∙ z) in
-    all-took (stepOf max Guess) Plain Plain t used row pos up (guess-step max st₁ t byte ∙ e ∙ ap (took used row) (step-form max Plain st₁ st₂ t used row e))
+    all-took (stepOf max Guess) Plain Plain t used row pos up (guess-step max st₁ t byte ∙ e ∙ ap (took used row) (left-form max Plain st₁ st₂ t used row e))
     ∙ ap (more row) (again (first .1)))
     st s
   where

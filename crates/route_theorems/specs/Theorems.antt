@@ -14,7 +14,7 @@ use Rattle.wire.specs.Store.{laid}
 use Rattle.wire.specs.Walk.{Reading, pieces, flat}
 use Rattle.wire.specs.WalkLaws.{tally-one, tally-flat}
 use Rattle.routes.specs.Prefix.{itemRow, words}
-use Rattle.routes.specs.List.{stepOf, listOf, strange, sectionOf}
+use Rattle.routes.specs.List.{fixed, stepOf, listOf, strange, sectionOf}
 use Rattle.routes.specs.ListLaws.{count-good, count-rows, leave-rows, section-strange, section-list}
 use Rattle.routes.specs.Promises.{countAnswer, readAnswer}
 use Rattle.routes.specs.declared.Form.{Form}
@@ -27,56 +27,56 @@ use Rattle.route_writer.specs.Promises.{measured, writeAnswer, outAfter}
 use Rattle.route_writer.specs.PromiseLaws.{measured-good, measured-bytes, leave-bytes}
 use Rattle.route_writer.specs.declared.WriteAnswer.the-variants as W
 use Rattle.route_theorems.specs.Cutting.{Cutting, NoZero, Words}
-use Rattle.route_theorems.specs.CuttingLaws.{settingOf, cut-read, cut-pieces, read-cut, cut-not-strange, guess-same}
+use Rattle.route_theorems.specs.CuttingLaws.{cut-read, cut-pieces, read-cut, cut-not-strange, guess-same}
 use Rattle.route_theorems.specs.RowLaws.{rows-write, items-rows, rows-items, store-rows}
 
 module _ (max : ℕ) (form : Form) where
   -- the reading of bytes that have a cutting
-  read-by : (s : List ℕ) (items : List (List ℕ)) → Cutting max form s items → listOf s max (settingOf form) ≡ record { rows = map (itemRow form) items; verdict = 0 }
+  read-by : (s : List ℕ) (items : List (List ℕ)) → Cutting max form s items → listOf s max (fixed form) ≡ record { rows = map (itemRow form) items; verdict = 0 }
   unfolding listOf
   read-by s items c = rw (← c .whole) (cut-read max form Plain items (c .formed))
 
   -- 1. A list of at most 65,535 bytes is accepted exactly if its bytes can be cut into well-formed routes; and where there is room for them it is read.
-  pub accepted-cut : (s : List ℕ) (n : ℕ) → countAnswer s (listOf s max (settingOf form)) ≡ Rows n → (items : List (List ℕ)) × Cutting max form s items
+  pub accepted-cut : (s : List ℕ) (n : ℕ) → countAnswer s (listOf s max (fixed form)) ≡ Rows n → (items : List (List ℕ)) × Cutting max form s items
   unfolding listOf
-  accepted-cut s n e = read-cut max form Plain s (count-rows s (listOf s max (settingOf form)) n e .0)
+  accepted-cut s n e = read-cut max form Plain s (count-rows s (listOf s max (fixed form)) n e .0)
 
   pub cut-accepted : (s : List ℕ) (items : List (List ℕ)) → length s ≤ listLimit → Cutting max form s items
-      → countAnswer s (listOf s max (settingOf form)) ≡ Rows (length items)
+      → countAnswer s (listOf s max (fixed form)) ≡ Rows (length items)
   cut-accepted s items short c =
-      let r : Reading Row = listOf s max (settingOf form) in
+      let r : Reading Row = listOf s max (fixed form) in
       let e = read-by s items c in
       count-good s r (length items) short (ap (λ (x : Reading Row). x .verdict) e, tally-one (r .rows) ∙ ap (λ (x : Reading Row). length (x .rows)) e ∙ length-map items (itemRow form))
 
   pub cut-read-in : (s : List ℕ) (items : List (List ℕ)) (store : List ℕ) → length s ≤ listLimit → Cutting max form s items → length items ≤ length store / 6
-      → readAnswer s (listOf s max (settingOf form)) (length store) ≡ Rows (length items)
-  cut-read-in s items store short c room = sym (leave-rows s (listOf s max (settingOf form)) store (length items) (cut-accepted s items short c) room .0)
+      → readAnswer s (listOf s max (fixed form)) (length store) ≡ Rows (length items)
+  cut-read-in s items store short c room = sym (leave-rows s (listOf s max (fixed form)) store (length items) (cut-accepted s items short c) room .0)
 
   -- and so is a section of an UPDATE: the rule of one byte refuses nothing that has a cutting
-  pub section-cut : (s : List ℕ) (n : ℕ) → countAnswer s (sectionOf s max (settingOf form)) ≡ Rows n → (items : List (List ℕ)) × Cutting max form s items
+  pub section-cut : (s : List ℕ) (n : ℕ) → countAnswer s (sectionOf s max (fixed form)) ≡ Rows n → (items : List (List ℕ)) × Cutting max form s items
   section-cut s n e = by (strange s) refl
     where
       by : (t : Bool) → strange s ≡ t → (items : List (List ℕ)) × Cutting max form s items
-      by true p = let no = section-strange s max (settingOf form) p in let z : _≡_ {A = ℕ} 0 1 = cc in absurd (omega arith)
-      by false p = accepted-cut s n (rw (section-list s max (settingOf form) p) at e)
+      by true p = let no = section-strange s max (fixed form) p in let z : _≡_ {A = ℕ} 0 1 = cc in absurd (omega arith)
+      by false p = accepted-cut s n (rw (section-list s max (fixed form) p) at e)
 
-  pub section-is-list : (s : List ℕ) (items : List (List ℕ)) → Cutting max form s items → sectionOf s max (settingOf form) ≡ listOf s max (settingOf form)
-  section-is-list s items c = section-list s max (settingOf form) (cut-not-strange max form s items c)
+  pub section-is-list : (s : List ℕ) (items : List (List ℕ)) → Cutting max form s items → sectionOf s max (fixed form) ≡ listOf s max (fixed form)
+  section-is-list s items c = section-list s max (fixed form) (cut-not-strange max form s items c)
 
   -- 2. Two cuttings of the same bytes are equal.
   pub cutting-unique : (s : List ℕ) (items items′ : List (List ℕ)) → Cutting max form s items → Cutting max form s items′ → items ≡ items′
   cutting-unique s items items′ c c′ =
       sym (cut-pieces max form Plain items (c .formed))
-      ∙ ap (pieces (stepOf max (settingOf form)) Plain) (c .whole ∙ sym (c′ .whole))
+      ∙ ap (pieces (stepOf max (fixed form)) Plain) (c .whole ∙ sym (c′ .whole))
       ∙ cut-pieces max form Plain items′ (c′ .formed)
 
   -- 3. The rows read are those of the items of the cutting.
-  pub rows-of-items : (s : List ℕ) (items : List (List ℕ)) → Cutting max form s items → listOf s max (settingOf form) .rows ≡ map (itemRow form) items
+  pub rows-of-items : (s : List ℕ) (items : List (List ℕ)) → Cutting max form s items → listOf s max (fixed form) .rows ≡ map (itemRow form) items
   rows-of-items s items c = ap (λ (r : Reading Row). r .rows) (read-by s items c)
 
   -- 4. Writing the rows read gives the bytes back, at the front of any output that has room for them.
   rows-written : max ≤ 128 → (s : List ℕ) (items : List (List ℕ)) → Bytes s → Cutting max form s items
-      → let ws = flat words (listOf s max (settingOf form) .rows) in (writing ws max form .verdict ≡ 0) × (flat (rowBytes form) (writing ws max form .rows) ≡ s)
+      → let ws = flat words (listOf s max (fixed form) .rows) in (writing ws max form .verdict ≡ 0) × (flat (rowBytes form) (writing ws max form .rows) ≡ s)
   unfolding writing
   rows-written small s items b c =
       let h = items-rows max small form items (c .formed) (rw (← c .whole) at b) in
@@ -85,11 +85,11 @@ module _ (max : ℕ) (form : Form) where
       (ap (λ (r : Reading Row). r .verdict) w, ap (λ (r : Reading Row). flat (rowBytes form) (r .rows)) w ∙ h .1 ∙ c .whole)
 
   pub written-back : max ≤ 128 → (s : List ℕ) (items : List (List ℕ)) (out : List ℕ) → Bytes s → Cutting max form s items → length s ≤ listLimit → length s ≤ length out
-      → let ws = flat words (listOf s max (settingOf form) .rows) in
+      → let ws = flat words (listOf s max (fixed form) .rows) in
       (writeAnswer ws max form (length out) ≡ W.Bytes (length s)) × (outAfter ws max form out ≡ s ++ drop (length s) out)
   unfolding bytesOf
   written-back small s items out b c short room =
-      let ws : List ℕ = flat words (listOf s max (settingOf form) .rows) in
+      let ws : List ℕ = flat words (listOf s max (fixed form) .rows) in
       let h = rows-written small s items b c in
       let size = tally-flat (rowBytes form) (writing ws max form .rows) ∙ ap length (h .1) in
       let l = leave-bytes ws max form out (length s) (measured-good ws max form (length s) (h .0, size)) short room in

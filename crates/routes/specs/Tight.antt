@@ -15,6 +15,8 @@ use Rattle.routes.specs.declared.ListAnswer.{ListAnswer}
 use Rattle.routes.specs.declared.PairAnswer.{PairAnswer}
 use Rattle.routes.specs.declared.AddPath.{AddPath}
 
+-- max_len, id_size, mark_of and octet_count answer one number each: `tight-number` of wire
+
 -- try_parse_prefix
 pub tight-prefix : (s : List ℕ) (max : ℕ) (form : Form) (a b : PrefixAnswer) → a ≡ prefixOf s max form → b ≡ prefixOf s max form → a ≡ b
 tight-prefix s max form a b e f = e ∙ sym f

@@ -8,3 +8,4 @@ pub mod Parts
 pub mod Store
 pub mod Turn
 pub mod Extent
+pub mod Tight

@@ -49,14 +49,6 @@ toBe-four v =
     let d : v % 256 ^ 3 % 256 ^ 2 % 256 ^ 1 / 256 ^ 0 ≡ v % 256 = omega arith in
     ap (λ (l : List ℕ). v / 16777216 ∷ l) (ap₂ _∷_ b (ap₂ _∷_ c (ap (λ (x : ℕ). x ∷ []) d)))
 
--- the two bytes of a number, as the first of four
-pub toBe-two : (v : ℕ) → v < 65536 → take 2 (toBe 4 (v * 65536)) ≡ toBe 2 v
-toBe-two v h =
-    let x : ℕ = v * 65536 in
-    let high : x / 16777216 ≡ v / 256 = omega arith in
-    let low : x / 65536 % 256 ≡ v % 256 / 1 = omega arith in
-    ap (take 2) (toBe-four x) ∙ ap₂ _∷_ high (ap (λ (b : ℕ). b ∷ []) low)
-
 -- ---- bytes of parts
 
 pub bytes-drop : (n : ℕ) (s : List ℕ) → Bytes s → Bytes (drop n s)

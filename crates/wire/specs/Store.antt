@@ -117,3 +117,47 @@ placed-nil d at = pick-leb (λ (l : List ℕ). l ≡ d) (at + 0) (length d) (lai
 pub paste-laid : (d : List ℕ) (at : ℕ) (vs : List ℕ) → paste d at vs (length vs) ≡ laid d at vs
 paste-laid d at vs =
     ap (λ (l : List ℕ). (take at d ++ l) ++ drop (at + length vs) d) (take-length vs) ∙ append-assoc (take at d) vs (drop (at + length vs) d)
+
+-- ---- values laid part by part
+
+-- at the head of a loop: `all` goes to `start`, and `left` of it is still to come, at `to`
+pub record Laying (d₀ : List ℕ) (start : ℕ) (all : List ℕ) (d : List ℕ) (to : ℕ) (left : List ℕ) : Type 0 where
+  pub done : List ℕ
+  pub parts : done ++ left ≡ all
+  pub place : to ≡ start + length done
+  pub store : d ≡ laid d₀ start done
+
+module _ (d₀ : List ℕ) (start : ℕ) (all : List ℕ) (fits : start + length all ≤ length d₀) where
+  pub laying-start : Laying d₀ start all d₀ start all
+  laying-start = record { done = []; parts = refl; place = sym (add-zero start); store = sym (laid-nil d₀ start) }
+
+  module _ (d : List ℕ) (to : ℕ) (left : List ℕ) (h : Laying d₀ start all d to left) where
+    whole-length : length (h .done) + length left ≡ length all
+    whole-length = sym (length-append (h .done) left) ∙ ap length (h .parts)
+
+    pub laying-long : length d ≡ length d₀
+    laying-long = ap length (h .store) ∙ length-laid d₀ start (h .done) (omega (arith, whole-length))
+
+    pub laying-room : to + length left ≤ length d
+    laying-room = omega (arith, whole-length, laying-long, h .place)
+
+    pub laying-step : (vs left′ : List ℕ) → left ≡ vs ++ left′ → Laying d₀ start all (laid d to vs) (to + length vs) left′
+    laying-step vs left′ e =
+        let n : length left ≡ length vs + length left′ = ap length e ∙ length-append vs left′ in
+        record {
+          done = h .done ++ vs;
+          parts = append-assoc (h .done) vs left′ ∙ ap (λ (l : List ℕ). h .done ++ l) (sym e) ∙ h .parts;
+          place = omega (arith, h .place, length-append (h .done) vs);
+          store =
+              ap₂ (λ (l : List ℕ) (k : ℕ). laid l k vs) (h .store) (h .place)
+              ∙ laid-laid d₀ start (h .done) vs (omega (arith, n, whole-length));
+        }
+
+    -- one value, as code stores it
+    pub laying-set : (v : ℕ) (left′ : List ℕ) → left ≡ v ∷ left′ → Laying d₀ start all (set d to v) (to + 1) left′
+    laying-set v left′ e =
+        let fit : to + 1 ≤ length d = omega (arith, laying-room, ap length e) in
+        rw (puts-laid d to (v ∷ []) fit) (laying-step (v ∷ []) left′ e)
+
+    pub laying-done : left ≡ [] → d ≡ laid d₀ start all
+    laying-done e = h .store ∙ ap (laid d₀ start) (sym (append-nil (h .done)) ∙ ap (λ (l : List ℕ). h .done ++ l) (sym e) ∙ h .parts)

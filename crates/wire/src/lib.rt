@@ -83,6 +83,20 @@ pub fn u32_at(s: &[u8], at: usize) -> u32
     )
 }
 
+// The two bytes of a number, at a place of the output.
+pub fn put_u16(out: &mut [u8], to: usize, v: u16)
+    ensures { λ _. ⌜ now (out .exit) ≡ placed (now (out .entry)) to (toBe 2 v) ⌝ }
+{
+    if out.len() < to {
+        return;
+    }
+    if out.len() - to < 2 {
+        return;
+    }
+    out[to] = (v / 256) as u8;
+    out[to + 1] = (v % 256) as u8;
+}
+
 // The first m of the four bytes of a number, at a place of the output.
 pub fn put_octets(out: &mut [u8], to: usize, v: u32, m: usize)
     ensures { λ _. ⌜ now (out .exit) ≡ placed (now (out .entry)) to (take m (toBe 4 v)) ⌝ }
@@ -153,11 +167,4 @@ pub fn part(s: &[u8], start: usize, size: usize) -> &[u8]
     }
     let end = start + size;
     &s[start..end]
-}
-
-// A number of two bytes, at a place of the output.
-pub fn put_u16(out: &mut [u8], to: usize, v: u16)
-    ensures { λ _. ⌜ now (out .exit) ≡ placed (now (out .entry)) to (toBe 2 v) ⌝ }
-{
-    put_octets(out, to, v as u32 * 65536, 2);
 }

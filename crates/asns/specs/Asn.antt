@@ -1,0 +1,35 @@
+-- AS numbers as bytes: of two octets, or of four (RFC 6793 section 4.1), the first byte highest (RFC 4271 section 4).
+use Prim.Native.Nat.{ℕ, zero, suc, _+_, _^_}
+use mathlib.Core.List.{List}
+use mathlib.Core.Bool.{Bool}
+use lib.Dec.{ltb}
+use Rattle.wire.specs.Choice.{pick}
+use Rattle.wire.specs.Number.{toBe}
+use Rattle.wire.specs.Store.{laid, placed}
+use Rattle.asns.specs.declared.AsnLength.{AsnLength}
+use Rattle.asns.specs.declared.AsnLength.the-variants.{Bits16, Bits32}
+use Rattle.asns.specs.declared.WriteAnswer.{WriteAnswer}
+use Rattle.asns.specs.declared.WriteAnswer.the-variants as W
+
+-- the bytes of an AS number
+abbrev pub widthOf : AsnLength → ℕ
+widthOf Bits16 = 2
+widthOf Bits32 = 4
+
+-- the bytes of n AS numbers of w bytes; by recursion, since both are unknown
+unfoldable pub span : ℕ → ℕ → ℕ
+span w zero = 0
+span w (suc n) = w + span w n
+
+-- the width's bytes hold the number
+abbrev pub fitsWidth : ℕ → AsnLength → Bool
+fitsWidth asn width = ltb asn (256 ^ widthOf width)
+
+-- an output with the number at a place, where the width holds it and there is room
+unfoldable pub withNumber : List ℕ → ℕ → ℕ → AsnLength → List ℕ
+withNumber out to asn width = pick (fitsWidth asn width) (placed out to (toBe (widthOf width) asn)) out
+
+-- an output afterwards: the bytes from its front where they were written, and else as it was
+abbrev pub written : WriteAnswer → List ℕ → List ℕ → List ℕ
+written (W.Written n) bytes out = laid out 0 bytes
+written (W.Refused n) bytes out = out

@@ -1,0 +1,5 @@
+pub mod Asn
+pub mod AsnLaws
+pub mod Aggregator
+pub mod AggregatorLaws
+pub mod Tight

@@ -1,0 +1,35 @@
+use borrow.Author.Tests.{not-true, not-false}
+use native.Mathlib.Omega.{arith}
+use mathlib.Core.Path.{sym, _∙_}
+use Rattle.asns.specs.Asn.{widthOf}
+use Rattle.paths.specs.Segment.{knownType}
+use Rattle.path_writer.specs.WriteLaws.{fault-rule, fault-long, fault-wide, none-fault}
+use borrow.Author.Needs.{needs}
+use Rattle.path_writer.proofs.segment_fault.Statement.{statement}
+use Rattle.path_writer.proofs.segment_fault.Tie as tie
+
+type-fault-requires : tie.Need-type-fault-requires
+type-fault-requires c κs = search needs
+
+returns : tie.Need-returns
+returns c = let a = c .before .before .before .args in fault-rule knownType (widthOf (a .width)) (a .kind) (a .count) _ _ (c .before .type-fault .ensures) (omega (arith, c .if1 .taken))
+
+returns-2 : tie.Need-returns-2
+returns-2 c = let a = c .before .before .before .before .args in fault-long knownType (widthOf (a .width)) (a .kind) (a .count) _ (sym (c .before .if1 .left) ∙ c .before .before .type-fault .ensures) (c .if2 .taken)
+
+all-fit-requires : tie.Need-all-fit-requires
+all-fit-requires c κs = search needs
+
+returns-3 : tie.Need-returns-3
+returns-3 c =
+    let a = c .before .before .before .before .before .before .args in
+    fault-wide knownType (widthOf (a .width)) (a .kind) (a .count) _ (sym (c .before .before .before .if1 .left) ∙ c .before .before .before .before .type-fault .ensures) (c .before .before .if2 .left) (sym (c .before .all-fit .ensures) ∙ not-true _ (c .if3 .taken))
+
+returns-4 : tie.Need-returns-4
+returns-4 c =
+    let a = c .before .before .before .before .before .before .args in
+    sym (none-fault knownType (widthOf (a .width)) (a .kind) (a .count) _ (sym (sym (c .before .before .before .if1 .left) ∙ c .before .before .before .before .type-fault .ensures)) (c .before .before .if2 .left) (sym (c .before .all-fit .ensures) ∙ not-false _ (c .if3 .left)))
+
+pub segment-fault-spec : {M : Type 1} → statement M
+segment-fault-spec =
+    tie.close (tie.spec type-fault-requires returns returns-2 all-fit-requires returns-3 returns-4)

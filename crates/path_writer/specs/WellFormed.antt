@@ -1,0 +1,47 @@
+-- An AS_PATH as the RFCs have it, over bytes alone and apart from any reader or writer: what the bytes of a segment are, and what
+-- it is to cut bytes into segments.
+use Prim.Native.Nat.{ℕ, zero, suc, _*_, _≤_}
+use mathlib.Core.Path.{_≡_}
+use mathlib.Core.List.{List, [], _∷_, _++_}
+use lib.ListN.{length, getD, take, drop}
+use Rattle.wire.specs.Number.{be, Bytes}
+
+-- the segment types: 1 AS_SET, 2 AS_SEQUENCE (RFC 4271 section 4.3), 3 AS_CONFED_SEQUENCE, 4 AS_CONFED_SET (RFC 5065 section 3)
+abbrev pub Known : ℕ → ℕ → Type 0
+Known kind count = (1 ≤ kind) × (kind ≤ 4)
+
+-- the bytes of one segment: a type, a count, and that many numbers of w bytes each. Which types and counts there are is a parameter
+pub record WellFormed (allowed : ℕ → ℕ → Type 0) (w : ℕ) (item : List ℕ) : Type 0 where
+  pub kind : ℕ
+  pub count : ℕ
+  pub body : List ℕ
+  pub parts : item ≡ kind ∷ count ∷ body
+  pub octets : Bytes item
+  pub meant : allowed kind count
+  pub long : length body ≡ count * w
+
+pub data Each (P : List ℕ → Type 0) : List (List ℕ) → Type 0 where
+  none : Each P []
+  one : {item : List ℕ} {items : List (List ℕ)} → P item → Each P items → Each P (item ∷ items)
+
+-- lists one after another
+unfoldable pub joined : List (List ℕ) → List ℕ
+joined [] = []
+joined (item ∷ items) = item ++ joined items
+
+-- a cutting of s: segments whose bytes, one after another, are s
+pub record Cutting (allowed : ℕ → ℕ → Type 0) (w : ℕ) (s : List ℕ) (items : List (List ℕ)) : Type 0 where
+  pub each : Each (WellFormed allowed w) items
+  pub whole : joined items ≡ s
+
+-- n numbers of w bytes each, the first byte highest (RFC 4271 section 4)
+unfoldable pub numbersIn : ℕ → ℕ → List ℕ → List ℕ
+numbersIn w zero body = []
+numbersIn w (suc n) body = be (take w body) ∷ numbersIn w n (drop w body)
+
+-- the type and the count of a segment's bytes, and its AS numbers
+abbrev pub headOf : List ℕ → List ℕ
+headOf item = getD item 0 0 ∷ getD item 1 0 ∷ []
+
+abbrev pub asNumbers : ℕ → List ℕ → List ℕ
+asNumbers w item = numbersIn w (getD item 1 0) (drop 2 item)

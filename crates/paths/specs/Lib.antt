@@ -1,0 +1,7 @@
+pub mod Segment
+pub mod Size
+pub mod SegmentLaws
+pub mod Promises
+pub mod PromiseLaws
+pub mod PathTurn
+pub mod Tight

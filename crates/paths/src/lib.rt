@@ -1,0 +1,163 @@
+// AS_PATH (RFC 4271 section 4.3, RFC 5065 section 3, RFC 6793 section 4.1): reading a path and counting it. The reading of
+// attr_02_17_as_path.rs.
+ghost use mathlib.Core.Path.{_≡_};
+ghost use Prim.Native.Nat.{_+_, _≤_, _<_};
+ghost use mathlib.Core.List.{[], _∷_};
+ghost use lib.ListN.{length, drop};
+ghost use Rattle.wire.specs.Store.{laid};
+ghost use Rattle.wire.specs.Walk.{flat};
+ghost use Rattle.asns.specs.Asn.{widthOf, span};
+ghost use Rattle.paths.specs.Segment.{numbersOf, typeFault, knownType, pairOf, asnsOf, segmentOf, pathOf};
+ghost use Rattle.paths.specs.Size.{countIn};
+ghost use Rattle.paths.specs.Promises.{countAnswer, readAnswer, pairsAfter, numbersAfter};
+use asns::AsnLength;
+use wire::refusal;
+
+// A path: its segments and their numbers, or a refusal number.
+pub enum PathAnswer {
+    Path { segments: usize, numbers: usize },
+    Refused(u8),
+}
+
+// How many numbers a segment has, or why it is refused.
+enum SegmentAnswer {
+    Numbers(u8),
+    Refused(u8),
+}
+
+// What is wrong with a segment of that type, 0 where nothing is: types are 1 to 4.
+pub fn type_fault(kind: u32) -> u8
+    ensures { λ r. ⌜ r ≡ typeFault kind ⌝ }
+{
+    if kind < 1 {
+        return refusal::SEGMENT_TYPE;
+    }
+    if 4 < kind {
+        return refusal::SEGMENT_TYPE;
+    }
+    0
+}
+
+// How many numbers the segment at the front has: type and count there, 2; the numbers there, 2; the type, 9.
+fn segment_count(s: &[u8], width: AsnLength) -> SegmentAnswer
+    ensures { λ r. ⌜ r ≡ countIn (segmentOf knownType (widthOf width) tt (now (s .entry))) ⌝ }
+{
+    if s.len() < 2 {
+        return SegmentAnswer::Refused(refusal::TRUNCATED);
+    }
+    let count = s[1];
+    let size = 2 + asns::numbers_size(count as u16, width);
+    if s.len() < size {
+        return SegmentAnswer::Refused(refusal::TRUNCATED);
+    }
+    let fault = type_fault(wire::wide(s[0]));
+    if fault != 0 {
+        return SegmentAnswer::Refused(fault);
+    }
+    SegmentAnswer::Numbers(count)
+}
+
+// How many segments and numbers a path has.
+pub fn count_as_path(value: &[u8], width: AsnLength) -> PathAnswer
+    ensures { λ r. ⌜ r ≡ countAnswer (now (value .entry)) (pathOf knownType (widthOf width) (now (value .entry))) ⌝ }
+{
+    if wire::LIST_LIMIT < value.len() {
+        return PathAnswer::Refused(refusal::TOO_LONG);
+    }
+    let mut at: usize = 0;
+    let mut segments: usize = 0;
+    let mut numbers: usize = 0;
+    while at < value.len() {
+        match segment_count(&value[at..], width) {
+            SegmentAnswer::Numbers(count) => {
+                at = at + (2 + asns::numbers_size(count as u16, width));
+                segments = segments + 1;
+                numbers = numbers + count as usize;
+            }
+            SegmentAnswer::Refused(n) => {
+                return PathAnswer::Refused(n);
+            }
+        }
+    }
+    PathAnswer::Path { segments, numbers }
+}
+
+// A pair of type and count at a place of the store.
+fn put_pair(pairs: &mut [u32], to: usize, kind: u32, count: u32)
+    requires { ⌜ to + 2 ≤ length (now pairs) ⌝ }
+    ensures { λ _. ⌜ now (pairs .exit) ≡ laid (now (pairs .entry)) to (kind ∷ count ∷ []) ⌝ }
+{
+    pairs[to] = kind;
+    pairs[to + 1] = count;
+}
+
+// The n numbers at a place of the bytes, to a place of the store.
+fn put_numbers(s: &[u8], from: usize, n: usize, width: AsnLength, numbers: &mut [u32], start: usize)
+    requires { ⌜ from + span (widthOf width) n ≤ length (now s) ⌝ }
+    requires { ⌜ start + n ≤ length (now numbers) ⌝ }
+    ensures { λ _. ⌜ now (numbers .exit) ≡ laid (now (numbers .entry)) start (numbersOf (widthOf width) n (drop from (now (s .entry)))) ⌝ }
+{
+    let w = asns::asn_bytes(width);
+    let mut at = from;
+    let mut to = start;
+    let mut left = n;
+    while 0 < left {
+        numbers[to] = asns::number_at(s, at, width);
+        at = at + w;
+        to = to + 1;
+        left = left - 1;
+    }
+}
+
+// The segments of a good path that has room. No test of a segment is made again.
+fn fill(value: &[u8], width: AsnLength, pairs: &mut [u32], numbers: &mut [u32])
+    requires { ⌜ pathOf knownType (widthOf width) (now value) .verdict ≡ 0 ⌝ }
+    requires { ⌜ length (flat pairOf (pathOf knownType (widthOf width) (now value) .rows)) ≤ length (now pairs) ⌝ }
+    requires { ⌜ length (flat asnsOf (pathOf knownType (widthOf width) (now value) .rows)) ≤ length (now numbers) ⌝ }
+    ensures pairs { λ _. ⌜ now (pairs .exit) ≡ laid (now (pairs .entry)) 0 (flat pairOf (pathOf knownType (widthOf width) (now (value .entry)) .rows)) ⌝ }
+    ensures numbers { λ _. ⌜ now (numbers .exit) ≡ laid (now (numbers .entry)) 0 (flat asnsOf (pathOf knownType (widthOf width) (now (value .entry)) .rows)) ⌝ }
+{
+    let mut at: usize = 0;
+    let mut pair: usize = 0;
+    let mut to: usize = 0;
+    while at < value.len() {
+        let count = value[at + 1];
+        put_pair(pairs, pair, wire::wide(value[at]), wire::wide(count));
+        put_numbers(value, at + 2, count as usize, width, numbers, to);
+        at = at + (2 + asns::numbers_size(count as u16, width));
+        pair = pair + 2;
+        to = to + count as usize;
+    }
+}
+
+// A path into two lent stores: a pair of type and count for each segment, and the numbers back to back.
+pub fn parse_as_path(
+    value: &[u8],
+    width: AsnLength,
+    pairs: &mut [u32],
+    numbers: &mut [u32],
+) -> PathAnswer
+    ensures answer { λ r. ⌜ r ≡ readAnswer (now (value .entry)) (pathOf knownType (widthOf width) (now (value .entry))) (length (now (pairs .entry))) (length (now (numbers .entry))) ⌝ }
+    ensures pairs { λ _. ⌜ now (pairs .exit) ≡ pairsAfter (now (value .entry)) (pathOf knownType (widthOf width) (now (value .entry))) (now (pairs .entry)) (length (now (numbers .entry))) ⌝ }
+    ensures numbers { λ _. ⌜ now (numbers .exit) ≡ numbersAfter (now (value .entry)) (pathOf knownType (widthOf width) (now (value .entry))) (length (now (pairs .entry))) (now (numbers .entry)) ⌝ }
+{
+    match count_as_path(value, width) {
+        PathAnswer::Path {
+            segments,
+            numbers: n,
+        } => {
+            if pairs.len() / 2 < segments {
+                return PathAnswer::Refused(refusal::NO_ROOM);
+            }
+            if numbers.len() < n {
+                return PathAnswer::Refused(refusal::NO_ROOM);
+            }
+            fill(value, width, pairs, numbers);
+            PathAnswer::Path {
+                segments,
+                numbers: n,
+            }
+        }
+        PathAnswer::Refused(n) => PathAnswer::Refused(n),
+    }
+}
