@@ -69,6 +69,10 @@ module _ (w : ℕ) where
 
 -- ---- one segment
 
+-- two bytes and those after them
+head-first : (s : List ℕ) (n : ℕ) → 2 ≤ length s → take (2 + n) s ≡ getD s 0 0 ∷ getD s 1 0 ∷ take n (drop 2 s)
+head-first s n h = take-add 2 n s ∙ ap (λ (l : List ℕ). take 2 l ++ take n (drop 2 s)) (sym (two-more s h))
+
 module _ (rule : Rule) (w : ℕ) where
   -- one that is taken can be written, and is written as the bytes it took
   pub taken-written : (s : List ℕ) (used : ℕ) (g : Segment) → Bytes s → Taken rule w s used g → Writable rule w g × (segmentBytes w g ≡ take used s)
@@ -78,9 +82,7 @@ module _ (rule : Rule) (w : ℕ) where
       let asns-is : g .asns ≡ numbersOf w c (drop 2 s) = ap asnsOf (t .is) in
       let len : length (g .asns) ≡ c = ap length asns-is ∙ length-numbers w c (drop 2 s) in
       let room : span w c ≤ length (drop 2 s) = omega (arith, t .size, t .room, length-drop 2 s) in
-      let kind-is : g .kind ≡ getD s 0 0 = ap (λ (h : Segment). h .kind) (t .is) in
-      let split : take (2 + span w c) s ≡ getD s 0 0 ∷ c ∷ take (span w c) (drop 2 s) =
-      take-add 2 (span w c) s ∙ ap (λ (l : List ℕ). take 2 l ++ take (span w c) (drop 2 s)) (sym (two-more s (t .there))) in (
+      let kind-is : g .kind ≡ getD s 0 0 = ap (λ (h : Segment). h .kind) (t .is) in (
         record {
           fine = ap₂ rule kind-is len ∙ t .fine;
           short = omega (arith, len, b 1);
@@ -88,7 +90,7 @@ module _ (rule : Rule) (w : ℕ) where
         },
         ap₂ (λ (k n : ℕ). k ∷ n ∷ flat (toBe w) (g .asns)) kind-is len
             ∙ ap (λ (l : List ℕ). getD s 0 0 ∷ c ∷ l) (ap (flat (toBe w)) asns-is ∙ numbers-bytes w c (drop 2 s) (bytes-drop 2 s b) room)
-            ∙ sym split ∙ ap (λ (u : ℕ). take u s) (sym (t .size)),
+            ∙ sym (head-first s (span w c) (t .there)) ∙ ap (λ (u : ℕ). take u s) (sym (t .size)),
       )
 
   -- one that is written is taken back, whatever follows
@@ -127,13 +129,11 @@ module _ (rule : Rule) (allowed : ℕ → ℕ → Type 0) (decides : Decides rul
       let c : ℕ = getD s 1 0 in
       let room : span w c ≤ length (drop 2 s) = omega (arith, t .size, t .room, length-drop 2 s) in
       let bytes-is : segmentBytes w g ≡ take used s = taken-written rule w s used g b t .1 in
-      let split : take (2 + span w c) s ≡ getD s 0 0 ∷ c ∷ take (span w c) (drop 2 s) =
-      take-add 2 (span w c) s ∙ ap (λ (l : List ℕ). take 2 l ++ take (span w c) (drop 2 s)) (sym (two-more s (t .there))) in
       record {
         kind = getD s 0 0;
         count = c;
         body = take (span w c) (drop 2 s);
-        parts = bytes-is ∙ ap (λ (u : ℕ). take u s) (t .size) ∙ split;
+        parts = bytes-is ∙ ap (λ (u : ℕ). take u s) (t .size) ∙ head-first s (span w c) (t .there);
         octets = subst Bytes (sym bytes-is) (bytes-take used s b);
         meant = decides .sound (getD s 0 0) c (t .fine);
         long = length-take-le (span w c) (drop 2 s) room ∙ span-is w c;

@@ -24,9 +24,15 @@ numbersOf w (suc n) s = beAt s 0 w ∷ numbersOf w n (drop w s)
 abbrev pub Rule : Type 0
 Rule = ℕ → ℕ → ℕ
 
--- types are 1 to 4
+-- the least and the greatest type: 1 set, 2 sequence, 3 confederation sequence, 4 confederation set
+abbrev pub asSet : ℕ
+asSet = 1
+
+abbrev pub confedSet : ℕ
+confedSet = 4
+
 unfoldable pub typeFault : ℕ → ℕ
-typeFault kind = pick (leb 1 kind) (pick (leb kind 4) 0 segmentType) segmentType
+typeFault kind = pick (leb asSet kind) (pick (leb kind confedSet) 0 segmentType) segmentType
 
 -- the rule of this reading: a known type, and every count
 abbrev pub knownType : Rule

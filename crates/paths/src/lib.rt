@@ -13,6 +13,11 @@ ghost use Rattle.paths.specs.Promises.{countAnswer, readAnswer, pairsAft
 use asns::AsnLength;
 use wire::refusal;
 
+// The least and the greatest segment type: 1 set, 2 sequence, 3 confederation sequence, 4 confederation set.
+const AS_SET: u32 = 1;
+
+const CONFED_SET: u32 = 4;
+
 // A path: its segments and their numbers, or a refusal number.
 pub enum PathAnswer {
     Path { segments: usize, numbers: usize },
@@ -29,10 +34,10 @@ enum SegmentAnswer {
 pub fn type_fault(kind: u32) -> u8
     ensures { λ r. ⌜ r ≡ typeFault kind ⌝ }
 {
-    if kind < 1 {
+    if kind < AS_SET {
         return refusal::SEGMENT_TYPE;
     }
-    if 4 < kind {
+    if CONFED_SET < kind {
         return refusal::SEGMENT_TYPE;
     }
     0

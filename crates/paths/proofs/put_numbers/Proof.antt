@@ -27,11 +27,11 @@ module _ (s : List ℕ) (from w n : ℕ) (d₀ : List ℕ) (start : ℕ) (fits :
 
   module _ (at to left : ℕ) (d : List ℕ) (inside : at + span w left ≤ length s)
       (h : Laying d₀ start (numbersOf w n (drop from s)) d to (numbersOf w left (drop at s))) where
-    long : length d ≡ length d₀
-    long = laying-long d₀ start (numbersOf w n (drop from s)) all-fit d to (numbersOf w left (drop at s)) h
-
-    here : (to + left ≤ length d) × (to + left ≤ length d₀)
-    here = omega (arith, long, length-numbers w left (drop at s), laying-room d₀ start (numbersOf w n (drop from s)) all-fit d to (numbersOf w left (drop at s)) h)
+    here : (length d ≡ length d₀) × (to + left ≤ length d₀)
+    here =
+        let long = laying-long d₀ start (numbersOf w n (drop from s)) all-fit d to (numbersOf w left (drop at s)) h in
+        let room = laying-room d₀ start (numbersOf w n (drop from s)) all-fit d to (numbersOf w left (drop at s)) h in
+        (long, omega (arith, long, room, length-numbers w left (drop at s)))
 
     turn : (v : ℕ) → 0 < left → v ≡ beAt s at w
         → (at + w + span w (left - 1) ≤ length s)
@@ -46,6 +46,14 @@ module _ (s : List ℕ) (from w n : ℕ) (d₀ : List ℕ) (start : ℕ) (fits :
     unfolding numbersOf
     end e = laying-done d₀ start (numbersOf w n (drop from s)) all-fit d to (numbersOf w left (drop at s)) h (ap (λ (k : ℕ). numbersOf w k (drop at s)) e)
 
+-- at the head, the store is as long as it was, and has room for what is left
+room : (l : tie.At-loop Inv-loop μ-loop) →
+    let a = l .before .before .before .before .args in
+    (length (l .loop .numbers) ≡ length (a .numbers .now)) × (l .loop .to + l .loop .left ≤ length (a .numbers .now))
+room l =
+    let a = l .before .before .before .before .args in
+    here (a .s .now) (a .from) (widthOf (a .width)) (a .n) (a .numbers .now) (a .start) (l .before .before .before .before .pre .1) (l .loop .at) (l .loop .to) (l .loop .left) (l .loop .numbers) (l .loop .inv .1) (l .loop .inv .2)
+
 asn-bytes-requires : tie.Need-asn-bytes-requires Inv-loop μ-loop
 asn-bytes-requires c κs = search needs
 
@@ -59,16 +67,10 @@ number-at-requires : tie.Need-number-at-requires Inv-loop μ-loop
 number-at-requires c κs = search needs
 
 mul-numbers : tie.Need-mul-numbers Inv-loop μ-loop
-mul-numbers c =
-    let l = c .before .before in
-    let a = l .before .before .before .before .args in
-    omega (arith, here (a .s .now) (a .from) (widthOf (a .width)) (a .n) (a .numbers .now) (a .start) (l .before .before .before .before .pre .1) (l .loop .at) (l .loop .to) (l .loop .left) (l .loop .numbers) (l .loop .inv .1) (l .loop .inv .2))
+mul-numbers c = omega (arith, room (c .before .before))
 
 slice-write-numbers : tie.Need-slice-write-numbers Inv-loop μ-loop
-slice-write-numbers c =
-    let l = c .before .before in
-    let a = l .before .before .before .before .args in
-    omega (arith, here (a .s .now) (a .from) (widthOf (a .width)) (a .n) (a .numbers .now) (a .start) (l .before .before .before .before .pre .1) (l .loop .at) (l .loop .to) (l .loop .left) (l .loop .numbers) (l .loop .inv .1) (l .loop .inv .2))
+slice-write-numbers c = omega (arith, room (c .before .before))
 
 add-at : tie.Need-add-at Inv-loop μ-loop
 add-at c =
@@ -77,10 +79,7 @@ add-at c =
     omega (arith, l .loop .inv .0, l .loop .inv .1, span-less (widthOf (a .width)) (l .loop .left) (c .before .loop-test .taken))
 
 add-to : tie.Need-add-to Inv-loop μ-loop
-add-to c =
-    let l = c .before .before in
-    let a = l .before .before .before .before .args in
-    omega (arith, here (a .s .now) (a .from) (widthOf (a .width)) (a .n) (a .numbers .now) (a .start) (l .before .before .before .before .pre .1) (l .loop .at) (l .loop .to) (l .loop .left) (l .loop .numbers) (l .loop .inv .1) (l .loop .inv .2))
+add-to c = omega (arith, room (c .before .before))
 
 sub-left : tie.Need-sub-left Inv-loop μ-loop
 sub-left c = search needs
@@ -97,10 +96,7 @@ loop-again c =
     (l .loop .inv .0, rw (l .loop .inv .0) (next .0), rw (l .loop .inv .0) (next .1))
 
 same-length : tie.Need-same-length Inv-loop μ-loop
-same-length c =
-    let l = c .before in
-    let a = l .before .before .before .before .args in
-    long (a .s .now) (a .from) (widthOf (a .width)) (a .n) (a .numbers .now) (a .start) (l .before .before .before .before .pre .1) (l .loop .at) (l .loop .to) (l .loop .left) (l .loop .numbers) (l .loop .inv .1) (l .loop .inv .2)
+same-length c = room (c .before) .0
 
 returns : tie.Need-returns Inv-loop μ-loop
 returns c =

@@ -1,0 +1,78 @@
+//! The examples of document 01, each under every setting that its op uses.
+
+use records::Request;
+
+/// Bytes from hexadecimal digits, spaces ignored.
+pub fn hex(text: &str) -> Vec<u8> {
+    let digits: Vec<u8> = text.bytes().filter(|byte| !byte.is_ascii_whitespace()).collect();
+    digits
+        .chunks(2)
+        .map(|pair| u8::from_str_radix(std::str::from_utf8(pair).expect("digits"), 16).expect("two digits"))
+        .collect()
+}
+
+const LISTS: &[&str] = &[
+    "",
+    "00",
+    "08",
+    "20 0A 00 00 01",
+    "21 0A 00 00 00 00",
+    "09 0A FF",
+    "00 00 00 07 08 0A",
+    "00 18 0A 01 08 18 C8 02 00",
+    "00 00 00 00 08 0A 08 0B",
+    "40 20 01 0D B8 00 00 00 01",
+    "81",
+];
+
+const PATHS: &[&str] = &["", "02 02 00 00 FD E9 00 00 FD EA", "02 00", "05 01", "05 00", "02"];
+
+const AGGREGATORS: &[&str] = &["FD E9 0A 00 00 01", "00 00 FD E9 0A 00 00 01", "00 FD E9 0A 00 00 01", ""];
+
+/// What comes after an all-FF marker.
+const HEADERS: &[&str] =
+    &["00 13 04", "00 12 09", "10 01 01", "00 1B 02 00 00 00 00 18 0A 01 08", "00 1B 02 00 00 00 00 18 0A 01"];
+
+pub fn request(op: u8, settings: u8, rooms: (usize, usize), parts: [Vec<u8>; 3], argument: u8) -> Request {
+    Request { op, settings, room_a: rooms.0, room_b: rooms.1, parts, argument }
+}
+
+/// A request with one part.
+pub fn on_bytes(op: u8, settings: u8, rooms: (usize, usize), bytes: &[u8]) -> Request {
+    request(op, settings, rooms, [bytes.to_vec(), vec![], vec![]], 0)
+}
+
+/// Numbers as a part.
+pub fn words(numbers: &[u32]) -> Vec<u8> {
+    numbers.iter().flat_map(|number| number.to_be_bytes()).collect()
+}
+
+pub fn all() -> Vec<Request> {
+    let mut requests = vec![];
+    for text in LISTS {
+        for settings in 0..8 {
+            requests.extend((1..=5).map(|op| on_bytes(op, settings, (30, 0), &hex(text))));
+        }
+    }
+    for text in PATHS {
+        for settings in [0, 8] {
+            requests.extend([6, 7].map(|op| on_bytes(op, settings, (4, 4), &hex(text))));
+        }
+    }
+    for text in AGGREGATORS {
+        requests.extend([0, 8].map(|settings| on_bytes(8, settings, (0, 0), &hex(text))));
+    }
+    for text in HEADERS {
+        let message = [vec![0xFF; 16], hex(text)].concat();
+        requests.extend([0, 16].map(|settings| on_bytes(9, settings, (0, 0), &message)));
+        for settings in 0..4 {
+            requests.extend([10, 11, 12].map(|op| on_bytes(op, settings, (12, 12), &message[19..])));
+        }
+    }
+    requests.push(request(14, 0, (9, 0), [words(&[2, 1]), words(&[65_536]), vec![]], 0));
+    for count in [255, 256] {
+        let numbers = words(&vec![64_512; count]);
+        requests.push(request(14, 8, (1_100, 0), [words(&[2, count as u32]), numbers, vec![]], 0));
+    }
+    requests
+}

@@ -1,0 +1,201 @@
+//! All short inputs: every byte string of at most two bytes, longer ones over the bytes where something changes,
+//! and all combinations of boundary values for headers, rows and written messages.
+
+use super::examples::{on_bytes, request, words};
+use records::{Request, ADD_PATH, FOUR_BYTE_AS, GUESS, IPV6, STRICT};
+
+/// Requests in a fixed order, made one at a time.
+pub struct Short(Box<dyn Iterator<Item = Request>>);
+
+impl Short {
+    pub fn new() -> Short {
+        Short(Box::new(
+            written_paths()
+                .chain(written_messages())
+                .chain(written_rows())
+                .chain(aggregators())
+                .chain(headers())
+                .chain(updates())
+                .chain(paths())
+                .chain(lists()),
+        ))
+    }
+
+    pub fn next(&mut self) -> Option<Request> {
+        self.0.next()
+    }
+}
+
+/// Every string over the alphabet with a length of the range.
+fn strings(alphabet: &'static [u8], lengths: std::ops::RangeInclusive<u32>) -> impl Iterator<Item = Vec<u8>> {
+    lengths.flat_map(move |length| {
+        (0..alphabet.len().pow(length)).map(move |mut number| {
+            let mut string = vec![];
+            for _ in 0..length {
+                string.push(alphabet[number % alphabet.len()]);
+                number /= alphabet.len();
+            }
+            string
+        })
+    })
+}
+
+/// Every byte value.
+static BYTES: [u8; 256] = {
+    let mut all = [0; 256];
+    let mut at = 0;
+    while at < 256 {
+        all[at] = at as u8;
+        at += 1;
+    }
+    all
+};
+
+const READINGS: [u8; 3] = [0, GUESS, ADD_PATH];
+
+fn lists() -> impl Iterator<Item = Request> {
+    let all_settings = READINGS.map(|reading| [reading, reading | IPV6]).concat();
+    let around_zero = strings(&[0, 1, 8, 32, 33, 255], 3..=6).chain(strings(&[0, 8, 24], 7..=9));
+    let long = around_zero
+        .flat_map(|bytes| [GUESS, GUESS | IPV6, ADD_PATH, 0].map(|settings| on_bytes(2, settings, (54, 0), &bytes)));
+    let short = strings(&BYTES, 0..=2).flat_map(move |bytes| {
+        let mut requests = vec![];
+        requests.extend(all_settings.iter().map(|settings| on_bytes(2, *settings, (12, 0), &bytes)));
+        requests.extend(READINGS.map(|settings| on_bytes(4, settings, (12, 0), &bytes)));
+        requests.extend([0, ADD_PATH, IPV6].map(|settings| on_bytes(1, settings, (0, 0), &bytes)));
+        requests
+    });
+    long.chain(short)
+}
+
+fn paths() -> impl Iterator<Item = Request> {
+    let long = strings(&[0, 1, 2, 4, 5, 255], 3..=6);
+    long.chain(strings(&BYTES, 0..=2))
+        .flat_map(|bytes| [0, FOUR_BYTE_AS].map(|settings| on_bytes(6, settings, (6, 3), &bytes)))
+}
+
+fn aggregators() -> impl Iterator<Item = Request> {
+    (0..=20).chain([65_535, 65_536]).flat_map(|length| {
+        let bytes: Vec<u8> = (0..length).map(|at| (at * 37 + 200) as u8).collect();
+        [0, FOUR_BYTE_AS].map(|settings| on_bytes(8, settings, (0, 0), &bytes))
+    })
+}
+
+fn updates() -> impl Iterator<Item = Request> {
+    strings(&[0, 1, 2, 8, 255], 0..=6).flat_map(|bytes| {
+        let mut requests: Vec<Request> =
+            READINGS.iter().map(|settings| on_bytes(10, *settings, (12, 12), &bytes)).collect();
+        requests.push(on_bytes(12, 0, (0, 0), &bytes));
+        requests
+    })
+}
+
+fn headers() -> impl Iterator<Item = Request> {
+    const CLAIMED: [u16; 16] = [0, 18, 19, 20, 21, 22, 23, 24, 28, 29, 30, 4_095, 4_096, 4_097, 65_534, 65_535];
+    const GIVEN: [usize; 17] = [0, 1, 15, 16, 17, 18, 19, 20, 21, 22, 23, 24, 28, 29, 30, 31, 64];
+    const TYPES: [u8; 8] = [0, 1, 2, 3, 4, 5, 6, 255];
+    CLAIMED.into_iter().flat_map(move |claimed| {
+        GIVEN
+            .into_iter()
+            .flat_map(move |given| TYPES.into_iter().flat_map(move |kind| header_requests(claimed, given, kind)))
+    })
+}
+
+/// A header with each of three markers, read both ways.
+fn header_requests(claimed: u16, given: usize, kind: u8) -> Vec<Request> {
+    let mut requests = vec![];
+    for wrong_at in [None, Some(0), Some(15)] {
+        let mut bytes = vec![0xFF; 16];
+        if let Some(at) = wrong_at {
+            bytes[at] = 0xFE;
+        }
+        bytes.extend(claimed.to_be_bytes());
+        bytes.push(kind);
+        bytes.resize(64, 0);
+        bytes.truncate(given);
+        requests.extend([0, STRICT].map(|settings| on_bytes(9, settings, (0, 0), &bytes)));
+    }
+    requests
+}
+
+fn written_rows() -> impl Iterator<Item = Request> {
+    const FIRST: [u32; 26] = [
+        0,
+        1,
+        7,
+        8,
+        9,
+        16,
+        17,
+        24,
+        25,
+        31,
+        32,
+        33,
+        64,
+        127,
+        128,
+        129,
+        255,
+        256,
+        257,
+        288,
+        289,
+        384,
+        385,
+        511,
+        512,
+        u32::MAX,
+    ];
+    const ADDRESSES: [[u32; 4]; 9] = [
+        [0; 4],
+        [0x0A00_0000, 0, 0, 0],
+        [0x0A01_0000, 0, 0, 0],
+        [0x0A01_0100, 0, 0, 0],
+        [0x0A01_0101, 0, 0, 0],
+        [0x2001_0DB8, 1, 0, 0],
+        [0x2001_0DB8, 1, 0x0100_0000, 0],
+        [0, 0, 0, 1],
+        [u32::MAX; 4],
+    ];
+    FIRST.into_iter().flat_map(move |first| {
+        ADDRESSES.into_iter().flat_map(move |a| {
+            [0, 1, u32::MAX].into_iter().flat_map(move |id| {
+                [0, ADD_PATH, IPV6, ADD_PATH | IPV6].map(|settings| {
+                    let row = words(&[first, id, a[0], a[1], a[2], a[3]]);
+                    request(13, settings, (24, 0), [row, vec![], vec![]], 0)
+                })
+            })
+        })
+    })
+}
+
+/// Two segments of good and bad types and counts; the numbers all fit two bytes, or the first or last does not.
+fn written_paths() -> impl Iterator<Item = Request> {
+    const SEGMENTS: [[u32; 2]; 12] =
+        [[0, 0], [0, 1], [0, 256], [1, 0], [2, 1], [3, 255], [4, 1], [4, 256], [5, 0], [5, 1], [6, 256], [257, 1]];
+    SEGMENTS.into_iter().flat_map(move |first| {
+        SEGMENTS.into_iter().flat_map(move |second| {
+            let count = (first[1] + second[1]) as usize;
+            [None, Some(0), Some(count.saturating_sub(1))].into_iter().flat_map(move |wide| {
+                let mut numbers = vec![65_535; count];
+                if let Some(number) = wide.and_then(|at| numbers.get_mut(at)) {
+                    *number = 65_536;
+                }
+                let parts = [words(&[first, second].concat()), words(&numbers), vec![]];
+                [0, FOUR_BYTE_AS].map(|settings| request(14, settings, (2_100, 0), parts.clone(), 0))
+            })
+        })
+    })
+}
+
+fn written_messages() -> impl Iterator<Item = Request> {
+    let lengths = (0..=14).chain([4_076, 4_077, 4_078, 65_515, 65_516, 65_517]);
+    lengths.flat_map(|length| {
+        (0..=7).chain([255]).flat_map(move |kind| {
+            let body = vec![0; length];
+            [length + 18, length + 19, 65_600]
+                .map(|room| request(16, 0, (room, 0), [body.clone(), vec![], vec![]], kind))
+        })
+    })
+}

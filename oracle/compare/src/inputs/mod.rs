@@ -1,0 +1,50 @@
+//! The inputs: examples of document 01, captured messages, all short inputs, random ones around every boundary,
+//! damaged copies of good ones, and a few of the largest sizes.
+
+pub mod captures;
+pub mod examples;
+pub mod exhaustive;
+pub mod limits;
+pub mod pieces;
+pub mod random;
+
+use crate::rng::Rng;
+use captures::Capture;
+use records::Request;
+
+/// An endless source of requests, the same for the same seed and captures.
+pub struct Inputs {
+    rng: Rng,
+    first: std::vec::IntoIter<Request>,
+    short: exhaustive::Short,
+    captures: Vec<Capture>,
+}
+
+impl Inputs {
+    pub fn new(seed: u64, captures: Vec<Capture>) -> Inputs {
+        let mut first = examples::all();
+        first.extend(limits::all());
+        first.extend(captures.iter().flat_map(Capture::requests));
+        Inputs { rng: Rng::new(seed), first: first.into_iter(), short: exhaustive::Short::new(), captures }
+    }
+
+    pub fn next(&mut self) -> Request {
+        if let Some(request) = self.first.next() {
+            return request;
+        }
+        match self.rng.under(16) {
+            0..=3 => self.short.next().unwrap_or_else(|| random::request(&mut self.rng)),
+            4 if !self.captures.is_empty() => self.damaged_capture(),
+            _ => random::request(&mut self.rng),
+        }
+    }
+
+    /// A request on a captured message, its bytes damaged.
+    fn damaged_capture(&mut self) -> Request {
+        let at = self.rng.under(self.captures.len());
+        let requests = self.captures[at].requests();
+        let mut request = requests[self.rng.under(requests.len())].clone();
+        pieces::damage(&mut self.rng, &mut request.parts[0]);
+        request
+    }
+}

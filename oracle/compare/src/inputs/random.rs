@@ -1,0 +1,388 @@
+//! Random requests: good inputs, damaged ones, rooms just enough and just too small, and a few of the largest.
+
+use super::examples::{on_bytes, words};
+use super::limits::raw_attribute;
+use super::pieces::{self, damage};
+use crate::rng::Rng;
+use records::{Request, ADD_PATH, FOUR_BYTE_AS, GUESS, IPV6};
+
+/// One in this many requests is large.
+const LARGE: usize = 1_500;
+
+/// A request of this op under these settings.
+pub fn request_of(rng: &mut Rng, op: u8, settings: u8) -> Request {
+    match op {
+        1 => one_route(rng, settings),
+        2..=5 => list(rng, op, settings),
+        6 | 7 => path(rng, op, settings),
+        8 => aggregator(rng, settings),
+        9 => header(rng, settings),
+        10..=12 => update(rng, op, settings),
+        13 => write_rows(rng, settings),
+        14 => write_path(rng, settings),
+        15 => write_aggregator(rng, settings),
+        16 => write_message(rng, settings),
+        _ => write_update(rng, settings),
+    }
+}
+
+pub fn request(rng: &mut Rng) -> Request {
+    let op = 1 + rng.under(17) as u8;
+    if rng.one_in(LARGE) {
+        large(rng, op)
+    } else {
+        let settings = rng.under(32) as u8;
+        request_of(rng, op, settings)
+    }
+}
+
+fn width(settings: u8) -> usize {
+    if settings & FOUR_BYTE_AS != 0 {
+        4
+    } else {
+        2
+    }
+}
+
+/// A room near what is needed: mostly enough, at times one too few, at times any small number.
+fn room(rng: &mut Rng, needed: usize) -> usize {
+    match rng.under(8) {
+        0 => needed.saturating_sub(1),
+        1 => needed + rng.under(8),
+        2 => rng.under(40),
+        3 => needed.saturating_sub(rng.under(8)),
+        4 => 0,
+        _ => needed,
+    }
+}
+
+/// Bytes of a list under these settings: good, of mixed forms, damaged or any bytes.
+fn list_bytes(rng: &mut Rng, settings: u8, ipv6: bool) -> (Vec<u8>, usize) {
+    let count = pieces::count(rng);
+    let with_id = settings & ADD_PATH != 0;
+    let mixed = !with_id && (settings & GUESS != 0 || rng.one_in(4));
+    let mut bytes = match rng.under(10) {
+        0 => {
+            let size = rng.under(24);
+            (0..size).map(|_| rng.pick(&[0, 0, 1, 8, 9, 16, 24, 32, 33, 128, 129, 255])).collect()
+        }
+        _ => pieces::list(rng, count, with_id, ipv6, mixed),
+    };
+    if rng.one_in(3) {
+        damage(rng, &mut bytes);
+    }
+    (bytes, count)
+}
+
+fn one_route(rng: &mut Rng, settings: u8) -> Request {
+    let with_id = (settings & ADD_PATH != 0) != rng.one_in(10);
+    let mut bytes = pieces::item(rng, with_id, settings & IPV6 != 0);
+    if rng.one_in(2) {
+        damage(rng, &mut bytes);
+    }
+    on_bytes(1, settings, (0, 0), &bytes)
+}
+
+fn list(rng: &mut Rng, op: u8, settings: u8) -> Request {
+    let ipv6 = settings & IPV6 != 0 && op <= 3;
+    let (bytes, count) = list_bytes(rng, settings, ipv6);
+    let places = room(rng, 6 * count);
+    on_bytes(op, settings, (places, 0), &bytes)
+}
+
+fn path(rng: &mut Rng, op: u8, settings: u8) -> Request {
+    let segments = pieces::count(rng).min(12);
+    let mut bytes = pieces::path(rng, segments, width(settings));
+    if rng.one_in(3) {
+        damage(rng, &mut bytes);
+    }
+    let numbers = bytes.len().saturating_sub(2 * segments) / width(settings);
+    let rooms = (room(rng, 2 * segments), room(rng, numbers));
+    on_bytes(op, settings, rooms, &bytes)
+}
+
+fn aggregator(rng: &mut Rng, settings: u8) -> Request {
+    let size = if rng.one_in(3) { rng.under(20) } else { rng.pick(&[5, 6, 7, 8, 9]) };
+    let bytes = rng.bytes(size);
+    on_bytes(8, settings, (0, 0), &bytes)
+}
+
+/// A body that may belong to the type.
+fn message_body(rng: &mut Rng, kind: u8, settings: u8) -> Vec<u8> {
+    let size = rng.under(12);
+    match kind {
+        1 => open_body(rng),
+        2 => update_body(rng, settings).0,
+        4 if !rng.one_in(8) => vec![],
+        5 => rng.bytes(4 + size / 4),
+        _ => rng.bytes(size),
+    }
+}
+
+/// The body of an OPEN: ten bytes and optional parameters.
+fn open_body(rng: &mut Rng) -> Vec<u8> {
+    let mut parameters = vec![];
+    for _ in 0..rng.under(4) {
+        let size = rng.under(6);
+        let value = rng.bytes(size);
+        parameters.push(rng.pick(&[1, 2, 2, 3]));
+        parameters.push(value.len() as u8 + 2);
+        parameters.push(rng.byte());
+        parameters.push(value.len() as u8);
+        parameters.extend(value);
+    }
+    let mut body = rng.bytes(9);
+    body.push(parameters.len() as u8);
+    body.extend(parameters);
+    body
+}
+
+fn header(rng: &mut Rng, settings: u8) -> Request {
+    let kind = if rng.one_in(12) { rng.byte() } else { 1 + rng.under(5) as u8 };
+    let body = message_body(rng, kind, settings);
+    let mut bytes = vec![0xFF; 16];
+    if rng.one_in(8) {
+        bytes[rng.under(16)] = rng.byte();
+    }
+    let exact = 19 + body.len();
+    let claimed = match rng.under(10) {
+        0 => exact + rng.under(4),
+        1 => exact.saturating_sub(rng.under(4)),
+        2 => rng.pick(&[0, 18, 19, 4_095, 4_096, 4_097, 65_535]),
+        _ => exact,
+    };
+    bytes.extend((claimed as u16).to_be_bytes());
+    bytes.push(kind);
+    bytes.extend(body);
+    if rng.one_in(5) {
+        damage(rng, &mut bytes);
+    }
+    on_bytes(9, settings, (0, 0), &bytes)
+}
+
+/// A body and the counts of its two lists.
+fn update_body(rng: &mut Rng, settings: u8) -> (Vec<u8>, usize, usize) {
+    let (withdrawn, withdrawn_count) = if rng.one_in(3) { (vec![], 0) } else { list_bytes(rng, settings, false) };
+    let (announced, announced_count) = if rng.one_in(4) { (vec![], 0) } else { list_bytes(rng, settings, false) };
+    let mut attributes = pieces::attributes(rng, width(settings));
+    if rng.one_in(6) {
+        damage(rng, &mut attributes);
+    }
+    (pieces::body(&withdrawn, &attributes, &announced), withdrawn_count, announced_count)
+}
+
+fn update(rng: &mut Rng, op: u8, settings: u8) -> Request {
+    let (mut bytes, withdrawn, announced) = update_body(rng, settings);
+    if rng.one_in(6) {
+        damage(rng, &mut bytes);
+    }
+    let rooms = (room(rng, 6 * withdrawn), room(rng, 6 * announced));
+    on_bytes(op, settings, rooms, &bytes)
+}
+
+/// Rows to write, at times not whole; and how many bytes they come to if they are writable.
+fn rows(rng: &mut Rng, settings: u8, ipv6: bool) -> (Vec<u32>, usize) {
+    let with_id = settings & ADD_PATH != 0;
+    let count = pieces::count(rng);
+    let mut numbers = vec![];
+    let mut bytes = 0;
+    for _ in 0..count {
+        let row = pieces::row(rng, with_id, ipv6);
+        bytes += if with_id { 5 } else { 1 } + ((row[0] % 256) as usize + 7) / 8;
+        numbers.extend(row);
+    }
+    if rng.one_in(50) {
+        numbers.truncate(numbers.len().saturating_sub(1 + rng.under(5)));
+    }
+    (numbers, bytes)
+}
+
+fn write_rows(rng: &mut Rng, settings: u8) -> Request {
+    let (numbers, bytes) = rows(rng, settings, settings & IPV6 != 0);
+    let places = room(rng, bytes);
+    request_on(13, settings, places, [words(&numbers), vec![], vec![]], 0)
+}
+
+fn request_on(op: u8, settings: u8, room: usize, parts: [Vec<u8>; 3], argument: u8) -> Request {
+    super::examples::request(op, settings, (room, 0), parts, argument)
+}
+
+/// A number that mostly fits into two bytes.
+fn as_number(rng: &mut Rng, settings: u8) -> u32 {
+    match rng.under(if width(settings) == 2 { 200 } else { 4 }) {
+        0 => rng.word(),
+        1 => 65_536,
+        2 => 65_535,
+        _ => rng.under(65_536) as u32,
+    }
+}
+
+fn write_path(rng: &mut Rng, settings: u8) -> Request {
+    let mut pairs = vec![];
+    let mut numbers = vec![];
+    let mut bytes = 0;
+    for _ in 0..pieces::count(rng).min(8) {
+        let count = if rng.one_in(80) { 256 + rng.under(3) } else { pieces::segment_count(rng) };
+        pairs.extend([pieces::segment_type(rng), count as u32]);
+        numbers.extend((0..count).map(|_| as_number(rng, settings)));
+        bytes += 2 + count * width(settings);
+    }
+    match rng.under(40) {
+        0 => pairs.push(2),
+        1 => numbers.push(1),
+        2 => {
+            pairs.pop();
+        }
+        3 => pairs.extend([2, u32::MAX]),
+        4 => pairs.extend([1, u32::MAX, 2, 1]),
+        _ => {}
+    }
+    let places = room(rng, bytes);
+    request_on(14, settings, places, [words(&pairs), words(&numbers), vec![]], 0)
+}
+
+fn write_aggregator(rng: &mut Rng, settings: u8) -> Request {
+    let number = if rng.one_in(3) { rng.word() } else { rng.pick(&[0, 1, 23_456, 65_535, 65_536, 65_537]) };
+    let places = room(rng, 4 + width(settings));
+    request_on(15, settings, places, [words(&[number, rng.word()]), vec![], vec![]], 0)
+}
+
+fn write_message(rng: &mut Rng, settings: u8) -> Request {
+    let kind = if rng.one_in(12) { rng.byte() } else { 1 + rng.under(5) as u8 };
+    let body = message_body(rng, kind, settings);
+    let places = room(rng, 19 + body.len());
+    request_on(16, settings, places, [body, vec![], vec![]], kind)
+}
+
+fn write_update(rng: &mut Rng, settings: u8) -> Request {
+    let (withdrawn, withdrawn_bytes) = rows(rng, settings, false);
+    let (announced, announced_bytes) = rows(rng, settings, false);
+    let mut attributes = pieces::attributes(rng, width(settings));
+    if rng.one_in(12) {
+        damage(rng, &mut attributes);
+    }
+    let places = room(rng, 4 + withdrawn_bytes + attributes.len() + announced_bytes);
+    request_on(17, settings, places, [words(&withdrawn), attributes, words(&announced)], 0)
+}
+
+/// A request near the greatest size of its op.
+pub fn large(rng: &mut Rng, op: u8) -> Request {
+    let settings = rng.under(32) as u8;
+    let size = rng.pick(&[65_514, 65_515, 65_516, 65_517, 65_534, 65_535, 65_536, 65_540]);
+    match op {
+        1..=5 => {
+            let ipv6 = settings & IPV6 != 0 && op <= 3;
+            let bytes = large_list(rng, size, settings & ADD_PATH != 0, ipv6);
+            let places = rng.pick(&[400_000, 393_210, 393_209, 90_000, 60]);
+            on_bytes(op, settings, (places, 0), &bytes)
+        }
+        6 | 7 => {
+            let bytes = large_path(rng, size, width(settings));
+            on_bytes(op, settings, (rng.pick(&[70_000, 600]), rng.pick(&[40_000, 1_000])), &bytes)
+        }
+        8 => on_bytes(8, settings, (0, 0), &vec![7; size]),
+        9 => {
+            let mut bytes = vec![0xFF; 16];
+            bytes.extend(rng.pick(&[4_096u16, 4_097, 65_534, 65_535]).to_be_bytes());
+            bytes.push(1 + rng.under(5) as u8);
+            bytes.resize(rng.pick(&[4_095, 4_096, 4_097, 65_534, 65_535, 65_536, 70_000]), 0);
+            on_bytes(9, settings, (0, 0), &bytes)
+        }
+        10..=12 => {
+            let half = rng.under(size - 4);
+            let withdrawn = large_list(rng, half, settings & ADD_PATH != 0, false);
+            let announced = large_list(rng, size - 4 - half, settings & ADD_PATH != 0, false);
+            on_bytes(op, settings, (400_000, 400_000), &pieces::body(&withdrawn, &[], &announced))
+        }
+        13 => {
+            let numbers = large_rows(rng, settings, settings & IPV6 != 0, size, 16_600);
+            request_on(13, settings, rng.pick(&[70_000, 1_000]), [words(&numbers), vec![], vec![]], 0)
+        }
+        14 => large_written_path(rng, settings),
+        15 => write_aggregator(rng, settings),
+        16 => {
+            let kind = rng.pick(&[1, 2, 2, 3, 5, 5]);
+            let size = rng.pick(&[4_076, 4_077, 4_078, 65_515, 65_516, 65_517]);
+            let body = if kind == 2 {
+                pieces::body(&[], &[], &large_list(rng, size - 4, false, false))
+            } else {
+                vec![9; size]
+            };
+            request_on(16, settings, 70_000, [body, vec![], vec![]], kind)
+        }
+        _ => {
+            let attributes = raw_attribute(rng.pick(&[60_000, 65_000, 65_535, 65_536, 4]));
+            let rest = rng.pick(&[5_000, 500, 60, 20, 65_516]);
+            let withdrawn = large_rows(rng, settings, false, rest, 8_000);
+            let announced = large_rows(rng, settings, false, rest, 8_000);
+            request_on(17, settings, 70_000, [words(&withdrawn), attributes, words(&announced)], 0)
+        }
+    }
+}
+
+/// Items of one form up to exactly `size` bytes as far as they go; the last may be cut.
+fn large_list(rng: &mut Rng, size: usize, with_id: bool, ipv6: bool) -> Vec<u8> {
+    let bits = rng.pick(if ipv6 { pieces::IPV6_LENGTHS } else { pieces::IPV4_LENGTHS });
+    let octets = (usize::from(bits) + 7) / 8;
+    let mut bytes = vec![];
+    let step = 1 + octets + if with_id { 4 } else { 0 };
+    while bytes.len() + step <= size {
+        if with_id {
+            bytes.extend(rng.word().to_be_bytes());
+        }
+        bytes.push(bits);
+        bytes.extend(rng.bytes(octets));
+    }
+    let form = if with_id { [vec![0; 4], vec![0]].concat() } else { vec![0] };
+    while bytes.len() + form.len() <= size {
+        bytes.extend(&form);
+    }
+    bytes.resize(size, 0);
+    bytes
+}
+
+fn large_path(rng: &mut Rng, size: usize, width: usize) -> Vec<u8> {
+    let mut bytes = vec![];
+    let full = if rng.one_in(2) { 255 } else { rng.under(3) };
+    while bytes.len() + 2 + full * width <= size {
+        bytes.extend([1 + rng.under(4) as u8, full as u8]);
+        bytes.extend(rng.bytes(full * width));
+    }
+    while bytes.len() + 2 <= size {
+        bytes.extend([2, 0]);
+    }
+    bytes.resize(size, 2);
+    bytes
+}
+
+/// Writable rows that come to about `size` bytes, at most `most` of them.
+fn large_rows(rng: &mut Rng, settings: u8, ipv6: bool, size: usize, most: usize) -> Vec<u32> {
+    let with_id = settings & ADD_PATH != 0;
+    let mut numbers = vec![];
+    let mut bytes = 0;
+    while bytes < size && numbers.len() < 6 * most {
+        let longest = if ipv6 { 128 } else { 32 };
+        let one = 1 + longest / 8 + if with_id { 4 } else { 0 };
+        let bits = if bytes + one <= size { longest } else { 0 };
+        bytes += if bits == 0 { one - longest / 8 } else { one };
+        let first = bits as u32 + if with_id { 256 } else { 0 };
+        let (id, word) = (if with_id { rng.word() } else { 0 }, if bits == 0 { 0 } else { rng.word() });
+        let others = if ipv6 { word } else { 0 };
+        numbers.extend([first, id, word, others, others, others]);
+    }
+    numbers
+}
+
+fn large_written_path(rng: &mut Rng, settings: u8) -> Request {
+    let width = width(settings);
+    let segments = 65_535 / (2 + 255 * width);
+    let left = 65_535 - segments * (2 + 255 * width);
+    let mut pairs = [2u32, 255].repeat(segments);
+    let last = (left.saturating_sub(2) / width + rng.under(2)).min(255);
+    pairs.extend([2, last as u32]);
+    for _ in 0..rng.under(3) {
+        pairs.extend([1, 0]);
+    }
+    let numbers = vec![64_512u32; segments * 255 + last];
+    request_on(14, settings, 70_000, [words(&pairs), words(&numbers), vec![]], 0)
+}

@@ -1,0 +1,64 @@
+//! Records that the format does not give: each is the last of a run that prints `stop` and its number.
+
+use crate::inputs::examples::{hex, on_bytes, request, words};
+use crate::programs::Program;
+use records::Request;
+use std::io;
+use std::path::Path;
+
+/// Runs that end in a stop: the bytes after one good record.
+fn bad_records() -> Vec<Vec<u8>> {
+    let record = |request: Request| {
+        let mut bytes = vec![];
+        request.write_to(&mut bytes);
+        bytes
+    };
+    let with_numbers = |op, parts| record(request(op, 0, (9, 0), parts, 0));
+    let mut bad = vec![
+        record(on_bytes(0, 0, (0, 0), &[])),
+        record(on_bytes(18, 0, (0, 0), &[])),
+        record(on_bytes(255, 0, (0, 0), &[])),
+        record(on_bytes(3, 32, (0, 0), &[])),
+        record(on_bytes(2, 0, (400_001, 0), &[])),
+        record(on_bytes(6, 0, (0, 400_001), &[])),
+        record(on_bytes(3, 0, (0, 400_001), &[])),
+        with_numbers(13, [vec![0; 23], vec![], vec![]]),
+        with_numbers(14, [vec![0; 7], vec![], vec![]]),
+        with_numbers(14, [vec![0; 8], vec![0; 1], vec![]]),
+        with_numbers(15, [vec![0; 4], vec![], vec![]]),
+        with_numbers(15, [vec![0; 12], vec![], vec![]]),
+        with_numbers(15, [vec![], vec![], vec![]]),
+        with_numbers(17, [vec![0; 25], vec![], vec![]]),
+        with_numbers(17, [vec![], vec![], vec![0; 26]]),
+        record(on_bytes(3, 0, (0, 0), &vec![0; 400_001])),
+        record(request(3, 0, (0, 0), [vec![], vec![0; 400_001], vec![]], 0)),
+        record(request(3, 0, (0, 0), [vec![], vec![], vec![0; 400_001]], 0)),
+    ];
+    let good = record(request(17, 0, (64, 0), [words(&[0; 6]), hex("400600"), words(&[0; 6])], 0));
+    bad.extend((1..good.len()).map(|cut| good[..cut].to_vec()));
+    bad
+}
+
+/// Tries every stop on every program; how many differ from `stop 2` after one line.
+pub fn compare(programs: &[&Program], folder: &Path) -> io::Result<u64> {
+    let mut good = vec![];
+    on_bytes(3, 0, (0, 0), &hex("200A000001")).write_to(&mut good);
+    let file = folder.join("stop.bin");
+    let mut differences = 0;
+    let bad = bad_records();
+    for bytes in &bad {
+        std::fs::write(&file, [good.as_slice(), bytes].concat())?;
+        for program in programs {
+            let mut lines = program.run(&file)?;
+            let mut line = String::new();
+            lines.next(&mut line)?;
+            lines.next(&mut line)?;
+            if line != "stop 2" || !lines.at_end()? {
+                differences += 1;
+                println!("{} does not stop at {:02x?}: {line}", program.name, &bytes[..bytes.len().min(40)]);
+            }
+        }
+    }
+    println!("stops: {} tried on {} programs, {differences} differ", bad.len(), programs.len());
+    Ok(differences)
+}

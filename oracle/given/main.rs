@@ -1,0 +1,6 @@
+//! Answers request records by the crate; `-` where the crate has no such call.
+
+fn main() -> std::io::Result<()> {
+    crate_oracle::oracle::warnings::record_from_now_on();
+    records::serve(crate_oracle::oracle::answer)
+}

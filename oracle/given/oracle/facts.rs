@@ -1,0 +1,189 @@
+//! Where the crate and document 01 part on purpose, each with its smallest input, as NOTES.md lists them.
+
+use super::warnings;
+use crate::error::{EncodingError, ParserError};
+use crate::models::*;
+use crate::parser::bgp::attributes::parse_attributes;
+use crate::parser::bgp::messages::{parse_bgp_message, parse_bgp_update_message};
+use crate::parser::utils::{encode_nlri_prefixes, parse_nlri_list, ReadUtils};
+use bytes::{Buf, Bytes, BytesMut};
+use std::str::FromStr;
+use std::sync::Once;
+
+static RECORDER: Once = Once::new();
+
+/// Every fact with its name. Each is a function and not a test, since a folder of the whole crate has tests of its own.
+pub const ALL: &[(&str, fn())] = &[
+    ("warnings_of_cut_and_trailing_messages", warnings_of_cut_and_trailing_messages),
+    ("a_refused_message_is_consumed_in_part", a_refused_message_is_consumed_in_part),
+    ("a_refused_single_route_is_not_consumed", a_refused_single_route_is_not_consumed),
+    ("lists_and_values_have_no_greatest_size", lists_and_values_have_no_greatest_size),
+    ("a_refused_path_leaves_its_output_half_written", a_refused_path_leaves_its_output_half_written),
+    ("rows_of_both_forms_and_families_are_written_together", rows_of_both_forms_and_families_are_written_together),
+    ("octets_past_the_length_are_dropped_when_written", octets_past_the_length_are_dropped_when_written),
+    ("an_open_over_4096_is_written_and_then_refused", an_open_over_4096_is_written_and_then_refused),
+    ("an_update_body_has_no_limit_of_its_own", an_update_body_has_no_limit_of_its_own),
+    ("an_unfinished_long_attribute_refuses_the_update", an_unfinished_long_attribute_refuses_the_update),
+    ("a_keepalive_with_a_body_is_accepted", a_keepalive_with_a_body_is_accepted),
+    (
+        "bodies_shorter_than_their_least_are_refused_after_the_header",
+        bodies_shorter_than_their_least_are_refused_after_the_header,
+    ),
+    ("an_empty_segment_is_kept", an_empty_segment_is_kept),
+    ("segments_are_appended_without_merging", segments_are_appended_without_merging),
+    (
+        "an_as_number_remembers_its_width_but_is_compared_by_value",
+        an_as_number_remembers_its_width_but_is_compared_by_value,
+    ),
+    (
+        "an_attribute_that_the_crate_refuses_does_not_refuse_the_update",
+        an_attribute_that_the_crate_refuses_does_not_refuse_the_update,
+    ),
+    ("an_aggregator_with_a_16_byte_address_is_written_and_then_refused", SixteenBytes::hold),
+];
+
+/// A fact about functions that only a neighbour of their module can call; the stub attr_35_otc.rs is one.
+pub trait PrivateFact {
+    fn hold();
+}
+
+pub struct SixteenBytes;
+
+/// A message with an all-FF marker.
+fn message(claimed: u16, kind: u8, body: &[u8]) -> Bytes {
+    Bytes::from([&[0xFF; 16], &claimed.to_be_bytes()[..], &[kind], body].concat())
+}
+
+fn read_message(data: &mut Bytes) -> (Result<BgpMessage, ParserError>, Vec<String>) {
+    RECORDER.call_once(warnings::record_from_now_on);
+    warnings::during(|| parse_bgp_message(data, false, &AsnLength::Bits32))
+}
+
+/// One test, so that no other call's warnings come between.
+fn warnings_of_cut_and_trailing_messages() {
+    let (read, warned) = read_message(&mut message(20, 4, &[]));
+    assert!(read.is_ok() && warned.is_empty(), "a cut message gives no warning");
+    let (read, warned) = read_message(&mut message(19, 4, &[0]));
+    assert!(read.is_ok());
+    assert_eq!(warned.len(), 1, "a trailing byte does");
+}
+
+fn a_refused_message_is_consumed_in_part() {
+    for (claimed, kind, body, left) in [(18, 4, vec![], 1), (19, 9, vec![], 0), (23, 2, vec![0, 0, 0, 1], 0)] {
+        let mut data = message(claimed, kind, &body);
+        assert!(parse_bgp_message(&mut data, false, &AsnLength::Bits32).is_err());
+        assert_eq!(data.remaining(), left);
+    }
+}
+
+fn a_refused_single_route_is_not_consumed() {
+    let mut data = Bytes::from_static(&[8]);
+    assert!(data.read_nlri_prefix(&Afi::Ipv4, false).is_err());
+    assert_eq!(data.remaining(), 1);
+}
+
+fn lists_and_values_have_no_greatest_size() {
+    let list = parse_nlri_list(Bytes::from([[8u8, 10]; 32_768].concat()), false, &Afi::Ipv4);
+    assert_eq!(list.unwrap().len(), 32_768);
+    let path =
+        crate::parser::bgp::attributes::parse_as_path(Bytes::from([[2u8, 0]; 32_768].concat()), &AsnLength::Bits16);
+    assert_eq!(path.unwrap().segments.len(), 32_768);
+    let body = [vec![0; 5], [8u8, 10].repeat(32_756)].concat();
+    assert_eq!(body.len(), 65_517);
+    assert!(parse_bgp_update_message(Bytes::from(body), false, &AsnLength::Bits32).is_ok());
+}
+
+fn a_refused_path_leaves_its_output_half_written() {
+    let mut path = AsPath::new();
+    path.append_segment(AsPathSegment::sequence([65_536]));
+    let attribute = Attribute { value: AttributeValue::AsPath(path), flag: AttrFlags::TRANSITIVE };
+    let mut output = BytesMut::new();
+    assert!(attribute.encode_to(AsnLength::Bits16, &mut output).is_err());
+    assert_eq!(output[..], [0x40, 2, 0, 2, 1], "flags, type, no length yet; segment type and count");
+}
+
+fn rows_of_both_forms_and_families_are_written_together() {
+    let plain = NetworkPrefix::from_str("10.0.0.0/8").unwrap();
+    let mut tagged = NetworkPrefix::from_str("11.0.0.0/8").unwrap();
+    tagged.path_id = Some(7);
+    let ipv6 = NetworkPrefix::from_str("2001::/16").unwrap();
+    let written = encode_nlri_prefixes(&[plain, tagged, ipv6]);
+    assert_eq!(written[..], [8, 10, 0, 0, 0, 7, 8, 11, 16, 0x20, 1]);
+}
+
+fn octets_past_the_length_are_dropped_when_written() {
+    let prefix = NetworkPrefix::from_str("10.1.2.3/8").unwrap();
+    assert_eq!(prefix.encode()[..], [8, 10]);
+    let host_bits = NetworkPrefix::from_str("10.255.0.0/9").unwrap();
+    assert_eq!(host_bits.encode()[..], [9, 10, 255], "but bits in the last octet are kept");
+}
+
+fn an_open_over_4096_is_written_and_then_refused() {
+    let parameter = OptParam { param_type: 1, param_value: ParamValue::Raw(vec![0; 4_062]) };
+    let open = BgpOpenMessage {
+        version: 4,
+        asn: Asn::new_16bit(1),
+        hold_time: 0,
+        bgp_identifier: std::net::Ipv4Addr::new(0, 0, 0, 1),
+        extended_length: false,
+        opt_params: vec![parameter],
+    };
+    let mut written = BgpMessage::Open(open).encode(AsnLength::Bits32).unwrap();
+    assert_eq!(written.len(), 4_097);
+    assert!(parse_bgp_message(&mut written, false, &AsnLength::Bits32).is_err());
+}
+
+fn an_update_body_has_no_limit_of_its_own() {
+    let mut announced_prefixes = vec![NetworkPrefix::from_str("10.0.0.0/8").unwrap(); 32_756];
+    announced_prefixes.push(NetworkPrefix::from_str("0.0.0.0/0").unwrap());
+    let update = BgpUpdateMessage { announced_prefixes, ..Default::default() };
+    assert_eq!(update.encode(AsnLength::Bits32).unwrap().len(), 65_517);
+    let error = BgpMessage::Update(update).encode(AsnLength::Bits32).unwrap_err();
+    assert!(matches!(error, EncodingError::ValueTooLarge { field: "BGP message total length", .. }));
+}
+
+fn an_unfinished_long_attribute_refuses_the_update() {
+    let body = Bytes::from_static(&[0, 0, 0, 3, 0x10, 0, 0]);
+    assert!(parse_bgp_update_message(body, false, &AsnLength::Bits32).is_err());
+    for accepted in [&[0u8, 0, 0, 2, 0x10, 0][..], &[0, 0, 0, 3, 0, 0, 1], &[0, 0, 0, 4, 0x10, 0, 0, 1]] {
+        assert!(parse_bgp_update_message(Bytes::from(accepted), false, &AsnLength::Bits32).is_ok());
+    }
+}
+
+fn a_keepalive_with_a_body_is_accepted() {
+    let read = parse_bgp_message(&mut message(20, 4, &[0]), false, &AsnLength::Bits32);
+    assert_eq!(read.unwrap(), BgpMessage::KeepAlive);
+}
+
+fn bodies_shorter_than_their_least_are_refused_after_the_header() {
+    for (kind, least) in [(1, 10), (2, 4), (3, 2), (5, 4)] {
+        for length in [least - 1, least] {
+            let mut data = message(19 + length as u16, kind, &vec![0; length]);
+            let read = parse_bgp_message(&mut data, false, &AsnLength::Bits32);
+            assert_eq!(read.is_ok(), length == least);
+            assert_eq!(data.remaining(), 0, "the body was taken all the same");
+        }
+    }
+}
+
+fn an_empty_segment_is_kept() {
+    let path = crate::parser::bgp::attributes::parse_as_path(Bytes::from_static(&[2, 0]), &AsnLength::Bits16).unwrap();
+    assert_eq!((path.segments.len(), path.segments[0].len()), (1, 0));
+}
+
+fn segments_are_appended_without_merging() {
+    let value = Bytes::from_static(&[2, 1, 0, 1, 2, 1, 0, 1]);
+    let path = crate::parser::bgp::attributes::parse_as_path(value, &AsnLength::Bits16).unwrap();
+    assert_eq!(path.segments.len(), 2);
+}
+
+fn an_as_number_remembers_its_width_but_is_compared_by_value() {
+    assert_eq!(Asn::new_16bit(1), Asn::new_32bit(1));
+    assert_ne!(Asn::new_16bit(1).is_four_byte(), Asn::new_32bit(1).is_four_byte());
+}
+
+fn an_attribute_that_the_crate_refuses_does_not_refuse_the_update() {
+    let section = Bytes::from_static(&[0x40, 2, 1, 2]);
+    let attributes = parse_attributes(section, &AsnLength::Bits16, false, None, None, None).unwrap();
+    assert!(attributes.as_path().is_none() && attributes.has_validation_warnings());
+}

@@ -1,0 +1,1 @@
+//! Stub: not compared.

@@ -1,0 +1,3 @@
+pub mod attributes;
+pub mod dissect;
+pub mod messages;

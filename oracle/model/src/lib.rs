@@ -1,0 +1,188 @@
+//! A model of every call, written from document 01 and the RFCs it names, and from no other code.
+//! Each function follows the order of checks of its section.
+
+mod headers;
+mod paths;
+mod routes;
+mod updates;
+
+use records::{lent_of, sum_bytes, Answer, Lent, Request, ADD_PATH, FOUR_BYTE_AS, GUESS, IPV6, STRICT};
+
+/// A number of the table "Refusal numbers".
+pub type Refusal = u32;
+
+/// The most bytes of a list or an attribute value.
+const MOST_BYTES: usize = 65_535;
+
+/// The answer to a request.
+pub fn answer(request: &Request) -> Answer {
+    match call(request) {
+        Ok((numbers, lent)) => Answer { refusal: 0, numbers, lent },
+        Err(refusal) => Answer::refused(request, refusal),
+    }
+}
+
+type Done = Result<(Vec<u64>, Vec<Lent>), Refusal>;
+
+fn call(request: &Request) -> Done {
+    let bytes = request.parts[0].as_slice();
+    match request.op {
+        1 => one_route(request, bytes),
+        2 => stored_rows(request, routes::list(bytes, reading(request), family(request))?),
+        3 => counted(routes::list(bytes, reading(request), family(request))?.len()),
+        4 => stored_rows(request, routes::section(bytes, reading(request))?),
+        5 => counted(routes::section(bytes, reading(request))?.len()),
+        6 => stored_path(request, paths::read(bytes, width(request))?),
+        7 => path_counts(&paths::read(bytes, width(request))?),
+        8 => aggregator(request, bytes),
+        9 => header(request, bytes),
+        10 => stored_update(request, bytes),
+        11 => Ok((updates::read(bytes, reading(request))?.numbers(), vec![])),
+        12 => update_parts(bytes),
+        13 => {
+            let rows = request.numbers(0);
+            written(request, routes::write(&rows, request.has(ADD_PATH), family(request))?, true)
+        }
+        14 => written(request, paths::write(&request.numbers(0), &request.numbers(1), width(request))?, true),
+        15 => {
+            let values = request.numbers(0);
+            written(request, paths::write_aggregator(values[0], values[1], width(request))?, true)
+        }
+        16 => written(request, headers::write(request.argument, bytes)?, false),
+        17 => {
+            let body =
+                updates::write(&request.numbers(0), &request.parts[1], &request.numbers(2), request.has(ADD_PATH))?;
+            written(request, body, false)
+        }
+        _ => unreachable!("records gives ops 1 to 17"),
+    }
+}
+
+fn family(request: &Request) -> routes::Family {
+    if request.has(IPV6) {
+        routes::Family::Ipv6
+    } else {
+        routes::Family::Ipv4
+    }
+}
+
+fn reading(request: &Request) -> routes::Reading {
+    match (request.has(ADD_PATH), request.has(GUESS)) {
+        (true, _) => routes::Reading::WithIds,
+        (false, false) => routes::Reading::WithoutIds,
+        (false, true) => routes::Reading::Guess,
+    }
+}
+
+fn width(request: &Request) -> usize {
+    if request.has(FOUR_BYTE_AS) {
+        4
+    } else {
+        2
+    }
+}
+
+fn one_route(request: &Request, bytes: &[u8]) -> Done {
+    let (used, row) = routes::item(bytes, request.has(ADD_PATH), family(request))?;
+    let mut numbers = vec![used as u64];
+    numbers.extend(row.iter().map(|word| u64::from(*word)));
+    Ok((numbers, vec![]))
+}
+
+fn counted(count: usize) -> Done {
+    Ok((vec![count as u64], vec![]))
+}
+
+/// Rows into the first store, six places each.
+fn stored_rows(request: &Request, rows: Vec<routes::Row>) -> Done {
+    let mut lent = lent_of(request);
+    if request.room_a / 6 < rows.len() {
+        return Err(11);
+    }
+    lent[0].put_numbers(&rows.concat());
+    Ok((vec![rows.len() as u64], lent))
+}
+
+fn path_counts(path: &[paths::Segment]) -> Done {
+    let numbers: usize = path.iter().map(|segment| segment.numbers.len()).sum();
+    Ok((vec![path.len() as u64, numbers as u64], vec![]))
+}
+
+/// Pairs into the first store, numbers back to back into the second.
+fn stored_path(request: &Request, path: Vec<paths::Segment>) -> Done {
+    let pairs: Vec<u32> = path.iter().flat_map(|segment| [segment.kind, segment.numbers.len() as u32]).collect();
+    let numbers: Vec<u32> = path.iter().flat_map(|segment| segment.numbers.iter().copied()).collect();
+    if request.room_a < pairs.len() || request.room_b < numbers.len() {
+        return Err(11);
+    }
+    let mut lent = lent_of(request);
+    lent[0].put_numbers(&pairs);
+    lent[1].put_numbers(&numbers);
+    let (counts, _) = path_counts(&path)?;
+    Ok((counts, lent))
+}
+
+fn aggregator(request: &Request, bytes: &[u8]) -> Done {
+    let (number, identifier, found) = paths::read_aggregator(bytes)?;
+    let differs = found != width(request);
+    Ok((vec![u64::from(number), u64::from(identifier), u64::from(differs)], vec![]))
+}
+
+fn header(request: &Request, bytes: &[u8]) -> Done {
+    let header = if request.has(STRICT) { headers::strict(bytes)? } else { headers::crate_reading(bytes)? };
+    let body = &bytes[19..header.taken];
+    Ok((
+        vec![
+            u64::from(header.kind),
+            header.claimed as u64,
+            header.taken as u64,
+            u64::from(header.marker),
+            u64::from(header.cut),
+            u64::from(header.trailing),
+            body.len() as u64,
+            sum_bytes(body),
+        ],
+        vec![],
+    ))
+}
+
+/// Both lists into their stores, or a refusal with both unchanged.
+fn stored_update(request: &Request, bytes: &[u8]) -> Done {
+    let update = updates::read(bytes, reading(request))?;
+    let numbers = update.numbers();
+    let mut lent = lent_of(request);
+    let lists = [(update.withdrawn, request.room_a), (update.announced, request.room_b)];
+    for (list, room) in &lists {
+        if list.as_ref().is_ok_and(|rows| room / 6 < rows.len()) {
+            return Err(11);
+        }
+    }
+    for ((list, _), store) in lists.iter().zip(&mut lent) {
+        if let Ok(rows) = list {
+            store.put_numbers(&rows.concat());
+        }
+    }
+    Ok((numbers, lent))
+}
+
+fn update_parts(bytes: &[u8]) -> Done {
+    let parts = updates::parts(bytes)?;
+    let numbers = [parts.withdrawn, parts.attributes, parts.announced]
+        .iter()
+        .flat_map(|part| [part.len() as u64, sum_bytes(part)])
+        .collect();
+    Ok((numbers, vec![]))
+}
+
+/// Bytes into the output: for a list or a value 1 first if they are too many, then 11 if there is no room.
+fn written(request: &Request, bytes: Vec<u8>, is_list_or_value: bool) -> Done {
+    if is_list_or_value && bytes.len() > MOST_BYTES {
+        return Err(1);
+    }
+    if request.room_a < bytes.len() {
+        return Err(11);
+    }
+    let mut lent = lent_of(request);
+    lent[0].put_bytes(&bytes);
+    Ok((vec![bytes.len() as u64], lent))
+}

@@ -1,0 +1,167 @@
+//! "One route, and a list of them".
+
+use crate::{Refusal, MOST_BYTES};
+
+#[derive(Debug, Clone, Copy, PartialEq, Eq)]
+pub enum Family {
+    Ipv4,
+    Ipv6,
+}
+
+impl Family {
+    /// The greatest prefix length.
+    pub fn most_bits(self) -> u32 {
+        match self {
+            Family::Ipv4 => 32,
+            Family::Ipv6 => 128,
+        }
+    }
+}
+
+/// How a list is read.
+#[derive(Debug, Clone, Copy, PartialEq, Eq)]
+pub enum Reading {
+    WithIds,
+    WithoutIds,
+    Guess,
+}
+
+/// Length, plus 256 with an id; id or 0; four address words.
+pub type Row = [u32; 6];
+
+const HAS_ID: u32 = 256;
+
+/// Bits rounded up to whole octets.
+fn octets(bits: u32) -> usize {
+    (bits as usize + 7) / 8
+}
+
+/// Octets as four big-endian words, zeros after them.
+fn address_words(address: &[u8]) -> [u32; 4] {
+    let mut words = [0u32; 4];
+    for (at, octet) in address.iter().enumerate() {
+        words[at / 4] |= u32::from(*octet) << (24 - 8 * (at % 4));
+    }
+    words
+}
+
+/// One item: how many bytes it used, and its row.
+pub fn item(bytes: &[u8], with_id: bool, family: Family) -> Result<(usize, Row), Refusal> {
+    let mut used = 0;
+    let mut id = 0;
+    if with_id {
+        if bytes.len() < 4 {
+            return Err(2);
+        }
+        id = address_words(&bytes[..4])[0];
+        used = 4;
+    }
+    let Some(length) = bytes.get(used).map(|byte| u32::from(*byte)) else {
+        return Err(2);
+    };
+    used += 1;
+    if length > family.most_bits() {
+        return Err(7);
+    }
+    let end = used + octets(length);
+    if bytes.len() < end {
+        return Err(2);
+    }
+    let words = address_words(&bytes[used..end]);
+    let first = length + if with_id { HAS_ID } else { 0 };
+    Ok((end, [first, id, words[0], words[1], words[2], words[3]]))
+}
+
+/// Items of one form until the bytes end.
+fn items(mut bytes: &[u8], with_id: bool, family: Family) -> Result<Vec<Row>, Refusal> {
+    let mut rows = vec![];
+    while !bytes.is_empty() {
+        let (used, row) = item(bytes, with_id, family)?;
+        rows.push(row);
+        bytes = &bytes[used..];
+    }
+    Ok(rows)
+}
+
+enum State {
+    Plain,
+    Tagged,
+}
+
+/// The walk of the guess.
+fn guessed_items(mut bytes: &[u8], family: Family) -> Result<Vec<Row>, Refusal> {
+    let mut rows = vec![];
+    let mut state = State::Plain;
+    while !bytes.is_empty() {
+        let (used, row) = match state {
+            State::Plain if bytes[0] == 0 => {
+                state = State::Tagged;
+                continue;
+            }
+            State::Plain => item(bytes, false, family)?,
+            State::Tagged => match item(bytes, true, family) {
+                Ok(taken) => taken,
+                Err(_) => {
+                    state = State::Plain;
+                    item(bytes, false, family)?
+                }
+            },
+        };
+        rows.push(row);
+        bytes = &bytes[used..];
+    }
+    Ok(rows)
+}
+
+/// A route list.
+pub fn list(bytes: &[u8], reading: Reading, family: Family) -> Result<Vec<Row>, Refusal> {
+    if bytes.len() > MOST_BYTES {
+        return Err(1);
+    }
+    match reading {
+        Reading::WithIds => items(bytes, true, family),
+        Reading::WithoutIds => items(bytes, false, family),
+        Reading::Guess => guessed_items(bytes, family),
+    }
+}
+
+/// A section of an UPDATE: an IPv4 list, except that a single nonzero byte is 8.
+pub fn section(bytes: &[u8], reading: Reading) -> Result<Vec<Row>, Refusal> {
+    match bytes {
+        [byte] if *byte != 0 => Err(8),
+        _ => list(bytes, reading, Family::Ipv4),
+    }
+}
+
+/// The bytes of one row, or 14.
+fn write_row(row: &[u32], with_id: bool, family: Family) -> Result<Vec<u8>, Refusal> {
+    let (first, id, address) = (row[0], row[1], &row[2..6]);
+    let length = if with_id { first.checked_sub(HAS_ID).ok_or(14u32)? } else { first };
+    if length > family.most_bits() || (!with_id && id != 0) {
+        return Err(14);
+    }
+    let all: Vec<u8> = address.iter().flat_map(|word| word.to_be_bytes()).collect();
+    let (kept, past) = all.split_at(octets(length));
+    if past.iter().any(|octet| *octet != 0) {
+        return Err(14);
+    }
+    let mut bytes = vec![];
+    if with_id {
+        bytes.extend_from_slice(&id.to_be_bytes());
+    }
+    bytes.push(length as u8);
+    bytes.extend_from_slice(kept);
+    Ok(bytes)
+}
+
+/// The bytes of a list of rows, or 14; how many they may be is for the caller.
+pub fn write(words: &[u32], with_id: bool, family: Family) -> Result<Vec<u8>, Refusal> {
+    if words.len() % 6 != 0 {
+        return Err(14);
+    }
+    let mut bytes = vec![];
+    for row in words.chunks_exact(6) {
+        bytes.extend(write_row(row, with_id, family)?);
+    }
+    Ok(bytes)
+}

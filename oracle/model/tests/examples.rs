@@ -1,0 +1,107 @@
+//! Every example of document 01, with the line it comes to.
+
+use records::{Request, ADD_PATH, FOUR_BYTE_AS, GUESS, IPV6, STRICT};
+
+fn hex(text: &str) -> Vec<u8> {
+    text.split_whitespace().map(|byte| u8::from_str_radix(byte, 16).expect("a byte")).collect()
+}
+
+fn words(numbers: &[u32]) -> Vec<u8> {
+    numbers.iter().flat_map(|number| number.to_be_bytes()).collect()
+}
+
+/// Refusal and numbers of a call that is lent nothing, as text.
+fn told(op: u8, settings: u8, bytes: Vec<u8>) -> String {
+    let request = Request { op, settings, parts: [bytes, vec![], vec![]], ..Request::default() };
+    let line = model::answer(&request).line(1, op);
+    line.split_once(' ').and_then(|(_, rest)| rest.split_once(' ')).expect("three fields").1.to_string()
+}
+
+/// The rows of a list, or its refusal.
+fn rows(op: u8, settings: u8, bytes: &str) -> Result<Vec<[u32; 6]>, u32> {
+    let parts = [hex(bytes), vec![], vec![]];
+    let request = Request { op, settings, room_a: 60, parts, ..Request::default() };
+    let answer = model::answer(&request);
+    let records::Lent::Numbers(store) = &answer.lent[0] else { panic!("rows are numbers") };
+    match answer.refusal {
+        0 => Ok(store.chunks_exact(6).take(answer.numbers[0] as usize).map(|row| row.try_into().unwrap()).collect()),
+        refusal => Err(refusal),
+    }
+}
+
+/// A row without id and with the first address word only.
+fn plain(length: u32, address: [u8; 4]) -> [u32; 6] {
+    [length, 0, u32::from_be_bytes(address), 0, 0, 0]
+}
+
+fn tagged(id: u32, length: u32, address: [u8; 4]) -> [u32; 6] {
+    [256 + length, id, u32::from_be_bytes(address), 0, 0, 0]
+}
+
+#[test]
+fn lists() {
+    let default = plain(0, [0; 4]);
+    assert_eq!(rows(2, 0, ""), Ok(vec![]));
+    assert_eq!(rows(2, 0, "00"), Ok(vec![default]));
+    assert_eq!(rows(2, GUESS, "00"), Ok(vec![default]));
+    assert_eq!(rows(2, ADD_PATH, "00"), Err(2));
+    assert_eq!(rows(4, 0, "08"), Err(8));
+    assert_eq!(rows(2, 0, "08"), Err(2));
+    assert_eq!(rows(2, 0, "20 0A 00 00 01"), Ok(vec![plain(32, [10, 0, 0, 1])]));
+    assert_eq!(rows(2, 0, "21 0A 00 00 00 00"), Err(7));
+    assert_eq!(rows(2, 0, "09 0A FF"), Ok(vec![plain(9, [10, 255, 0, 0])]));
+    assert_eq!(rows(2, ADD_PATH, "00 00 00 07 08 0A"), Ok(vec![tagged(7, 8, [10, 0, 0, 0])]));
+    assert_eq!(rows(2, 0, "00 00 00 07 08 0A"), Err(2));
+    assert_eq!(rows(2, 0, "00 00 00 07 08"), Ok(vec![default, default, default, plain(7, [8, 0, 0, 0])]));
+    let routes = vec![default, plain(24, [10, 1, 8, 0]), plain(24, [200, 2, 0, 0])];
+    assert_eq!(rows(2, 0, "00 18 0A 01 08 18 C8 02 00"), Ok(routes));
+    assert_eq!(rows(2, GUESS, "00 18 0A 01 08 18 C8 02 00"), Err(7));
+    assert_eq!(rows(2, GUESS, "00 18 0A 01 08 18"), Ok(vec![tagged(1_575_425, 8, [24, 0, 0, 0])]));
+    let routes = vec![tagged(0, 8, [10, 0, 0, 0]), plain(8, [11, 0, 0, 0])];
+    assert_eq!(rows(2, GUESS, "00 00 00 00 08 0A 08 0B"), Ok(routes));
+    let ipv6 = [64, 0, 0x2001_0DB8, 1, 0, 0];
+    assert_eq!(rows(2, IPV6, "40 20 01 0D B8 00 00 00 01"), Ok(vec![ipv6]));
+    assert_eq!(rows(2, IPV6, "81"), Err(7));
+}
+
+#[test]
+fn paths_and_aggregators() {
+    let sequence = hex("02 02 00 00 FD E9 00 00 FD EA");
+    assert_eq!(told(7, FOUR_BYTE_AS, sequence.clone()), "0 1 2");
+    assert_eq!(told(7, 0, sequence), "9 0 0");
+    assert_eq!(told(7, 0, hex("02 00")), "0 1 0");
+    assert_eq!(told(7, 0, hex("05 01")), "2 0 0");
+    assert_eq!(told(7, 0, hex("05 00")), "9 0 0");
+    assert_eq!(told(8, 0, hex("FD E9 0A 00 00 01")), "0 65001 167772161 0");
+    assert_eq!(told(8, FOUR_BYTE_AS, hex("FD E9 0A 00 00 01")), "0 65001 167772161 1");
+    assert_eq!(told(8, 0, hex("00 FD E9 0A 00 00 01")), "10 0 0 0");
+}
+
+#[test]
+fn written_paths() {
+    let write = |settings, pairs: &[u32], numbers: &[u32]| {
+        let parts = [words(pairs), words(numbers), vec![]];
+        model::answer(&Request { op: 14, settings, room_a: 2_000, parts, ..Request::default() }).refusal
+    };
+    assert_eq!(write(0, &[2, 1], &[65_536]), 13);
+    assert_eq!(write(FOUR_BYTE_AS, &[2, 1], &[65_536]), 0);
+    assert_eq!(write(0, &[2, 255], &[1; 255]), 0);
+    assert_eq!(write(0, &[2, 256], &[1; 256]), 12);
+    assert_eq!(write(0, &[2], &[]), 14);
+    assert_eq!(write(0, &[5, 2], &[1]), 14);
+}
+
+#[test]
+fn headers() {
+    let message = |rest: &str| [vec![0xFF; 16], hex(rest)].concat();
+    assert_eq!(told(9, 0, message("00 13 04")), "0 4 19 19 0 0 0 0 0");
+    assert_eq!(told(9, STRICT, message("00 13 04")), "0 4 19 19 0 0 0 0 0");
+    assert_eq!(told(9, 0, message("00 12 09")), "3 0 0 0 0 0 0 0 0");
+    assert_eq!(told(9, 0, message("10 01 01")), "3 0 0 0 0 0 0 0 0");
+}
+
+#[test]
+fn the_format_page() {
+    let request = Request { op: 3, parts: [hex("20 0A 00 00 01"), vec![], vec![]], ..Request::default() };
+    assert_eq!(model::answer(&request).line(1, 3), "1 3 0 1");
+}
