@@ -1,0 +1,5 @@
+pub mod Slot
+pub mod SlotLaws
+pub mod Line
+pub mod Growth
+pub mod LineLaws
