@@ -3,3 +3,5 @@ pub mod SlotLaws
 pub mod Line
 pub mod Growth
 pub mod LineLaws
+pub mod Theorems
+pub mod Tight

@@ -25,13 +25,17 @@ recordSize = 5
 abbrev pub settingsLimit : ℕ
 settingsLimit = 3
 
--- a byte stands at a place, and it is another one
-unfoldable pub differs : List ℕ → ℕ → ℕ → Bool
-differs s at b = pick (leb (length s) at) false (not (eqb (getD s at 0) b))
+-- a byte stands at a place, and a test holds of it
+unfoldable pub found : (ℕ → Bool) → List ℕ → ℕ → Bool
+found test s at = pick (leb (length s) at) false (test (getD s at 0))
 
--- the settings byte is there, and is over 3
-unfoldable pub overSettings : List ℕ → Bool
-overSettings s = pick (leb (length s) 4) false (ltb settingsLimit (getD s 4 0))
+-- it is another one than b
+abbrev pub differs : List ℕ → ℕ → ℕ → Bool
+differs s at b = found (λ x. not (eqb x b)) s at
+
+-- the settings byte is over 3
+abbrev pub overSettings : List ℕ → Bool
+overSettings s = found (λ x. ltb settingsLimit x) s 4
 
 -- 1 is Add-Path, and 2 the guess, which is for Add-Path off alone
 unfoldable pub modeOf : ℕ → AddPath

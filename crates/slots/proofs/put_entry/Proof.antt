@@ -1,6 +1,6 @@
 use native.Mathlib.Omega.{arith}
 use Rattle.messages.specs.Header.{updateKind}
-use Rattle.slots.specs.Line.{entryText}
+use Rattle.slots.specs.Line.{entryText, fieldsText}
 use Rattle.slots.specs.LineLaws.{fields-few}
 use Rattle.slots.specs.Growth.{grow}
 use borrow.Author.Needs.{needs}
@@ -57,7 +57,10 @@ unfolding entryText
 returns-2 c =
     let q = c .before .before in
     let p = q .before .before .before .before .before in
-    rw (p .before .before .before .entry2 .given .1) (grow (p .put-fields .ensures) (q .put-text .ensures))
+    let g = p .before .before .before .entry2 .given .0 in
+    let a = p .before .before .before .before .before .before .args in
+    rw (p .before .before .before .entry2 .given .1)
+    (grow {vs = fieldsText (g .0) (g .1 .0) (a .kept) (g .1 .1 .0)} (p .put-fields .ensures) (q .put-text .ensures))
 
 same-length-3 : tie.Need-same-length-3
 same-length-3 c = search needs
