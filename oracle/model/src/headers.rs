@@ -70,7 +70,7 @@ pub fn crate_reading(bytes: &[u8]) -> Result<Header, Refusal> {
     })
 }
 
-/// The reading of RFC 4271. Bytes after the message belong to the next, so nothing trails.
+/// The reading of RFC 4271. Bytes after the message are not taken; the flag says that there are some.
 pub fn strict(bytes: &[u8]) -> Result<Header, Refusal> {
     if bytes.len() < HEADER {
         return Err(2);
@@ -90,7 +90,7 @@ pub fn strict(bytes: &[u8]) -> Result<Header, Refusal> {
     if claimed > bytes.len() {
         return Err(2);
     }
-    Ok(Header { kind, claimed, taken: claimed, marker: false, cut: false, trailing: false })
+    Ok(Header { kind, claimed, taken: claimed, marker: false, cut: false, trailing: claimed < bytes.len() })
 }
 
 /// The bytes of a message.

@@ -1,0 +1,85 @@
+use borrow.Author.Needs.{needs}
+use native.Mathlib.Omega.{arith}
+use Prim.Native.Nat.{_-_, _≤_}
+use lib.ListN.{length}
+use mathlib.Core.Path.{_≡_}
+use Rattle.answers.proofs.line.first_bytes.Statement.{statement}
+use Rattle.answers.proofs.line.first_bytes.Tie as tie
+use Rattle.answers.proofs.line.first_bytes.Reads as reads
+use Rattle.answers.proofs.line.first_bytes.Lts as lts
+use Rattle.answers.proofs.line.number.Reads as number-reads
+use Rattle.answers.proofs.line.wider.Reads as wider-reads
+use Rattle.wire.proofs.wide.Reads as wide-reads
+
+abbrev Inv-loop : tie.InvT-loop
+Inv-loop out₀ at s next₀ i₀ out next i = (length out ≡ length out₀) × (i ≤ length s)
+
+abbrev μ-loop : tie.MeasureT-loop
+μ-loop out₀ at s next₀ i₀ out next i = length s - i
+
+-- src/line.rt:102:5
+loop-holds : tie.Need-loop-holds Inv-loop μ-loop
+loop-holds c = search needs
+
+-- src/line.rt:104:13
+same-length : tie.Need-same-length Inv-loop μ-loop
+same-length c = search needs
+
+-- src/line.rt:104:13
+returns : tie.Need-returns Inv-loop μ-loop
+returns c = search needs
+
+-- src/line.rt:106:51
+shared-slice-read-wide : tie.Need-shared-slice-read-wide Inv-loop μ-loop
+shared-slice-read-wide c = search needs
+
+-- src/line.rt:106:40
+wide-requires : tie.Need-wide-requires Inv-loop μ-loop
+wide-requires c κs = search needs
+
+-- src/line.rt:106:34
+wider-requires : tie.Need-wider-requires Inv-loop μ-loop
+wider-requires c κs = search needs
+
+-- src/line.rt:106:9
+number-requires : tie.Need-number-requires Inv-loop μ-loop
+number-requires c κs = search needs
+
+-- src/line.rt:107:13
+add-i : tie.Need-add-i Inv-loop μ-loop
+add-i c = search needs
+
+-- src/line.rt:102:5
+loop-less : tie.Need-loop-less Inv-loop μ-loop
+loop-less c = search needs
+
+-- src/line.rt:102:5
+loop-again : tie.Need-loop-again Inv-loop μ-loop
+loop-again c = search needs
+
+-- src/line.rt:99:1
+same-length-2 : tie.Need-same-length-2 Inv-loop μ-loop
+same-length-2 c = search needs
+
+-- src/line.rt:99:1
+returns-2 : tie.Need-returns-2 Inv-loop μ-loop
+returns-2 c = search needs
+
+pub first-bytes-spec : {M : Type 1} → statement M
+first-bytes-spec =
+    tie.close
+    (tie.spec
+    Inv-loop
+    μ-loop
+    loop-holds
+    same-length
+    returns
+    shared-slice-read-wide
+    wide-requires
+    wider-requires
+    number-requires
+    add-i
+    loop-less
+    loop-again
+    same-length-2
+    returns-2)

@@ -1,0 +1,74 @@
+use borrow.Author.Needs.{needs}
+use native.Mathlib.Omega.{arith}
+use Prim.Native.Nat.{_-_, _≤_}
+use lib.ListN.{length}
+use mathlib.Core.Path.{_≡_}
+use Rattle.answers.proofs.store.decode.Statement.{statement}
+use Rattle.answers.proofs.store.decode.Tie as tie
+use Rattle.answers.proofs.store.decode.Reads as reads
+use Rattle.answers.proofs.store.decode.Lts as lts
+use Rattle.answers.proofs.request.plus.Reads as plus-reads
+use Rattle.wire.proofs.u32_at.Reads as u32-at-reads
+
+abbrev Inv-loop : tie.InvT-loop
+Inv-loop s store₀ at₀ i₀ store at i = (length store ≡ length store₀) × (i ≤ length store₀)
+
+abbrev μ-loop : tie.MeasureT-loop
+μ-loop s store₀ at₀ i₀ store at i = length store₀ - i
+
+-- src/store.rt:26:5
+loop-holds : tie.Need-loop-holds Inv-loop μ-loop
+loop-holds c = search needs
+
+-- src/store.rt:27:20
+u32-at-requires : tie.Need-u32-at-requires Inv-loop μ-loop
+u32-at-requires c κs = search needs
+
+-- src/store.rt:27:9
+mul-store : tie.Need-mul-store Inv-loop μ-loop
+mul-store c = search needs
+
+-- src/store.rt:27:9
+slice-write-store : tie.Need-slice-write-store Inv-loop μ-loop
+slice-write-store c = search needs
+
+-- src/store.rt:28:9
+plus-requires : tie.Need-plus-requires Inv-loop μ-loop
+plus-requires c κs = search needs
+
+-- src/store.rt:29:13
+add-i : tie.Need-add-i Inv-loop μ-loop
+add-i c = search needs
+
+-- src/store.rt:26:5
+loop-less : tie.Need-loop-less Inv-loop μ-loop
+loop-less c = search needs
+
+-- src/store.rt:26:5
+loop-again : tie.Need-loop-again Inv-loop μ-loop
+loop-again c = search needs
+
+-- src/store.rt:23:1
+same-length : tie.Need-same-length Inv-loop μ-loop
+same-length c = search needs
+
+-- src/store.rt:23:1
+returns : tie.Need-returns Inv-loop μ-loop
+returns c = search needs
+
+pub decode-spec : {M : Type 1} → statement M
+decode-spec =
+    tie.close
+    (tie.spec
+    Inv-loop
+    μ-loop
+    loop-holds
+    u32-at-requires
+    mul-store
+    slice-write-store
+    plus-requires
+    add-i
+    loop-less
+    loop-again
+    same-length
+    returns)

@@ -1,0 +1,227 @@
+// Reads request records from standard input, runs the call that each names, and writes a line for each to standard output.
+mod line;
+mod reads;
+mod request;
+mod store;
+mod writes;
+
+use request::Head;
+use request::Judged;
+
+// Output is written when this many bytes wait: what is left holds any line.
+const WAITING_LIMIT: usize = 64000;
+
+// Where the run is: the bytes in hand are input[start..have], the output that waits is out[..at].
+struct State {
+    start: usize,
+    have: usize,
+    record: usize,
+    at: usize,
+    ended: bool,
+    over: bool,
+}
+
+fn writer(
+    h: Head,
+    s: &[u8],
+    rows: &mut [u32],
+    more: &mut [u32],
+    w: &mut [u8],
+    out: &mut [u8],
+    at: usize,
+) -> usize {
+    let one = request::part_one(s, h);
+    let two = request::part_two(s, h);
+    if h.op == 17 {
+        return writes::answer(h, one, two, request::part_three(s, h), rows, more, w, out, at);
+    }
+    writes::answer(h, one, two, two, rows, more, w, out, at)
+}
+
+// The call that an op names.
+fn called(
+    h: Head,
+    s: &[u8],
+    a: &mut [u32],
+    b: &mut [u32],
+    w: &mut [u8],
+    rows: &mut [u32],
+    more: &mut [u32],
+    out: &mut [u8],
+    at: usize,
+) -> usize {
+    if h.op < 13 {
+        return reads::answer(h, request::part_one(s, h), a, b, out, at);
+    }
+    writer(h, s, rows, more, w, out, at)
+}
+
+// The line of a whole record.
+fn answer(
+    s: &[u8],
+    record: usize,
+    a: &mut [u32],
+    b: &mut [u32],
+    w: &mut [u8],
+    rows: &mut [u32],
+    more: &mut [u32],
+    out: &mut [u8],
+    at: usize,
+) -> usize {
+    let h = request::read_head(s);
+    let mut next = line::decimal(out, at, record);
+    next = line::number(out, next, h.op as usize);
+    next = called(h, s, a, b, w, rows, more, out, next);
+    line::put(out, next, b"\n")
+}
+
+// Writes the output that waits, and answers whether all of it went out.
+fn flush(out: &[u8], at: usize) -> bool {
+    io::write_all(1, wire::part(out, 0, at))
+}
+
+// After a record that was answered.
+fn after(state: State, size: usize, at: usize, out: &[u8]) -> State {
+    let mut waiting = at;
+    let mut over = false;
+    if WAITING_LIMIT < at {
+        over = !flush(out, at);
+        waiting = 0;
+    }
+    State {
+        start: request::plus(state.start, size),
+        have: state.have,
+        record: request::plus(state.record, 1),
+        at: waiting,
+        ended: state.ended,
+        over,
+    }
+}
+
+// The end of the run.
+fn finish(state: State, at: usize, out: &[u8]) -> State {
+    flush(out, at);
+    State {
+        start: state.start,
+        have: state.have,
+        record: state.record,
+        at: 0,
+        ended: true,
+        over: true,
+    }
+}
+
+// A record that is short or not given ends the run.
+fn stop(state: State, out: &mut [u8]) -> State {
+    let mut at = line::put(out, state.at, b"stop");
+    at = line::number(out, at, state.record);
+    at = line::put(out, at, b"\n");
+    finish(state, at, out)
+}
+
+// Moves the bytes from start to have to the front.
+fn move_to_front(input: &mut [u8], start: usize, have: usize) {
+    if input.len() < have {
+        return;
+    }
+    let mut to: usize = 0;
+    let mut from = start;
+    while from < have {
+        input[to] = input[from];
+        to = to + 1;
+        from = from + 1;
+    }
+}
+
+// One read: the bytes that came.
+fn read_some(space: &mut [u8]) -> usize {
+    let got = libc::read(0, space);
+    io::count(got, space)
+}
+
+fn read_from(input: &mut [u8], at: usize) -> usize {
+    if input.len() < at {
+        return 0;
+    }
+    read_some(&mut input[at..])
+}
+
+// Writes the output that waits, and reads more behind the bytes in hand.
+fn refill(state: State, input: &mut [u8], out: &[u8]) -> State {
+    let written = flush(out, state.at);
+    move_to_front(input, state.start, state.have);
+    let kept = request::minus(state.have, state.start);
+    let came = read_from(input, kept);
+    State {
+        start: 0,
+        have: request::plus(kept, came),
+        record: state.record,
+        at: 0,
+        ended: came == 0,
+        over: !written,
+    }
+}
+
+// One turn: a record is answered, or more is read, or the run ends.
+fn turn(
+    state: State,
+    input: &mut [u8],
+    a: &mut [u32],
+    b: &mut [u32],
+    w: &mut [u8],
+    rows: &mut [u32],
+    more: &mut [u32],
+    out: &mut [u8],
+) -> State {
+    let start = state.start;
+    let left = request::minus(state.have, start);
+    match request::judge(wire::part(input, start, left), state.ended) {
+        Judged::Whole(size) => {
+            let s = wire::part(input, start, size);
+            let at = answer(s, state.record, a, b, w, rows, more, out, state.at);
+            after(state, size, at, out)
+        }
+        Judged::More => refill(state, input, out),
+        Judged::Wrong => stop(state, out),
+        Judged::End => finish(state, state.at, out),
+    }
+}
+
+// The budget is more turns than a run has.
+fn run(
+    input: &mut [u8],
+    a: &mut [u32],
+    b: &mut [u32],
+    w: &mut [u8],
+    rows: &mut [u32],
+    more: &mut [u32],
+    out: &mut [u8],
+) {
+    let mut state = State {
+        start: 0,
+        have: 0,
+        record: 1,
+        at: 0,
+        ended: false,
+        over: false,
+    };
+    let mut budget = u64::MAX;
+    while 0 < budget {
+        if state.over {
+            return;
+        }
+        state = turn(state, input, a, b, w, rows, more, out);
+        budget = budget - 1;
+    }
+}
+
+fn main() {
+    let mut input = [0u8; 1310720];
+    let mut a = [0u32; 400000];
+    let mut b = [0u32; 400000];
+    let mut w = [0u8; 400000];
+    let mut rows = [0u32; 100000];
+    let mut more = [0u32; 100000];
+    let mut out = [0u8; 65536];
+    run(&mut input, &mut a, &mut b, &mut w, &mut rows, &mut more, &mut out);
+}

@@ -1,0 +1,31 @@
+// What lent places hold before a call, and numbers from the bytes of a part.
+use crate::request::plus;
+
+// The places of a store before a call.
+pub fn fill_words(store: &mut [u32]) {
+    let mut i: usize = 0;
+    while i < store.len() {
+        store[i] = 2863267840 + (i % 65536) as u32;
+        i = i + 1;
+    }
+}
+
+// The places of an output before a call.
+pub fn fill_bytes(store: &mut [u8]) {
+    let mut i: usize = 0;
+    while i < store.len() {
+        store[i] = (i % 251) as u8;
+        i = i + 1;
+    }
+}
+
+// The numbers of a part, four bytes each.
+pub fn decode(s: &[u8], store: &mut [u32]) {
+    let mut at: usize = 0;
+    let mut i: usize = 0;
+    while i < store.len() {
+        store[i] = wire::u32_at(s, at);
+        at = plus(at, 4);
+        i = i + 1;
+    }
+}

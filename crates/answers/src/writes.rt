@@ -1,0 +1,127 @@
+// Ops 13 to 17: the writers.
+use crate::line;
+use crate::request;
+use crate::request::Head;
+use crate::store;
+use route_writer::WriteAnswer;
+
+// A refusal number or 0, and the bytes written.
+fn put_written(out: &mut [u8], at: usize, a: WriteAnswer) -> usize {
+    match a {
+        WriteAnswer::Bytes(n) => line::two_numbers(out, at, 0, n),
+        WriteAnswer::Refused(n) => line::refused(out, at, n, b" 0"),
+    }
+}
+
+// The answers of the other writers in the same form.
+fn of_asns(a: asns::WriteAnswer) -> WriteAnswer {
+    match a {
+        asns::WriteAnswer::Written(n) => WriteAnswer::Bytes(n),
+        asns::WriteAnswer::Refused(n) => WriteAnswer::Refused(n),
+    }
+}
+
+fn of_messages(a: messages::WriteAnswer) -> WriteAnswer {
+    match a {
+        messages::WriteAnswer::Bytes(n) => WriteAnswer::Bytes(n),
+        messages::WriteAnswer::Refused(n) => WriteAnswer::Refused(n),
+    }
+}
+
+// Op 15.
+fn aggregator(h: Head, one: &[u8], w: &mut [u8]) -> WriteAnswer {
+    of_asns(asns::encode_aggregator(
+        wire::u32_at(one, 0),
+        wire::u32_at(one, 4),
+        request::width(h.settings),
+        w,
+    ))
+}
+
+// A writer's answer: rows and more are the numbers of the parts that hold numbers.
+fn written(h: Head, one: &[u8], two: &[u8], rows: &[u32], more: &[u32], w: &mut [u8]) -> WriteAnswer {
+    let op = h.op;
+    let form = request::form(h.settings);
+    match op {
+        13 => route_writer::encode_nlri_prefixes(rows, request::afi(h.settings), form, w),
+        14 => of_asns(path_writer::encode_as_path(
+            rows,
+            more,
+            request::width(h.settings),
+            w,
+        )),
+        15 => aggregator(h, one, w),
+        16 => of_messages(messages::encode_bgp_message(h.argument, one, w)),
+        _ => update_writer::encode_bgp_update_message(rows, two, more, form, w),
+    }
+}
+
+// The refusal and the bytes written, and what the writer left in the output.
+fn show(
+    h: Head,
+    one: &[u8],
+    two: &[u8],
+    rows: &[u32],
+    more: &[u32],
+    w: &mut [u8],
+    out: &mut [u8],
+    at: usize,
+) -> usize {
+    store::fill_bytes(w);
+    let next = put_written(out, at, written(h, one, two, rows, more, w));
+    line::bytes(out, next, w)
+}
+
+// The numbers of the parts, decoded; last is the second part that holds numbers.
+fn decoded(
+    h: Head,
+    one: &[u8],
+    two: &[u8],
+    last: &[u8],
+    rows: &mut [u32],
+    more: &mut [u32],
+    w: &mut [u8],
+    out: &mut [u8],
+    at: usize,
+) -> usize {
+    store::decode(one, rows);
+    store::decode(last, more);
+    show(h, one, two, rows, more, w, out, at)
+}
+
+// The places lent: a word for each number, and the output's room.
+pub fn answer(
+    h: Head,
+    one: &[u8],
+    two: &[u8],
+    last: &[u8],
+    rows: &mut [u32],
+    more: &mut [u32],
+    w: &mut [u8],
+    out: &mut [u8],
+    at: usize,
+) -> usize {
+    let m = one.len() / 4;
+    let n = last.len() / 4;
+    let room = h.room_a;
+    if rows.len() < m {
+        return at;
+    }
+    if more.len() < n {
+        return at;
+    }
+    if w.len() < room {
+        return at;
+    }
+    decoded(
+        h,
+        one,
+        two,
+        last,
+        &mut rows[..m],
+        &mut more[..n],
+        &mut w[..room],
+        out,
+        at,
+    )
+}
