@@ -1,4 +1,4 @@
-//! Shows that each fact of NOTES.md about the crate holds: a fact that does not ends the run.
+//! Shows that each fact of docs/DIFFERENCES.md about the crate holds: a fact that does not ends the run.
 
 fn main() {
     let facts = crate_oracle::oracle::facts::ALL;

@@ -36,6 +36,14 @@ markerSize = 16
 abbrev pub headerSize : ℕ
 headerSize = 19
 
+-- where the type stands
+abbrev pub kindPlace : ℕ
+kindPlace = 18
+
+-- four octets of ones, as a number
+abbrev pub allOnes : ℕ
+allOnes = 4294967295
+
 -- the most octets of a message: RFC 4271 section 4.1, and RFC 8654 section 4 where both ends agreed on long ones
 abbrev pub messageLimit : ℕ
 messageLimit = 4096
@@ -83,7 +91,7 @@ abbrev pub claimedOf : List ℕ → ℕ
 claimedOf s = beAt s markerSize 2
 
 abbrev pub kindOf : List ℕ → ℕ
-kindOf s = getD s 18 0
+kindOf s = getD s kindPlace 0
 
 -- ---- the readings
 

@@ -7,14 +7,14 @@ use mathlib.Core.Bool.{Bool, true, false, not}
 use native.Mathlib.Nat.{le-min, min-le-right}
 use native.Mathlib.Omega.{arith}
 use borrow.Author.Tests.{eq-eqb, ne-eqb, le-ltb, ltb-false, not-false}
-use lib.ListN.{length, getD, take, drop}
+use lib.ListN.{length, getD, drop}
 use lib.Dec.{eqb, ltb}
 use lib.Seq.{drop-drop}
 use Rattle.wire.specs.Choice.{pick, pick-eqb, pick-unless}
 use Rattle.wire.specs.Number.{be, beAt, padded, Bytes}
 use Rattle.wire.specs.NumberLaws.{padded-cells, padded-add, padded-take}
 use Rattle.wire.specs.Refusal.{truncated, messageLength, messageType, shortBody, badMarker}
-use Rattle.messages.specs.Header.{allFF, isOutside, isUnknown, headerSize, crateLimit, leastLength, mostLength, messageOf, strictWithin, markerOf, claimedOf, kindOf, takenOf, accepted, whole, Fits}
+use Rattle.messages.specs.Header.{allOnes, markerSize, allFF, isOutside, isUnknown, headerSize, crateLimit, leastLength, mostLength, messageOf, strictWithin, markerOf, claimedOf, kindOf, takenOf, accepted, whole, Fits}
 use Rattle.messages.specs.declared.MessageAnswer.{MessageAnswer}
 use Rattle.messages.specs.declared.MessageAnswer.the-variants.{Refused}
 
@@ -30,41 +30,41 @@ allFF-append [] t = refl
 allFF-append (b ∷ s) t = allFF-byte (eqb b 255) s t (allFF-append s t)
 
 -- four bytes are all FF where their number is the greatest of four bytes
-ones-four : (a b c d : ℕ) → a < 256 → b < 256 → c < 256 → d < 256 → eqb (be (a ∷ b ∷ c ∷ d ∷ [])) 4294967295 ≡ allFF (a ∷ b ∷ c ∷ d ∷ [])
+ones-four : (a b c d : ℕ) → a < 256 → b < 256 → c < 256 → d < 256 → eqb (be (a ∷ b ∷ c ∷ d ∷ [])) allOnes ≡ allFF (a ∷ b ∷ c ∷ d ∷ [])
 unfolding allFF
 ones-four a b c d ha hb hc hd =
     let n : ℕ = be (a ∷ b ∷ c ∷ d ∷ []) in
-    let P : Bool → Type 0 = λ t. eqb n 4294967295 ≡ t in
+    let P : Bool → Type 0 = λ t. eqb n allOnes ≡ t in
     pick-eqb P a 255 _ false
     (λ ea. pick-eqb P b 255 _ false
     (λ eb. pick-eqb P c 255 _ false
     (λ ec. pick-eqb P d 255 true false
-    (λ ed. eq-eqb n 4294967295 (omega arith))
-    (λ no. ne-eqb n 4294967295 (λ e. no (omega arith))))
-    (λ no. ne-eqb n 4294967295 (λ e. no (omega arith))))
-    (λ no. ne-eqb n 4294967295 (λ e. no (omega arith))))
-    (λ no. ne-eqb n 4294967295 (λ e. no (omega arith)))
+    (λ ed. eq-eqb n allOnes (omega arith))
+    (λ no. ne-eqb n allOnes (λ e. no (omega arith))))
+    (λ no. ne-eqb n allOnes (λ e. no (omega arith))))
+    (λ no. ne-eqb n allOnes (λ e. no (omega arith))))
+    (λ no. ne-eqb n allOnes (λ e. no (omega arith)))
 
-pub ones-word : (s : List ℕ) (at : ℕ) → Bytes s → eqb (beAt s at 4) 4294967295 ≡ allFF (padded 4 (drop at s))
+pub ones-word : (s : List ℕ) (at : ℕ) → Bytes s → eqb (beAt s at 4) allOnes ≡ allFF (padded 4 (drop at s))
 unfolding beAt
 ones-word s at h =
     rw (padded-cells s at 4) (ones-four (getD s at 0) (getD s (at + 1) 0) (getD s (at + 2) 0) (getD s (at + 3) 0) (h at) (h (at + 1)) (h (at + 2)) (h (at + 3)))
 
 -- the marker, word by word
-module _ (s : List ℕ) (long : 16 ≤ length s) where
+module _ (s : List ℕ) (long : markerSize ≤ length s) where
   word : ℕ → List ℕ
   word at = padded 4 (drop at s)
 
-  words : take 16 s ≡ word 0 ++ (word 4 ++ (word 8 ++ word 12))
+  words : markerOf s ≡ word 0 ++ (word 4 ++ (word 8 ++ word 12))
   unfolding word
   words =
-      sym (padded-take 16 s long)
+      sym (padded-take markerSize s long)
       ∙ sym (padded-add 4 12 s)
       ∙ ap (λ (l : List ℕ). padded 4 s ++ l) (sym (padded-add 4 8 (drop 4 s)))
       ∙ ap (λ (l : List ℕ). padded 4 s ++ (padded 4 (drop 4 s) ++ l))
       (ap (padded 8) (drop-drop 4 4 s) ∙ sym (padded-add 4 4 (drop 8 s)) ∙ ap (λ (l : List ℕ). padded 4 (drop 8 s) ++ padded 4 l) (drop-drop 4 8 s))
 
-  pub marker-words : allFF (take 16 s)
+  pub marker-words : allFF (markerOf s)
       ≡ pick (allFF (padded 4 (drop 0 s))) (pick (allFF (padded 4 (drop 4 s))) (pick (allFF (padded 4 (drop 8 s))) (allFF (padded 4 (drop 12 s))) false) false) false
   unfolding word
   marker-words =

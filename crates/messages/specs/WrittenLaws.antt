@@ -13,7 +13,7 @@ use Rattle.wire.specs.Number.{toBe, beAt}
 use Rattle.wire.specs.NumberLaws.{toBe-four}
 use Rattle.wire.specs.Refusal.{messageType, messageLength, noRoom}
 use Rattle.wire.specs.Store.{laid, placed, placed-next, placed-fits}
-use Rattle.messages.specs.Header.{openKind, keepaliveKind, headerSize, messageLimit, extendedLimit, crateLimit, leastLength, mostLength, isOutside, isUnknown, allFF, markerOf, claimedOf, kindOf}
+use Rattle.messages.specs.Header.{allOnes, openKind, keepaliveKind, headerSize, messageLimit, extendedLimit, crateLimit, leastLength, mostLength, isOutside, isUnknown, allFF, markerOf, claimedOf, kindOf}
 use Rattle.messages.specs.HeaderLaws.{inside-low, inside-high}
 use Rattle.messages.specs.Written.{header, totalOf, messageBytes, writeAnswer, laidBy, outAfter}
 use Rattle.messages.specs.declared.WriteAnswer.{WriteAnswer}
@@ -32,10 +32,10 @@ tail-bytes total kind ht hk =
 
 -- four words of ones, then those three bytes
 pub header-put : (d d₁ d₂ d₃ d₄ d₅ : List ℕ) (total kind : ℕ) → total ≤ extendedLimit → kind < 256 → headerSize ≤ length d
-    → d₁ ≡ placed d 0 (take 4 (toBe 4 4294967295))
-    → d₂ ≡ placed d₁ 4 (take 4 (toBe 4 4294967295))
-    → d₃ ≡ placed d₂ 8 (take 4 (toBe 4 4294967295))
-    → d₄ ≡ placed d₃ 12 (take 4 (toBe 4 4294967295))
+    → d₁ ≡ placed d 0 (take 4 (toBe 4 allOnes))
+    → d₂ ≡ placed d₁ 4 (take 4 (toBe 4 allOnes))
+    → d₃ ≡ placed d₂ 8 (take 4 (toBe 4 allOnes))
+    → d₄ ≡ placed d₃ 12 (take 4 (toBe 4 allOnes))
     → d₅ ≡ placed d₄ 16 (take 3 (toBe 4 (total * 65536 + kind * 256)))
     → d₅ ≡ laid d 0 (header total kind)
 unfolding header

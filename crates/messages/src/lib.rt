@@ -1,11 +1,11 @@
 // Messages by their header (RFC 4271 section 4.1): the crate's reading of messages.rs, the strict one of the RFC, and the writer.
 ghost use mathlib.Core.Path.{_≡_};
-ghost use Prim.Native.Nat.{_+_, _≤_};
-ghost use lib.ListN.{length, take, drop};
+ghost use Prim.Native.Nat.{_≤_};
+ghost use lib.ListN.{length, drop};
 ghost use Rattle.wire.specs.Extent.{PartOf};
 ghost use Rattle.wire.specs.Number.{padded};
 ghost use Rattle.wire.specs.Store.{laid};
-ghost use Rattle.messages.specs.Header.{allFF, isOutside, isUnknown, leastLength, mostLength, crateLimit, messageOf, strictWithin, strictOf, bodyAt, Fits};
+ghost use Rattle.messages.specs.Header.{markerSize, headerSize, extendedLimit, markerOf, allFF, isOutside, isUnknown, leastLength, mostLength, crateLimit, messageOf, strictWithin, strictOf, bodyAt, Fits};
 ghost use Rattle.messages.specs.Written.{header, writeAnswer, outAfter};
 use wire::refusal;
 
@@ -13,6 +13,13 @@ pub mod kind;
 
 // The bytes of a header: sixteen of marker, two of length, one of type.
 pub const HEADER_SIZE: usize = 19;
+
+const LENGTH_AT: usize = 16;
+
+const KIND_AT: usize = 18;
+
+// Four marker bytes as a number.
+const ALL_ONES: u32 = 4294967295;
 
 // The most bytes of a message (RFC 4271 section 4.1), and of one where both ends agreed on long ones (RFC 8654 section 4).
 pub const MESSAGE_LIMIT: usize = 4096;
@@ -106,13 +113,13 @@ fn most_length(kind: u8) -> usize
 fn ones_at(s: &[u8], at: usize) -> bool
     ensures { λ r. ⌜ r ≡ allFF (padded 4 (drop at (now (s .entry)))) ⌝ }
 {
-    wire::u32_at(s, at) == 4294967295
+    wire::u32_at(s, at) == ALL_ONES
 }
 
 // Whether the sixteen marker bytes are all FF.
 fn marked(s: &[u8]) -> bool
-    requires { ⌜ 16 ≤ length (now s) ⌝ }
-    ensures { λ r. ⌜ r ≡ allFF (take 16 (now (s .entry))) ⌝ }
+    requires { ⌜ markerSize ≤ length (now s) ⌝ }
+    ensures { λ r. ⌜ r ≡ allFF (markerOf (now (s .entry))) ⌝ }
 {
     if !ones_at(s, 0) {
         return false;
@@ -133,11 +140,11 @@ pub fn parse_bgp_message(s: &[u8]) -> MessageAnswer
     if s.len() < HEADER_SIZE {
         return MessageAnswer::Refused(refusal::TRUNCATED);
     }
-    let claimed = wire::u16_at(s, 16) as usize;
+    let claimed = wire::u16_at(s, LENGTH_AT) as usize;
     if claimed < HEADER_SIZE {
         return MessageAnswer::Refused(refusal::MESSAGE_LENGTH);
     }
-    let kind = s[18];
+    let kind = s[KIND_AT];
     if unknown(kind) {
         return MessageAnswer::Refused(refusal::MESSAGE_TYPE);
     }
@@ -168,11 +175,11 @@ fn parse_within(s: &[u8], limit: usize) -> MessageAnswer
     if !marked(s) {
         return MessageAnswer::Refused(refusal::BAD_MARKER);
     }
-    let claimed = wire::u16_at(s, 16) as usize;
+    let claimed = wire::u16_at(s, LENGTH_AT) as usize;
     if outside(HEADER_SIZE, limit, claimed) {
         return MessageAnswer::Refused(refusal::MESSAGE_LENGTH);
     }
-    let kind = s[18];
+    let kind = s[KIND_AT];
     if unknown(kind) {
         return MessageAnswer::Refused(refusal::MESSAGE_TYPE);
     }
@@ -233,14 +240,19 @@ pub fn message_body_strict(s: &[u8]) -> &[u8]
 
 // A header of an all-FF marker, at the front of the output.
 fn put_header(out: &mut [u8], total: usize, kind: u8)
-    requires { ⌜ (total ≤ 65535) × (19 ≤ length (now out)) ⌝ }
+    requires { ⌜ (total ≤ extendedLimit) × (headerSize ≤ length (now out)) ⌝ }
     ensures { λ _. ⌜ now (out .exit) ≡ laid (now (out .entry)) 0 (header total kind) ⌝ }
 {
-    wire::put_octets(out, 0, 4294967295, 4);
-    wire::put_octets(out, 4, 4294967295, 4);
-    wire::put_octets(out, 8, 4294967295, 4);
-    wire::put_octets(out, 12, 4294967295, 4);
-    wire::put_octets(out, 16, (total as u32) * 65536 + (kind as u32) * 256, 3);
+    wire::put_octets(out, 0, ALL_ONES, 4);
+    wire::put_octets(out, 4, ALL_ONES, 4);
+    wire::put_octets(out, 8, ALL_ONES, 4);
+    wire::put_octets(out, 12, ALL_ONES, 4);
+    wire::put_octets(
+        out,
+        LENGTH_AT,
+        (total as u32) * 65536 + (kind as u32) * 256,
+        3,
+    );
 }
 
 // Writes a message of a type and a body.

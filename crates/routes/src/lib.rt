@@ -9,7 +9,7 @@ ghost use Rattle.wire.specs.Store.{laid};
 ghost use Rattle.wire.specs.Walk.{flat};
 ghost use Rattle.routes.specs.Prefix.{maxOf, idSize, markOf, octets, itemEnd, wordAt, rowOf, itemRow, words, prefixOf};
 ghost use Rattle.routes.specs.PrefixLaws.{Placeable};
-ghost use Rattle.routes.specs.List.{plainHere, guessForm, fixed, stepOf, listOf, sectionOf, strange};
+ghost use Rattle.routes.specs.List.{plainHere, guessForm, formBy, fixed, stepOf, listOf, sectionOf, strange};
 ghost use Rattle.routes.specs.Size.{sizeOf, sized, kept};
 ghost use Rattle.routes.specs.Promises.{countAnswer, readAnswer, filled, storeAfter, Fitting};
 ghost use Rattle.routes.specs.Pair.{hasRoom, pairAnswer, firstAfter, secondAfter};
@@ -231,15 +231,17 @@ fn row_of(s: &[u8], e: usize, max: u8, form: Form) -> Row
     requires { ⌜ Placeable max form e (now s) ⌝ }
     ensures { λ r. ⌜ r ≡ itemRow form (take e (now (s .entry))) ⌝ }
 {
-    let mut row = [0u32; 6];
-    put_item(&mut row, 0, s, e, max, form);
+    let k = id_size(form);
+    let b = k + 1;
+    let t = &s[b..];
+    let n = e - b;
     Row {
-        first: row[0],
-        id: row[1],
-        w0: row[2],
-        w1: row[3],
-        w2: row[4],
-        w3: row[5],
+        first: wire::wide(s[k]) + mark_of(form),
+        id: id_of(s, form),
+        w0: word_of(t, 0, n),
+        w1: word_of(t, 4, n),
+        w2: word_of(t, 8, n),
+        w3: word_of(t, 12, n),
     }
 }
 
@@ -366,46 +368,32 @@ fn guess_form(s: &[u8], max: u8, form: Form) -> Form
     }
 }
 
-// The rows of a good list that has room, from the front of a store: items in one form, items by the guess, and under a setting.
-fn fill_form(s: &[u8], max: u8, form: Form, store: &mut [u32])
-    requires { ⌜ Fitting (listOf (now s) max (fixed form)) (now store) ⌝ }
-    ensures { λ _. ⌜ now (store .exit) ≡ laid (now (store .entry)) 0 (flat words (listOf (now (s .entry)) max (fixed form) .rows)) ⌝ }
+// The form in which a setting reads the item at the front.
+fn form_by(s: &[u8], max: u8, mode: AddPath, form: Form) -> Form
+    ensures { λ r. ⌜ r ≡ formBy max mode form (now (s .entry)) ⌝ }
 {
-    let mut at: usize = 0;
-    let mut to: usize = 0;
-    while at < s.len() {
-        let used = item_end(&s[at..], form);
-        put_item(store, to, &s[at..], used, max, form);
-        at = at + used;
-        to = to + 6;
+    match mode {
+        AddPath::On => Form::Tagged,
+        AddPath::Off => Form::Plain,
+        AddPath::Guess => guess_form(s, max, form),
     }
 }
 
-fn fill_guess(s: &[u8], max: u8, store: &mut [u32])
-    requires { ⌜ Fitting (listOf (now s) max AddPath.Guess) (now store) ⌝ }
-    ensures { λ _. ⌜ now (store .exit) ≡ laid (now (store .entry)) 0 (flat words (listOf (now (s .entry)) max AddPath.Guess .rows)) ⌝ }
+// The rows of a good list that has room, from the front of a store.
+fn fill_rows(s: &[u8], max: u8, mode: AddPath, store: &mut [u32])
+    requires { ⌜ Fitting (listOf (now s) max mode) (now store) ⌝ }
+    ensures { λ _. ⌜ now (store .exit) ≡ laid (now (store .entry)) 0 (flat words (listOf (now (s .entry)) max mode .rows)) ⌝ }
 {
     let mut at: usize = 0;
     let mut to: usize = 0;
     let mut form = Form::Plain;
     while at < s.len() {
-        let next = guess_form(&s[at..], max, form);
+        let next = form_by(&s[at..], max, mode, form);
         let used = item_end(&s[at..], next);
         put_item(store, to, &s[at..], used, max, next);
         at = at + used;
         to = to + 6;
         form = next;
-    }
-}
-
-fn fill_rows(s: &[u8], max: u8, mode: AddPath, store: &mut [u32])
-    requires { ⌜ Fitting (listOf (now s) max mode) (now store) ⌝ }
-    ensures { λ _. ⌜ now (store .exit) ≡ laid (now (store .entry)) 0 (flat words (listOf (now (s .entry)) max mode .rows)) ⌝ }
-{
-    match mode {
-        AddPath::On => fill_form(s, max, Form::Tagged, store),
-        AddPath::Off => fill_form(s, max, Form::Plain, store),
-        AddPath::Guess => fill_guess(s, max, store),
     }
 }
 

@@ -1,2 +1,4 @@
 pub mod Body
 pub mod BodyLaws
+pub mod Tight
+pub mod Theorems

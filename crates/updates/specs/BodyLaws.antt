@@ -4,7 +4,7 @@ use Prim.Native.Nat.{ℕ, _+_, _-_, _≤_}
 use mathlib.Core.Path.{_≡_, sym, _∙_}
 use mathlib.Core.List.{List}
 use native.Mathlib.Omega.{arith}
-use borrow.Author.Tests.{ltb-false}
+use borrow.Author.Tests.{le-ltb, ltb-false}
 use lib.ListN.{length}
 use lib.Dec.{ltb}
 use denote.Ref.{RefT}
@@ -26,6 +26,18 @@ parts-cases b P bad good =
     pick-unless P (ltb (length b) (withdrawnEnd b + lengthSize)) (Refused truncated) _ (bad truncated) (λ _.
     pick-unless P (ltb (length b) (attributesEnd b)) (Refused truncated) _ (bad truncated) (λ there.
     good (ltb-false bodyLimit (length b) small) (ltb-false (length b) (attributesEnd b) there))))))
+
+-- and a body whose sections are all there is not refused
+pub parts-by : (b : List ℕ) → length b ≤ bodyLimit → attributesEnd b ≤ length b → partsOf b ≡ Parts (withdrawnSize b) (attributesSize b) (length b - attributesEnd b)
+unfolding partsOf
+parts-by b small there =
+    simp (
+      le-ltb bodyLimit (length b) small,
+      le-ltb (length b) lengthSize (omega arith),
+      le-ltb (length b) (withdrawnEnd b) (omega arith),
+      le-ltb (length b) (withdrawnEnd b + lengthSize) (omega arith),
+      le-ltb (length b) (attributesEnd b) there,
+    )
 
 -- the three lengths and the four length bytes add up to the body
 pub parts-add-up : (b : List ℕ) (w a n : ℕ) → partsOf b ≡ Parts w a n → (w + a + n + (lengthSize + lengthSize) ≡ length b) × (length b ≤ bodyLimit)

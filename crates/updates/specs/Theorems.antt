@@ -8,7 +8,7 @@ use lib.ListN.{length, take, drop, length-drop, take-append-drop}
 use lib.Seq.{drop-drop, take-all, length-take-le}
 use borrow.Author.Tests.{le-leb}
 use Rattle.wire.specs.Choice.{pick-any}
-use Rattle.wire.specs.Refusal.{truncated, prefixLength, oneByteSection, listLimit}
+use Rattle.wire.specs.Refusal.{truncated, prefixLength, oneByteSection, noRoom, listLimit}
 use Rattle.wire.specs.Walk.{stop, Reading, refused}
 use Rattle.wire.specs.WalkLaws.{all-ind}
 use Rattle.routes.specs.Prefix.{maxOf, prefixOf}
@@ -16,6 +16,9 @@ use Rattle.routes.specs.PrefixLaws.{prefix-cases}
 use Rattle.routes.specs.List.{asStep, inForm, formBy, stepOf, listOf, strange, sectionOf}
 use Rattle.routes.specs.ListLaws.{sound}
 use Rattle.routes.specs.Promises.{answerBy, countAnswer}
+use Rattle.routes.specs.Pair.{hasRoom, pairBy, pairAnswer}
+use Rattle.routes.specs.declared.PairAnswer.{PairAnswer}
+use Rattle.routes.specs.declared.PairAnswer.the-variants as Q
 use Rattle.routes.specs.declared.Afi.the-variants.{Ipv4}
 use Rattle.routes.specs.declared.Form.{Form}
 use Rattle.routes.specs.declared.Form.the-variants.{Plain}
@@ -26,7 +29,7 @@ use Rattle.routes.specs.declared.PrefixAnswer.{PrefixAnswer}
 use Rattle.routes.specs.declared.PrefixAnswer.the-variants as P
 use Rattle.updates.specs.Body.{lengthSize, partsOf, withdrawnOf, attributesOf, announcedOf}
 use Rattle.updates.specs.BodyLaws.{parts-add-up}
-use Rattle.updates.specs.Update.{verdictIn, ifParts, counted, countUpdate}
+use Rattle.updates.specs.Update.{verdictIn, ifParts, asUpdate, counted, countUpdate, readUpdate}
 use Rattle.updates.specs.declared.PartsAnswer.{PartsAnswer}
 use Rattle.updates.specs.declared.PartsAnswer.the-variants.{Parts, Refused}
 use Rattle.updates.specs.declared.UpdateAnswer.the-variants.{Update}
@@ -141,3 +144,24 @@ update-verdicts b mode first second = by-parts (partsOf b) refl
           subst (λ (x : ListAnswer). SectionVerdict (verdictIn x)) two (counted-verdict (announcedOf b) mode (omega (arith, whole, announced-length b w a n found))),
         )
     by-parts (Refused m) found e = never (let z : _≡_ {A = ℕ} 0 1 = cc in z)
+
+-- ---- reading and counting
+
+-- an UPDATE that is read into stores is answered as it is counted
+pub read-is-count : (b : List ℕ) (mode : AddPath) (places places′ : ℕ) (first second : ListAnswer) → readUpdate b mode places places′ ≡ Update first second
+    → countUpdate b mode ≡ Update first second
+unfolding readUpdate countUpdate pairAnswer pairBy
+read-is-count b mode places places′ first second = by-parts (partsOf b)
+  where
+    one : ListAnswer
+    one = counted (withdrawnOf b) mode
+
+    two : ListAnswer
+    two = counted (announcedOf b) mode
+
+    by-parts : (p : PartsAnswer) → ifParts p (asUpdate (pairBy one two places places′)) ≡ Update first second → ifParts p (Update one two) ≡ Update first second
+    by-parts (Parts w a n) =
+        let P : PairAnswer → Type 0 = λ x. asUpdate x ≡ Update first second → Update one two ≡ Update first second in
+        let full : P (Q.Refused noRoom) = λ e. never (let z : _≡_ {A = ℕ} 0 1 = cc in z) in
+        pick-any P (hasRoom one places) _ (Q.Refused noRoom) (pick-any P (hasRoom two places′) (Q.Sections one two) (Q.Refused noRoom) (λ e. e) full) full
+    by-parts (Refused m) = λ e. never (let z : _≡_ {A = ℕ} 0 1 = cc in z)

@@ -1,4 +1,4 @@
-//! Where the crate and document 01 part on purpose, each with its smallest input, as NOTES.md lists them.
+//! Where the crate and document 01 part on purpose, each with its smallest input, as docs/DIFFERENCES.md lists them.
 
 use super::warnings;
 use crate::error::{EncodingError, ParserError};

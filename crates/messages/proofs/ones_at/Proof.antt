@@ -1,3 +1,4 @@
+use Rattle.messages.specs.Header.{allOnes}
 use mathlib.Core.Path.{ap, _∙_}
 use Prim.Native.Nat.{ℕ}
 use lib.Dec.{eqb}
@@ -12,7 +13,7 @@ u32-at-requires c κs = search needs
 returns : tie.Need-returns
 returns c =
     let a = c .before .before .args in
-    ap (λ (n : ℕ). eqb n 4294967295) (c .u32-at .ensures) ∙ ones-word (a .s .now) (a .at) (λ i. c .before .shared-slice-known .given i .fits)
+    ap (λ (n : ℕ). eqb n allOnes) (c .u32-at .ensures) ∙ ones-word (a .s .now) (a .at) (λ i. c .before .shared-slice-known .given i .fits)
 
 pub ones-at-spec : {M : Type 1} → statement M
 ones-at-spec = tie.close (tie.spec u32-at-requires returns)

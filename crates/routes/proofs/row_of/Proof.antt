@@ -1,55 +1,84 @@
-use mathlib.Core.List.{List}
-use mathlib.Core.Path.{ap}
-use Prim.Native.Nat.{ℕ}
+use mathlib.Core.Path.{_≡_, ap₂}
+use Prim.Native.Nat.{_+_}
+use native.Mathlib.Omega.{arith}
 use lib.ListN.{getD}
-use Rattle.routes.specs.declared.Row.{Row}
-use Rattle.routes.specs.Prefix.{words}
+use Rattle.routes.specs.Prefix.{markOf, rowOf}
+use Rattle.routes.specs.PrefixLaws.{mark-small, item-row}
 use borrow.Author.Needs.{needs}
 use Rattle.routes.proofs.row_of.Statement.{statement}
 use Rattle.routes.proofs.row_of.Tie as tie
 
-slice-aggregate-put-item : tie.Need-slice-aggregate-put-item
-slice-aggregate-put-item c = search needs
+id-size-requires : tie.Need-id-size-requires
+id-size-requires c κs = search needs
 
-put-item-requires : tie.Need-put-item-requires
-put-item-requires c κs = search needs
+add-b : tie.Need-add-b
+add-b c = search needs
 
-array-read-t11 : tie.Need-array-read-t11
-array-read-t11 c = search needs
+sub-t : tie.Need-sub-t
+sub-t c = search needs
 
-array-read-t14 : tie.Need-array-read-t14
-array-read-t14 c = search needs
+part-t-start : tie.Need-part-t-start
+part-t-start c = search needs
 
-array-read-t17 : tie.Need-array-read-t17
-array-read-t17 c = search needs
+part-t-end : tie.Need-part-t-end
+part-t-end c = search needs
 
-array-read-t20 : tie.Need-array-read-t20
-array-read-t20 c = search needs
+sub-n : tie.Need-sub-n
+sub-n c = search needs
 
-array-read-t23 : tie.Need-array-read-t23
-array-read-t23 c = search needs
+shared-slice-read-wide : tie.Need-shared-slice-read-wide
+shared-slice-read-wide c = search needs
 
-array-read-t26 : tie.Need-array-read-t26
-array-read-t26 c = search needs
+wide-requires : tie.Need-wide-requires
+wide-requires c κs = search needs
 
--- a row from its six words
-six : List ℕ → Row
-six d = record { first = getD d 0 0; id = getD d 1 0; w0 = getD d 2 0; w1 = getD d 3 0; w2 = getD d 4 0; w3 = getD d 5 0 }
+mark-of-requires : tie.Need-mark-of-requires
+mark-of-requires c κs = search needs
+
+add-t16 : tie.Need-add-t16
+add-t16 c = record { fits = omega (arith, c .before .wide .ensures, c .mark-of .ensures, mark-small (c .before .before .before .before .before .before .args .form), c .before .before .shared-slice-known2 .given (c .before .before .before .before .id-size .result) .fits) }
+
+id-of-requires : tie.Need-id-of-requires
+id-of-requires c κs = search needs
+
+word-of-requires : tie.Need-word-of-requires
+word-of-requires c κs = search needs
+
+word-of-requires-2 : tie.Need-word-of-requires-2
+word-of-requires-2 c κs = search needs
+
+word-of-requires-3 : tie.Need-word-of-requires-3
+word-of-requires-3 c κs = search needs
+
+word-of-requires-4 : tie.Need-word-of-requires-4
+word-of-requires-4 c κs = search needs
 
 returns : tie.Need-returns
-unfolding six
-returns c = let a = c .before .before .before .before .args in ap six (c .before .put-item .ensures)
+unfolding rowOf
+returns c =
+    let g = c .before .before .before .before .before .before .before .before .before .before .before in
+    let a = g .args in
+    let k = c .before .before .before .before .before .before .before .before .before .id-size in
+    let first : c .before .before .before .before .before .before .wide .result + c .before .before .before .before .before .mark-of .result ≡ getD (a .s .now) (k .result) 0 + markOf (a .form) = ap₂ _+_ (c .before .before .before .before .before .before .wide .ensures) (c .before .before .before .before .before .mark-of .ensures) in
+    cc (item-row (a .s .now) (a .form) (a .e) _ _ _ (k .ensures) first (c .before .before .before .before .id-of .ensures) (omega (arith, g .pre .front, k .ensures)) (g .pre .within))
 
 pub row-of-spec : {M : Type 1} → statement M
 row-of-spec =
     tie.close
     (tie.spec
-    slice-aggregate-put-item
-    put-item-requires
-    array-read-t11
-    array-read-t14
-    array-read-t17
-    array-read-t20
-    array-read-t23
-    array-read-t26
+    id-size-requires
+    add-b
+    sub-t
+    part-t-start
+    part-t-end
+    sub-n
+    shared-slice-read-wide
+    wide-requires
+    mark-of-requires
+    add-t16
+    id-of-requires
+    word-of-requires
+    word-of-requires-2
+    word-of-requires-3
+    word-of-requires-4
     returns)

@@ -1,0 +1,52 @@
+use Prim.Native.Nat.{_+_, _-_, _≤_}
+use mathlib.Core.Path.{ap}
+use native.Mathlib.Omega.{arith}
+use lib.ListN.{length, take, drop, length-drop}
+use Rattle.wire.specs.Turn.{rest}
+use Rattle.slots.specs.Line.{stopText}
+use Rattle.slots.specs.LineLaws.{put-within, stop-few}
+use borrow.Author.Needs.{needs}
+use Rattle.lister.proofs.add_stop.Statement.{statement}
+use Rattle.lister.proofs.add_stop.Tie as tie
+
+sub-put-stop : tie.Need-sub-put-stop
+sub-put-stop c = search needs
+
+part-put-stop-start : tie.Need-part-put-stop-start
+part-put-stop-start c = search needs
+
+part-put-stop-end : tie.Need-part-put-stop-end
+part-put-stop-end c = search needs
+
+put-stop-requires : tie.Need-put-stop-requires
+put-stop-requires c κs = search needs
+
+-- what is put lies within the output
+there : (c : tie.After-slice-known2) → c .before .before .before .before .before .args .put + c .before .before .put-stop .result ≤ length (c .before .before .before .before .before .args .out .now)
+there c =
+    let p = c .before .before in
+    let a = p .before .before .before .args in
+    let o = a .out .now in
+    let t = take (length o - a .put) (drop (a .put) o) in
+    omega (arith, p .put-stop .ensures .0, put-within (stopText (a .nth)) (length t) (stop-few (a .nth)), ap length (rest o (a .put)), length-drop (a .put) o)
+
+add-result : tie.Need-add-result
+add-result c = let h = there c in omega arith
+
+same-length : tie.Need-same-length
+same-length c = search needs
+
+returns : tie.Need-returns
+returns c = there c
+
+pub add-stop-spec : {M : Type 1} → statement M
+add-stop-spec =
+    tie.close
+    (tie.spec
+    sub-put-stop
+    part-put-stop-start
+    part-put-stop-end
+    put-stop-requires
+    add-result
+    same-length
+    returns)

@@ -1,0 +1,91 @@
+// Runs inputs through the calls of slots, and prints what they answer: each way to stop, to end and to wait, and lines for outputs of
+// other sizes. The records of document 01 and the lines of every kind are in the input of the lister.
+use routes::AddPath;
+use slots::SlotAnswer;
+
+fn text(s: &[u8]) {
+    io::write_all(1, s);
+}
+
+fn number(n: usize) {
+    io::print_decimal(1, n as u64);
+}
+
+fn show(answer: SlotAnswer) {
+    match answer {
+        SlotAnswer::Slot { kept, mode } => {
+            text(b" slot ");
+            number(kept);
+            match mode {
+                AddPath::On => text(b" on"),
+                AddPath::Off => text(b" off"),
+                AddPath::Guess => text(b" guess"),
+            }
+        }
+        SlotAnswer::More => text(b" more"),
+        SlotAnswer::Stop => text(b" stop"),
+        SlotAnswer::End => text(b" end"),
+    }
+}
+
+// What stands at the front of s where more may come, and where it is the last of the input.
+fn front(name: &[u8], s: &[u8]) {
+    text(name);
+    text(b":");
+    show(slots::next_slot(s, false));
+    text(b",");
+    show(slots::next_slot(s, true));
+    text(b"\n");
+}
+
+// The bytes put, and the front of the output.
+fn shown(out: &[u8], put: usize) {
+    number(put);
+    text(b" ");
+    text(wire::part(out, 0, put));
+    if put == 0 {
+        text(b"\n");
+    }
+}
+
+// The heading, the line of a KEEPALIVE, and a stop, in an output of any size.
+fn lines(out: &mut [u8]) {
+    text(b"places ");
+    number(out.len());
+    text(b"\n");
+    let heading = slots::put_heading(out);
+    shown(out, heading);
+    let line = slots::put_line(
+        18446744073709551615,
+        b"\xFF\xFF\xFF\xFF\xFF\xFF\xFF\xFF\xFF\xFF\xFF\xFF\xFF\xFF\xFF\xFF\x00\x13\x04",
+        AddPath::Off,
+        out,
+    );
+    shown(out, line);
+    let stop = slots::put_stop(18446744073709551615, out);
+    shown(out, stop);
+}
+
+fn main() {
+    front(b"nothing", b"");
+    front(b"half a mark", b"\xC5");
+    front(b"a mark", b"\xC5\x3A");
+    front(b"half a count", b"\xC5\x3A\x00");
+    front(b"no settings", b"\xC5\x3A\x00\x01");
+    front(b"no kept bytes yet", b"\xC5\x3A\x00\x01\x00");
+    front(b"one of two kept bytes", b"\xC5\x3A\x00\x02\x03\xFF");
+    front(b"another first byte", b"\xC4");
+    front(b"another second byte", b"\xC5\x3B");
+    front(b"another mark of a whole record", b"\x3A\xC5\x00\x00\x00");
+    front(b"settings 4", b"\xC5\x3A\x00\x00\x04");
+    front(b"settings 255, kept bytes missing", b"\xC5\x3A\xFF\xFF\xFF");
+    front(b"no kept bytes", b"\xC5\x3A\x00\x00\x00");
+    front(b"settings 1", b"\xC5\x3A\x00\x00\x01");
+    front(b"settings 2", b"\xC5\x3A\x00\x00\x02");
+    front(b"settings 3", b"\xC5\x3A\x00\x00\x03");
+    front(b"a record and more", b"\xC5\x3A\x00\x01\x00\xFF\x00");
+    let mut small = [0u8; 191];
+    lines(&mut small);
+    let mut enough = [0u8; 192];
+    lines(&mut enough);
+}
