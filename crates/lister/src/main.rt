@@ -5,7 +5,7 @@ ghost use lib.ListN.{length};
 use routes::AddPath;
 use slots::SlotAnswer;
 
-// Room for two records of the largest size.
+// A record of the largest size, 65,540 bytes, and nearly as much again to read.
 const INPUT_SIZE: usize = 131072;
 
 const INPUT: i32 = 0;
@@ -29,6 +29,7 @@ struct Block {
     then: Then,
 }
 
+// A block as one value.
 fn done(used: usize, put: usize, nth: u64, then: Then) -> Block
     ensures { λ r. ⌜ (r .used ≡ used) × (r .put ≡ put) ⌝ }
 {
@@ -40,7 +41,7 @@ fn done(used: usize, put: usize, nth: u64, then: Then) -> Block
     }
 }
 
-// The line of a record after the bytes put, and the line that ends the table. Each answers the bytes put then.
+// The line of a record after the bytes put, and below the line that ends the table. Each answers the bytes put then.
 fn add_line(out: &mut [u8], put: usize, nth: u64, slot: &[u8], mode: AddPath) -> usize
     requires { ⌜ put ≤ length (now out) ⌝ }
     ensures { λ r. ⌜ r ≤ length (now (out .entry)) ⌝ }

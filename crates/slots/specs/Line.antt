@@ -64,7 +64,7 @@ stateText Trailing = 116 ∷ 114 ∷ 97 ∷ 105 ∷ 108 ∷ 105 ∷ 110 ∷ 103 
 abbrev pub noSections : List ℕ
 noSections = 45 ∷ 32 ∷ 45 ∷ 10 ∷ []
 
--- the digits of n before acc, made from the last one on; f is the most there are
+-- the digits of n before acc, made from the last one on; f is the most there are, and 48 is the digit 0
 unfoldable pub digits : ℕ → ℕ → List ℕ → List ℕ
 digits zero n acc = acc
 digits (suc f) n acc = pick (ltb n 10) ((48 + n) ∷ acc) (digits f (n / 10) ((48 + n % 10) ∷ acc))

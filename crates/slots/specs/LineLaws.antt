@@ -6,10 +6,11 @@ use mathlib.Core.List.{List, [], _∷_}
 use native.Mathlib.Nat.{pow-succ'}
 use native.Mathlib.Omega.{arith}
 use borrow.Author.Tests.{lt-ltb, le-ltb, le-leb, lt-leb}
-use lib.ListN.{length, drop, set, length-append, length-set}
+use lib.ListN.{length, take, drop, set, length-append, length-drop, length-set}
 use lib.Seq.{drop-cons, drop-set-lt, getD-set-same}
 use lib.Dec.{ltb, leb}
 use Rattle.wire.specs.Choice.{pick, pick-any, pick-leb}
+use Rattle.wire.specs.Turn.{rest}
 use Rattle.routes.specs.declared.AddPath.{AddPath}
 use Rattle.routes.specs.declared.ListAnswer.{ListAnswer}
 use Rattle.updates.specs.Update.{rowsIn, verdictIn}
@@ -118,3 +119,9 @@ put-within line places few = by-leb
   where
     by-leb : pick (leb lineRoom places) (length line) 0 ≤ places
     by-leb = pick-leb (λ (n : ℕ). n ≤ places) lineRoom places (length line) 0 (λ h. omega arith) (λ h. omega arith)
+
+-- and so does what is put after `at` places of it
+pub put-after : (line d : List ℕ) (at r : ℕ) → length line ≤ lineRoom → at ≤ length d → r ≡ putCount line (length (take (length d - at) (drop at d))) → at + r ≤ length d
+put-after line d at r few h e =
+    let part : List ℕ = take (length d - at) (drop at d) in
+    omega (arith, put-within line (length part) few, ap length (rest d at), length-drop at d)

@@ -7,14 +7,14 @@ use mathlib.Core.List.{List, [], _∷_, _++_}
 use mathlib.Core.Bool.{Bool, true, false}
 use native.Mathlib.Nat.{pow-succ'}
 use native.Mathlib.Omega.{arith}
-use borrow.Author.Tests.{le-leb, lt-leb, leb-false, lt-ltb, le-ltb, ltb-false, ne-eqb, eqb-false}
+use borrow.Author.Tests.{lt-leb, le-ltb, ltb-false, ne-eqb, eqb-false}
 use lib.ListN.{length, getD, take, drop, length-append, List·getD-append}
 use lib.Seq.{take-at, drop-at}
 use lib.Dec.{leb, ltb, eqb}
 use Rattle.wire.specs.Choice.{pick, pick-any, pick-leb}
 use Rattle.wire.specs.Number.{be, beAt, toBe}
 use Rattle.wire.specs.NumberLaws.{be-toBe, padded-cells}
-use Rattle.slots.specs.Slot.{markFirst, markSecond, recordSize, settingsLimit, found, differs, overSettings, modeOf, keptOf, short, slotOf}
+use Rattle.slots.specs.Slot.{markFirst, markSecond, recordSize, settingsLimit, found, differs, overSettings, modeOf, keptOf, slotOf}
 use Rattle.slots.specs.Line.{digits}
 use Rattle.slots.specs.declared.SlotAnswer.{SlotAnswer}
 use Rattle.slots.specs.declared.SlotAnswer.the-variants.{Slot, More, Stop, End}

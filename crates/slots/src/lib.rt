@@ -19,9 +19,7 @@ const MARK_FIRST: u8 = 0xC5;
 
 const MARK_SECOND: u8 = 0x3A;
 
-// The settings byte: 1 for Add-Path, 2 for the guess, and both.
-const ADD_PATH: u8 = 1;
-
+// The settings byte: 1 for Add-Path, 2 for the guess, or both.
 const GUESS: u8 = 2;
 
 const SETTINGS_LIMIT: u8 = 3;
@@ -145,7 +143,7 @@ pub fn next_slot(bytes: &[u8], last: bool) -> SlotAnswer
     }
 }
 
-// Puts the digits of n before the last byte of text, and answers where they start.
+// Puts the digits of n before the last byte of text, and answers where they start. 48 is the digit 0.
 fn spell(text: &mut [u8], n: u64) -> usize
     requires { ⌜ length (now text) ≡ numberRoom ⌝ }
     ensures { λ r. ⌜ (drop r (now (text .exit)) ≡ number n (drop 20 (now (text .entry)))) × (r ≤ numberRoom) ⌝ }

@@ -1,10 +1,8 @@
-use Prim.Native.Nat.{_+_, _-_, _≤_}
-use mathlib.Core.Path.{ap}
+use Prim.Native.Nat.{_+_, _≤_}
 use native.Mathlib.Omega.{arith}
-use lib.ListN.{length, take, drop, length-drop}
-use Rattle.wire.specs.Turn.{rest}
+use lib.ListN.{length}
 use Rattle.slots.specs.Line.{lineOf}
-use Rattle.slots.specs.LineLaws.{put-within, line-few}
+use Rattle.slots.specs.LineLaws.{put-after, line-few}
 use borrow.Author.Needs.{needs}
 use Rattle.lister.proofs.add_line.Statement.{statement}
 use Rattle.lister.proofs.add_line.Tie as tie
@@ -25,10 +23,9 @@ put-line-requires c κs = search needs
 there : (c : tie.After-slice-known2) → c .before .before .before .before .before .before .args .put + c .before .before .put-line .result ≤ length (c .before .before .before .before .before .before .args .out .now)
 there c =
     let p = c .before .before in
-    let a = p .before .before .before .before .args in
-    let o = a .out .now in
-    let t = take (length o - a .put) (drop (a .put) o) in
-    omega (arith, p .put-line .ensures .0, put-within (lineOf (a .nth) (a .slot .now) (a .mode)) (length t) (line-few (a .nth) (a .slot .now) (a .mode)), ap length (rest o (a .put)), length-drop (a .put) o)
+    let s = p .before .before .before .before in
+    let a = s .args in
+    put-after (lineOf (a .nth) (a .slot .now) (a .mode)) (a .out .now) (a .put) (p .put-line .result) (line-few (a .nth) (a .slot .now) (a .mode)) (s .pre) (p .put-line .ensures .0)
 
 add-result : tie.Need-add-result
 add-result c = let h = there c in omega arith
