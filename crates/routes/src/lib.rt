@@ -212,20 +212,6 @@ fn put_item(store: &mut [u32], to: usize, s: &[u8], e: usize, max: u8, form: For
     put_row(store, to, &s[b..], e - b, max, first, id_of(s, form));
 }
 
-// One route, in a form: the bytes it takes and its row.
-pub fn try_parse_prefix(s: &[u8], afi: Afi, form: Form) -> PrefixAnswer
-    ensures answer { λ r. ⌜ r ≡ prefixOf (now (s .entry)) (maxOf afi) form ⌝ }
-{
-    let max = max_len(afi);
-    match item_size(s, max, form) {
-        SizeAnswer::Size(used) => PrefixAnswer::Prefix {
-            used,
-            row: row_of(s, used, max, form),
-        },
-        SizeAnswer::Refused(n) => PrefixAnswer::Refused(n),
-    }
-}
-
 // The row of the item of e bytes at the front of s.
 fn row_of(s: &[u8], e: usize, max: u8, form: Form) -> Row
     requires { ⌜ Placeable max form e (now s) ⌝ }
@@ -242,6 +228,20 @@ fn row_of(s: &[u8], e: usize, max: u8, form: Form) -> Row
         w1: word_of(t, 4, n),
         w2: word_of(t, 8, n),
         w3: word_of(t, 12, n),
+    }
+}
+
+// One route, in a form: the bytes it takes and its row.
+pub fn try_parse_prefix(s: &[u8], afi: Afi, form: Form) -> PrefixAnswer
+    ensures answer { λ r. ⌜ r ≡ prefixOf (now (s .entry)) (maxOf afi) form ⌝ }
+{
+    let max = max_len(afi);
+    match item_size(s, max, form) {
+        SizeAnswer::Size(used) => PrefixAnswer::Prefix {
+            used,
+            row: row_of(s, used, max, form),
+        },
+        SizeAnswer::Refused(n) => PrefixAnswer::Refused(n),
     }
 }
 

@@ -97,6 +97,20 @@ pub fn put_u16(out: &mut [u8], to: usize, v: u16)
     out[to + 1] = (v % 256) as u8;
 }
 
+// The four bytes of a number, at a place of the output that is there.
+fn put4(out: &mut [u8], to: usize, v: u32)
+    requires { ⌜ to ≤ length (now out) ⌝ }
+    ensures { λ _. ⌜ now (out .exit) ≡ placed (now (out .entry)) to (toBe 4 v) ⌝ }
+{
+    if out.len() - to < 4 {
+        return;
+    }
+    out[to] = (v / 16777216) as u8;
+    out[to + 1] = (v / 65536 % 256) as u8;
+    out[to + 2] = (v / 256 % 256) as u8;
+    out[to + 3] = (v % 256) as u8;
+}
+
 // The first m of the four bytes of a number, at a place of the output.
 pub fn put_octets(out: &mut [u8], to: usize, v: u32, m: usize)
     ensures { λ _. ⌜ now (out .exit) ≡ placed (now (out .entry)) to (take m (toBe 4 v)) ⌝ }
@@ -123,19 +137,6 @@ pub fn put_octets(out: &mut [u8], to: usize, v: u32, m: usize)
         return;
     }
     out[to + 2] = (v / 256 % 256) as u8;
-}
-
-fn put4(out: &mut [u8], to: usize, v: u32)
-    requires { ⌜ to ≤ length (now out) ⌝ }
-    ensures { λ _. ⌜ now (out .exit) ≡ placed (now (out .entry)) to (toBe 4 v) ⌝ }
-{
-    if out.len() - to < 4 {
-        return;
-    }
-    out[to] = (v / 16777216) as u8;
-    out[to + 1] = (v / 65536 % 256) as u8;
-    out[to + 2] = (v / 256 % 256) as u8;
-    out[to + 3] = (v % 256) as u8;
 }
 
 // All of src, at a place of the output.
