@@ -204,9 +204,6 @@ pub and-true : (a b : Bool) → a && b ≡ true → (a ≡ true) × (b ≡ true)
 and-true true b e = (refl, e)
 and-true false b e = let z : _≡_ {A = ℕ} 0 1 = cc in absurd (omega arith)
 
-pub and-false : (a b : Bool) → a ≡ false → a && b ≡ false
-and-false a b e = rw e
-
 module _ (max : ℕ) (form : Form) (r : Row) where
   pub is-writable : writable max form r ≡ true → Writable max form r
   unfolding writable
