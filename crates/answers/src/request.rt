@@ -1,8 +1,8 @@
 // A request record: its head, whether it is one that is given, and its settings.
 use asns::AsnLength;
-use routes::AddPath;
-use routes::Afi;
-use routes::Form;
+use families::AddPath;
+use families::Afi;
+use families::Form;
 
 // The bytes of a head.
 pub const HEAD_SIZE: usize = 18;

@@ -2,7 +2,7 @@
 ghost use mathlib.Core.Path.{_≡_};
 ghost use Prim.Native.Nat.{_+_, _≤_};
 ghost use lib.ListN.{length};
-use routes::AddPath;
+use families::AddPath;
 use slots::SlotAnswer;
 
 // A record of the largest size, 65,540 bytes, and nearly as much again to read.

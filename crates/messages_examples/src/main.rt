@@ -1,7 +1,7 @@
 // Runs the header and UPDATE examples of document 01 through the calls of messages, updates and update_writer, and prints what they answer.
+use families::AddPath;
+use families::Form;
 use messages::MessageAnswer;
-use routes::AddPath;
-use routes::Form;
 use routes::ListAnswer;
 use updates::PartsAnswer;
 use updates::UpdateAnswer;

@@ -1,8 +1,8 @@
 // Runs the route examples of document 01 through the calls of routes and prints what they answer.
+use families::AddPath;
+use families::Afi;
+use families::Form;
 use route_writer::WriteAnswer;
-use routes::AddPath;
-use routes::Afi;
-use routes::Form;
 use routes::ListAnswer;
 use routes::PrefixAnswer;
 use routes::Row;

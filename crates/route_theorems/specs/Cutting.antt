@@ -3,8 +3,8 @@ use Prim.Native.Nat.{ℕ, _^_, _≤_, _<_}
 use mathlib.Core.Path.{_≡_}
 use mathlib.Core.List.{List, [], _∷_, _++_}
 use lib.ListN.{length, getD}
-use Rattle.routes.specs.Prefix.{idSize, octets}
-use Rattle.routes.specs.declared.Form.{Form}
+use Rattle.families.specs.Family.{idSize, octets}
+use Rattle.families.specs.declared.Form.{Form}
 
 -- The bytes of one route. RFC 4271 section 4.3: a length octet, and the prefix in as few octets as hold that many bits.
 -- RFC 7911 section 3: in the Tagged form four octets of path identifier stand before it.

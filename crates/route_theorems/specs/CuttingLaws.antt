@@ -11,13 +11,14 @@ use lib.ListN.{length, getD, take, drop, length-append, length-drop, take-append
 use lib.Seq.{length-take-le, take-add, drop-cons, take-append-seam, drop-append-seam, getD-at, getD-take}
 use Rattle.wire.specs.Walk.{took, stop, whole, more, readAll, pieces}
 use Rattle.wire.specs.WalkLaws.{all-nil, all-took, all-stop, all-ind, pieces-nil, pieces-took}
-use Rattle.routes.specs.Prefix.{idSize, octets, itemRow}
+use Rattle.families.specs.Family.{idSize, octets}
+use Rattle.routes.specs.Prefix.{itemRow}
 use Rattle.routes.specs.PrefixLaws.{Took, took-prefix}
 use Rattle.routes.specs.List.{fixed, asStep, inForm, stepOf, strange}
 use Rattle.routes.specs.ListLaws.{step-form, fixed-form, sound, step-took, guess-plain}
-use Rattle.routes.specs.declared.Form.{Form}
-use Rattle.routes.specs.declared.Form.the-variants.{Plain, Tagged}
-use Rattle.routes.specs.declared.AddPath.the-variants.{Off, Guess}
+use Rattle.families.specs.declared.Form.{Form}
+use Rattle.families.specs.declared.Form.the-variants.{Plain, Tagged}
+use Rattle.families.specs.declared.AddPath.the-variants.{Off, Guess}
 use Rattle.routes.specs.declared.Row.{Row}
 use Rattle.route_theorems.specs.Cutting.{WellFormed, AllFormed, none, one, joined, Cutting, NoZero, no-zero}
 

@@ -14,9 +14,10 @@ use Rattle.wire.specs.Number.{be, toBe, padded, beAt, Bytes}
 use Rattle.wire.specs.NumberLaws.{toBe-be, be-toBe, length-toBe, bytes-drop, bytes-take, bytes-padded, length-padded, padded-add, padded-all, padded-of-take, padded-take, padded-cells}
 use Rattle.wire.specs.Walk.{whole, took, more, readAll, flat}
 use Rattle.wire.specs.WalkLaws.{all-nil, all-took, all-ind}
-use Rattle.routes.specs.Prefix.{idSize, markOf, octets, wordAt, rowOf, itemRow, words}
-use Rattle.routes.specs.declared.Form.{Form}
-use Rattle.routes.specs.declared.Form.the-variants.{Plain, Tagged}
+use Rattle.families.specs.Family.{idSize, markOf, octets}
+use Rattle.routes.specs.Prefix.{wordAt, rowOf, itemRow, words}
+use Rattle.families.specs.declared.Form.{Form}
+use Rattle.families.specs.declared.Form.the-variants.{Plain, Tagged}
 use Rattle.routes.specs.declared.Row.{Row}
 use Rattle.route_writer.specs.Encode.{fourWords, address, lengthOf, rowBytes, allZero, idFits, frontRow, writeStep}
 use Rattle.route_writer.specs.EncodeLaws.{Writable, and-true, address-length, write-took, took-write, write-sound}

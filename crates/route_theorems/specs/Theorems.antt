@@ -17,9 +17,9 @@ use Rattle.routes.specs.Prefix.{itemRow, words}
 use Rattle.routes.specs.List.{fixed, stepOf, listOf, strange, sectionOf}
 use Rattle.routes.specs.ListLaws.{count-good, count-rows, leave-rows, section-strange, section-list}
 use Rattle.routes.specs.Promises.{countAnswer, readAnswer}
-use Rattle.routes.specs.declared.Form.{Form}
-use Rattle.routes.specs.declared.Form.the-variants.{Plain}
-use Rattle.routes.specs.declared.AddPath.the-variants.{Off, Guess}
+use Rattle.families.specs.declared.Form.{Form}
+use Rattle.families.specs.declared.Form.the-variants.{Plain}
+use Rattle.families.specs.declared.AddPath.the-variants.{Off, Guess}
 use Rattle.routes.specs.declared.ListAnswer.the-variants.{Rows}
 use Rattle.routes.specs.declared.Row.{Row}
 use Rattle.route_writer.specs.Encode.{rowBytes, writing, bytesOf}

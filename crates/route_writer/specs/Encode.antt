@@ -10,9 +10,9 @@ use Rattle.wire.specs.Choice.{pick}
 use Rattle.wire.specs.Number.{toBe}
 use Rattle.wire.specs.Refusal.{notWritable}
 use Rattle.wire.specs.Walk.{Step, took, stop, Reading, readAll, flat}
-use Rattle.routes.specs.Prefix.{idSize, markOf, octets}
-use Rattle.routes.specs.declared.Form.{Form}
-use Rattle.routes.specs.declared.Form.the-variants.{Plain, Tagged}
+use Rattle.families.specs.Family.{idSize, markOf, octets}
+use Rattle.families.specs.declared.Form.{Form}
+use Rattle.families.specs.declared.Form.the-variants.{Plain, Tagged}
 use Rattle.routes.specs.declared.Row.{Row}
 
 -- the octets of four address words

@@ -22,11 +22,10 @@ use Rattle.wire.specs.Store.{placed, placed-fits, placed-nil, length-placed, la
 use Rattle.wire.specs.Walk.{Step, took, stop}
 use Rattle.wire.specs.WalkLaws.{Sound}
 use Rattle.wire.specs.Turn.{Light, Filled, fill-takes, fill-fits, fill-step}
-use Rattle.routes.specs.Prefix.{maxOf, idSize, markOf, octets}
-use Rattle.routes.specs.declared.Afi.{Afi}
-use Rattle.routes.specs.declared.Afi.the-variants.{Ipv4, Ipv6}
-use Rattle.routes.specs.declared.Form.{Form}
-use Rattle.routes.specs.declared.Form.the-variants.{Plain, Tagged}
+use Rattle.families.specs.Family.{idSize, markOf, octets}
+use Rattle.families.specs.FamilyLaws.{id-small}
+use Rattle.families.specs.declared.Form.{Form}
+use Rattle.families.specs.declared.Form.the-variants.{Plain, Tagged}
 use Rattle.routes.specs.declared.Row.{Row}
 use Rattle.route_writer.specs.Encode.{fourWords, address, lengthOf, rowBytes, allZero, idFits, writable, frontRow, writeStep}
 
@@ -183,10 +182,6 @@ row-laid d to p l o h =
     ap₂ (λ (x : List ℕ) (k : ℕ). laid x k o) put (sym at)
     ∙ laid-laid d to (p ++ one) o (omega arith)
     ∙ ap (laid d to) (append-assoc p one o)
-
-pub id-small : (form : Form) → idSize form ≤ 4
-id-small Plain = omega arith
-id-small Tagged = omega arith
 
 pub id-bytes : (form : Form) (id : ℕ) → take (idSize form) (toBe 4 id) ≡ toBe (idSize form) id
 id-bytes Plain id = refl
@@ -350,8 +345,3 @@ module _ (max : ℕ) (form : Form) (rows d₀ : List ℕ) (at to : ℕ) (d : Lis
   -- and after its bytes the loop's head is reached again
   pub fill-next : Filled (writeStep max form) (rowBytes form) tt rows d₀ tt (at + 6) (to + length (rowBytes form (frontRow (drop at rows)))) (laid d to (rowBytes form (frontRow (drop at rows))))
   fill-next = fill-step (writeStep max form) (write-sound max form) (rowBytes form) tt rows d₀ tt at to d h tt 6 (frontRow (drop at rows)) (fill-took .0)
-
--- no family has more than 128 bits
-pub max-small : (afi : Afi) → maxOf afi ≤ 128
-max-small Ipv4 = omega arith
-max-small Ipv6 = omega arith

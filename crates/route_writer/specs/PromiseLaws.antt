@@ -14,8 +14,8 @@ use Rattle.wire.specs.Store.{laid}
 use Rattle.wire.specs.Turn.{rest}
 use Rattle.wire.specs.Walk.{Step, took, stop, tally}
 use Rattle.wire.specs.WalkLaws.{tally-flat}
-use Rattle.routes.specs.Prefix.{idSize, markOf, octets}
-use Rattle.routes.specs.declared.Form.{Form}
+use Rattle.families.specs.Family.{idSize, markOf, octets}
+use Rattle.families.specs.declared.Form.{Form}
 use Rattle.routes.specs.declared.Row.{Row}
 use Rattle.route_writer.specs.Encode.{rowBytes, writable, frontRow, writeStep, writing, bytesOf}
 use Rattle.route_writer.specs.EncodeLaws.{Writable, write-took, took-write, stop-write, front-parts, no-and}

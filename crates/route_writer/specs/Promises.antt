@@ -7,7 +7,7 @@ use Rattle.wire.specs.Choice.{pick}
 use Rattle.wire.specs.Refusal.{tooLong, noRoom, listLimit}
 use Rattle.wire.specs.Store.{laid}
 use Rattle.wire.specs.Walk.{Step, took, stop}
-use Rattle.routes.specs.declared.Form.{Form}
+use Rattle.families.specs.declared.Form.{Form}
 use Rattle.routes.specs.declared.Row.{Row}
 use Rattle.route_writer.specs.Encode.{rowBytes, writing, bytesOf}
 use Rattle.route_writer.specs.declared.WriteAnswer.{WriteAnswer}

@@ -4,7 +4,7 @@ use Prim.Native.Nat.{ℕ}
 use mathlib.Core.Path.{_≡_, sym, _∙_}
 use mathlib.Core.List.{List}
 use lib.ListN.{length}
-use Rattle.routes.specs.declared.Form.{Form}
+use Rattle.families.specs.declared.Form.{Form}
 use Rattle.route_writer.specs.Promises.{measured, writeAnswer, outAfter}
 use Rattle.route_writer.specs.declared.WriteAnswer.{WriteAnswer}
 

@@ -5,11 +5,11 @@ ghost use Prim.Native.Nat.{_+_, _-_, _≤_};
 ghost use lib.ListN.{length, take, drop};
 ghost use Rattle.wire.specs.Number.{toBe};
 ghost use Rattle.wire.specs.Store.{laid};
-ghost use Rattle.routes.specs.Prefix.{maxOf, octets};
+ghost use Rattle.families.specs.Family.{maxOf, octets};
 ghost use Rattle.route_writer.specs.Encode.{fourWords, rowBytes, allZero, idFits, writable, frontRow, writeStep, writing, bytesOf};
 ghost use Rattle.route_writer.specs.Promises.{sizeBy, measured, writeAnswer, outAfter};
-use routes::Afi;
-use routes::Form;
+use families::Afi;
+use families::Form;
 use wire::refusal;
 
 // The bytes that were written or would be, or a refusal number.
@@ -73,7 +73,7 @@ fn row_size(ws: &[u32], max: u8, form: Form) -> WriteAnswer
     if ws.len() < 6 {
         return WriteAnswer::Refused(refusal::NOT_WRITABLE);
     }
-    let mark = routes::mark_of(form);
+    let mark = families::mark_of(form);
     let first = ws[0];
     if first < mark {
         return WriteAnswer::Refused(refusal::NOT_WRITABLE);
@@ -85,11 +85,11 @@ fn row_size(ws: &[u32], max: u8, form: Form) -> WriteAnswer
     if !id_fits(ws[1], form) {
         return WriteAnswer::Refused(refusal::NOT_WRITABLE);
     }
-    let n = routes::octet_count(len as u8);
+    let n = families::octet_count(len as u8);
     if !clear_past(n, ws[2], ws[3], ws[4], ws[5]) {
         return WriteAnswer::Refused(refusal::NOT_WRITABLE);
     }
-    WriteAnswer::Bytes(routes::id_size(form) + 1 + n)
+    WriteAnswer::Bytes(families::id_size(form) + 1 + n)
 }
 
 // How many bytes the rows take, none over the maximum length.
@@ -135,9 +135,9 @@ fn put_row(ws: &[u32], max: u8, form: Form, out: &mut [u8], to: usize) -> usize
     ensures size { λ r. ⌜ r ≡ length (rowBytes form (frontRow (now (ws .entry)))) ⌝ }
     ensures out { λ _. ⌜ now (out .exit) ≡ laid (now (out .entry)) to (rowBytes form (frontRow (now (ws .entry)))) ⌝ }
 {
-    let len = (ws[0] - routes::mark_of(form)) as u8;
-    let n = routes::octet_count(len);
-    let k = routes::id_size(form);
+    let len = (ws[0] - families::mark_of(form)) as u8;
+    let n = families::octet_count(len);
+    let k = families::id_size(form);
     wire::put_octets(out, to, ws[1], k);
     let at = to + k;
     out[at] = len;
@@ -164,7 +164,7 @@ fn fill(rows: &[u32], max: u8, form: Form, out: &mut [u8])
 pub fn measure_nlri_prefixes(rows: &[u32], afi: Afi, form: Form) -> WriteAnswer
     ensures { λ r. ⌜ r ≡ measured (now (rows .entry)) (maxOf afi) form ⌝ }
 {
-    size_within(rows, routes::max_len(afi), form)
+    size_within(rows, families::max_len(afi), form)
 }
 
 // Rows as a list, at the front of the output.
@@ -180,7 +180,7 @@ pub fn encode_nlri_prefixes(rows: &[u32], afi: Afi, form: Form, out: &mut [u8]) 
             if out.len() < n {
                 return WriteAnswer::Refused(refusal::NO_ROOM);
             }
-            fill(rows, routes::max_len(afi), form, out);
+            fill(rows, families::max_len(afi), form, out);
             WriteAnswer::Bytes(n)
         }
         WriteAnswer::Refused(n) => WriteAnswer::Refused(n),

@@ -8,10 +8,10 @@ use Rattle.wire.specs.Choice.{pick}
 use Rattle.wire.specs.Refusal.{oneByteSection}
 use Rattle.wire.specs.Walk.{Step, took, stop, Reading, refused, readAll}
 use Rattle.routes.specs.Prefix.{prefixOf}
-use Rattle.routes.specs.declared.Form.{Form}
-use Rattle.routes.specs.declared.Form.the-variants.{Plain, Tagged}
-use Rattle.routes.specs.declared.AddPath.{AddPath}
-use Rattle.routes.specs.declared.AddPath.the-variants.{On, Off, Guess}
+use Rattle.families.specs.declared.Form.{Form}
+use Rattle.families.specs.declared.Form.the-variants.{Plain, Tagged}
+use Rattle.families.specs.declared.AddPath.{AddPath}
+use Rattle.families.specs.declared.AddPath.the-variants.{On, Off, Guess}
 use Rattle.routes.specs.declared.Row.{Row}
 use Rattle.routes.specs.declared.PrefixAnswer.{PrefixAnswer}
 use Rattle.routes.specs.declared.PrefixAnswer.the-variants.{Prefix, Refused}

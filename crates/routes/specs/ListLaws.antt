@@ -15,14 +15,15 @@ use Rattle.wire.specs.Store.{laid}
 use Rattle.wire.specs.Turn.{rest, Light, Counted, turn-fits, count-step, count-stop, Filled, fill-fits, fill-step, fill-takes}
 use Rattle.wire.specs.Walk.{readAll, Step, took, stop, Reading, refused, tally, flat}
 use Rattle.wire.specs.WalkLaws.{Sound, tally-one, flat-length, all-blind}
-use Rattle.routes.specs.Prefix.{itemEnd, idSize, itemRow, words, prefixOf}
+use Rattle.families.specs.Family.{idSize}
+use Rattle.routes.specs.Prefix.{itemEnd, itemRow, words, prefixOf}
 use Rattle.routes.specs.PrefixLaws.{Placeable, Took, prefix-took, prefix-names}
 use Rattle.routes.specs.List.{asStep, inForm, plainHere, tried, guessForm, formBy, fixed, stepOf, listOf, strange, sectionOf}
 use Rattle.routes.specs.Promises.{answerBy, countAnswer, readAnswer, filled, storeAfter}
 use Rattle.routes.specs.Size.{sizeOf, sized, kept}
-use Rattle.routes.specs.declared.Form.{Form}
-use Rattle.routes.specs.declared.Form.the-variants.{Plain, Tagged}
-use Rattle.routes.specs.declared.AddPath.{AddPath}
+use Rattle.families.specs.declared.Form.{Form}
+use Rattle.families.specs.declared.Form.the-variants.{Plain, Tagged}
+use Rattle.families.specs.declared.AddPath.{AddPath}
 use Rattle.routes.specs.declared.Row.{Row}
 use Rattle.routes.specs.declared.PrefixAnswer.{PrefixAnswer}
 use Rattle.routes.specs.declared.PrefixAnswer.the-variants as P

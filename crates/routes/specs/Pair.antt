@@ -8,7 +8,7 @@ use Rattle.wire.specs.Refusal.{noRoom}
 use Rattle.wire.specs.Walk.{Reading}
 use Rattle.routes.specs.List.{sectionOf}
 use Rattle.routes.specs.Promises.{countAnswer, filled}
-use Rattle.routes.specs.declared.AddPath.{AddPath}
+use Rattle.families.specs.declared.AddPath.{AddPath}
 use Rattle.routes.specs.declared.Row.{Row}
 use Rattle.routes.specs.declared.ListAnswer.{ListAnswer}
 use Rattle.routes.specs.declared.ListAnswer.the-variants as L

@@ -13,7 +13,7 @@ use Rattle.routes.specs.List.{listOf, sectionOf}
 use Rattle.routes.specs.ListLaws.{words-length, count-rows, section-counted}
 use Rattle.routes.specs.Promises.{countAnswer, Fitting}
 use Rattle.routes.specs.Pair.{hasRoom, pairBy}
-use Rattle.routes.specs.declared.AddPath.{AddPath}
+use Rattle.families.specs.declared.AddPath.{AddPath}
 use Rattle.routes.specs.declared.Row.{Row}
 use Rattle.routes.specs.declared.ListAnswer.{ListAnswer}
 use Rattle.routes.specs.declared.ListAnswer.the-variants as L

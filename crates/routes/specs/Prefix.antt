@@ -1,37 +1,17 @@
 -- One route. RFC 4271 section 4.3: a length octet, and that many bits of address in whole octets.
 -- RFC 7911 section 3: where Add-Path is in use, four octets of path identifier before it.
-use Prim.Native.Nat.{ℕ, zero, suc, _+_, _-_, _/_}
+use Prim.Native.Nat.{ℕ, _+_}
 use mathlib.Core.List.{List, [], _∷_}
 use lib.ListN.{length, getD, take, drop}
 use lib.Dec.{ltb, leb}
 use Rattle.wire.specs.Choice.{pick}
 use Rattle.wire.specs.Number.{be, beAt}
 use Rattle.wire.specs.Refusal.{truncated, prefixLength}
-use Rattle.routes.specs.declared.Afi.{Afi}
-use Rattle.routes.specs.declared.Afi.the-variants.{Ipv4, Ipv6}
-use Rattle.routes.specs.declared.Form.{Form}
-use Rattle.routes.specs.declared.Form.the-variants.{Plain, Tagged}
+use Rattle.families.specs.Family.{idSize, markOf, octets}
+use Rattle.families.specs.declared.Form.{Form}
 use Rattle.routes.specs.declared.Row.{Row}
 use Rattle.routes.specs.declared.PrefixAnswer.{PrefixAnswer}
 use Rattle.routes.specs.declared.PrefixAnswer.the-variants.{Prefix, Refused}
-
--- the longest prefix of a family, in bits
-abbrev pub maxOf : Afi → ℕ
-maxOf Ipv4 = 32
-maxOf Ipv6 = 128
-
--- the bytes of an id, and what an id adds to a row's first word
-abbrev pub idSize : Form → ℕ
-idSize Plain = 0
-idSize Tagged = 4
-
-abbrev pub markOf : Form → ℕ
-markOf Plain = 0
-markOf Tagged = 256
-
--- l bits, in whole octets
-abbrev pub octets : ℕ → ℕ
-octets l = (l + 7) / 8
 
 -- the address word at octet i of o; octets that o lacks are 0
 unfoldable pub wordAt : List ℕ → ℕ → ℕ

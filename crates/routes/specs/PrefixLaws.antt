@@ -14,9 +14,9 @@ use Rattle.wire.specs.NumberLaws.{be-cut, bytes-drop, bytes-padded, length-padd
 use Rattle.wire.specs.Parts.{drop-take}
 use Rattle.wire.specs.Refusal.{truncated, prefixLength}
 use Rattle.wire.specs.Turn.{rest}
-use Rattle.routes.specs.Prefix.{itemEnd, idSize, markOf, octets, wordAt, rowOf, itemRow, prefixOf}
-use Rattle.routes.specs.declared.Form.{Form}
-use Rattle.routes.specs.declared.Form.the-variants.{Plain, Tagged}
+use Rattle.families.specs.Family.{idSize, markOf, octets}
+use Rattle.routes.specs.Prefix.{itemEnd, wordAt, rowOf, itemRow, prefixOf}
+use Rattle.families.specs.declared.Form.{Form}
 use Rattle.routes.specs.declared.Row.{Row}
 use Rattle.routes.specs.declared.PrefixAnswer.{PrefixAnswer}
 use Rattle.routes.specs.declared.PrefixAnswer.the-variants.{Prefix, Refused}
@@ -136,10 +136,6 @@ unfolding wordAt beAt
 word-past o i h = rw (drop-of-length-le o h)
 
 -- ---- the row of an item, from where its parts stand
-
-pub mark-small : (form : Form) → markOf form ≤ 256
-mark-small Plain = omega arith
-mark-small Tagged = omega arith
 
 pub item-row : (s : List ℕ) (form : Form) (e k first id : ℕ) → k ≡ idSize form → first ≡ getD s k 0 + markOf form → id ≡ beAt s 0 (idSize form) → k + 1 ≤ e → e ≤ length s
     → rowOf (take (e - (k + 1)) (take (length s - (k + 1)) (drop (k + 1) s))) first id ≡ itemRow form (take e s)

@@ -1,7 +1,7 @@
 -- What a step says of sizes alone: the parts of an answer that counting needs.
 use Prim.Native.Nat.{ℕ}
 use Rattle.wire.specs.Walk.{Step, took, stop}
-use Rattle.routes.specs.declared.Form.{Form}
+use Rattle.families.specs.declared.Form.{Form}
 use Rattle.routes.specs.declared.Row.{Row}
 use Rattle.routes.specs.declared.PrefixAnswer.{PrefixAnswer}
 use Rattle.routes.specs.declared.PrefixAnswer.the-variants as P

@@ -8,14 +8,12 @@ use Rattle.wire.specs.Walk.{Reading}
 use Rattle.routes.specs.Prefix.{prefixOf}
 use Rattle.routes.specs.Pair.{pairAnswer, firstAfter, secondAfter}
 use Rattle.routes.specs.Promises.{countAnswer, readAnswer, storeAfter}
-use Rattle.routes.specs.declared.Form.{Form}
+use Rattle.families.specs.declared.Form.{Form}
 use Rattle.routes.specs.declared.Row.{Row}
 use Rattle.routes.specs.declared.PrefixAnswer.{PrefixAnswer}
 use Rattle.routes.specs.declared.ListAnswer.{ListAnswer}
 use Rattle.routes.specs.declared.PairAnswer.{PairAnswer}
-use Rattle.routes.specs.declared.AddPath.{AddPath}
-
--- max_len, id_size, mark_of and octet_count answer one number each: `tight-number` of wire
+use Rattle.families.specs.declared.AddPath.{AddPath}
 
 -- try_parse_prefix
 pub tight-prefix : (s : List ℕ) (max : ℕ) (form : Form) (a b : PrefixAnswer) → a ≡ prefixOf s max form → b ≡ prefixOf s max form → a ≡ b

@@ -7,33 +7,18 @@ ghost use Rattle.wire.specs.Number.{beAt};
 ghost use Rattle.wire.specs.Refusal.{listLimit};
 ghost use Rattle.wire.specs.Store.{laid};
 ghost use Rattle.wire.specs.Walk.{flat};
-ghost use Rattle.routes.specs.Prefix.{maxOf, idSize, markOf, octets, itemEnd, wordAt, rowOf, itemRow, words, prefixOf};
+ghost use Rattle.families.specs.Family.{maxOf, idSize, octets};
+ghost use Rattle.routes.specs.Prefix.{itemEnd, wordAt, rowOf, itemRow, words, prefixOf};
 ghost use Rattle.routes.specs.PrefixLaws.{Placeable};
 ghost use Rattle.routes.specs.List.{plainHere, guessForm, formBy, fixed, stepOf, listOf, sectionOf, strange};
 ghost use Rattle.routes.specs.Size.{sizeOf, sized, kept};
 ghost use Rattle.routes.specs.Promises.{countAnswer, readAnswer, filled, storeAfter, Fitting};
 ghost use Rattle.routes.specs.Pair.{hasRoom, pairAnswer, firstAfter, secondAfter};
 ghost use mathlib.Core.Bool.{true};
+use families::AddPath;
+use families::Afi;
+use families::Form;
 use wire::refusal;
-
-// The family of a route.
-pub enum Afi {
-    Ipv4,
-    Ipv6,
-}
-
-// How an item stands: Plain without a path id, Tagged with one. They are also the two states of the guess.
-pub enum Form {
-    Plain,
-    Tagged,
-}
-
-// The Add-Path setting of a list: on, off, or off with the guess.
-pub enum AddPath {
-    On,
-    Off,
-    Guess,
-}
 
 // A route as six words: length, plus 256 where there is an id; id or 0; four address words.
 pub struct Row {
@@ -69,38 +54,11 @@ enum StepAnswer {
     Refused(u8),
 }
 
-// The longest prefix of a family, in bits.
-pub fn max_len(afi: Afi) -> u8
-    ensures { λ r. ⌜ r ≡ maxOf afi ⌝ }
-{
-    match afi {
-        Afi::Ipv4 => 32,
-        Afi::Ipv6 => 128,
-    }
-}
-
-// The bytes of an id in a form.
-pub fn id_size(form: Form) -> usize
-    ensures { λ r. ⌜ r ≡ idSize form ⌝ }
-{
-    match form {
-        Form::Plain => 0,
-        Form::Tagged => 4,
-    }
-}
-
-// The octets of a prefix of that many bits.
-pub fn octet_count(len: u8) -> usize
-    ensures { λ r. ⌜ r ≡ octets len ⌝ }
-{
-    (len as usize + 7) / 8
-}
-
 // How many bytes the item at the front takes.
 fn item_size(s: &[u8], max: u8, form: Form) -> SizeAnswer
     ensures { λ r. ⌜ r ≡ sizeOf (prefixOf (now (s .entry)) max form) ⌝ }
 {
-    let k = id_size(form);
+    let k = families::id_size(form);
     if s.len() <= k {
         return SizeAnswer::Refused(refusal::TRUNCATED);
     }
@@ -108,7 +66,7 @@ fn item_size(s: &[u8], max: u8, form: Form) -> SizeAnswer
     if max < l {
         return SizeAnswer::Refused(refusal::PREFIX_LENGTH);
     }
-    let e = k + 1 + octet_count(l);
+    let e = k + 1 + families::octet_count(l);
     if s.len() < e {
         return SizeAnswer::Refused(refusal::TRUNCATED);
     }
@@ -180,16 +138,6 @@ fn put_row(store: &mut [u32], to: usize, t: &[u8], n: usize, max: u8, first: u32
     put_words(store, to, first, id, w0, w1, w2, w3);
 }
 
-// What an id adds to a row's first word.
-pub fn mark_of(form: Form) -> u32
-    ensures { λ r. ⌜ r ≡ markOf form ⌝ }
-{
-    match form {
-        Form::Plain => 0,
-        Form::Tagged => 256,
-    }
-}
-
 // The id of the item at the front of s, 0 where the form has none.
 fn id_of(s: &[u8], form: Form) -> u32
     ensures { λ r. ⌜ r ≡ beAt (now (s .entry)) 0 (idSize form) ⌝ }
@@ -206,9 +154,9 @@ fn put_item(store: &mut [u32], to: usize, s: &[u8], e: usize, max: u8, form: For
     requires { ⌜ Placeable max form e (now s) ⌝ }
     ensures { λ _. ⌜ now (store .exit) ≡ laid (now (store .entry)) to (words (itemRow form (take e (now (s .entry))))) ⌝ }
 {
-    let k = id_size(form);
+    let k = families::id_size(form);
     let b = k + 1;
-    let first = wire::wide(s[k]) + mark_of(form);
+    let first = wire::wide(s[k]) + families::mark_of(form);
     put_row(store, to, &s[b..], e - b, max, first, id_of(s, form));
 }
 
@@ -217,12 +165,12 @@ fn row_of(s: &[u8], e: usize, max: u8, form: Form) -> Row
     requires { ⌜ Placeable max form e (now s) ⌝ }
     ensures { λ r. ⌜ r ≡ itemRow form (take e (now (s .entry))) ⌝ }
 {
-    let k = id_size(form);
+    let k = families::id_size(form);
     let b = k + 1;
     let t = &s[b..];
     let n = e - b;
     Row {
-        first: wire::wide(s[k]) + mark_of(form),
+        first: wire::wide(s[k]) + families::mark_of(form),
         id: id_of(s, form),
         w0: word_of(t, 0, n),
         w1: word_of(t, 4, n),
@@ -235,7 +183,7 @@ fn row_of(s: &[u8], e: usize, max: u8, form: Form) -> Row
 pub fn try_parse_prefix(s: &[u8], afi: Afi, form: Form) -> PrefixAnswer
     ensures answer { λ r. ⌜ r ≡ prefixOf (now (s .entry)) (maxOf afi) form ⌝ }
 {
-    let max = max_len(afi);
+    let max = families::max_len(afi);
     match item_size(s, max, form) {
         SizeAnswer::Size(used) => PrefixAnswer::Prefix {
             used,
@@ -351,8 +299,8 @@ fn item_end(s: &[u8], form: Form) -> usize
     requires { ⌜ idSize form < length (now s) ⌝ }
     ensures { λ r. ⌜ r ≡ itemEnd form (now (s .entry)) ⌝ }
 {
-    let k = id_size(form);
-    k + 1 + octet_count(s[k])
+    let k = families::id_size(form);
+    k + 1 + families::octet_count(s[k])
 }
 
 // The form in which the guess reads the item at the front.
@@ -418,7 +366,7 @@ fn read_rows(s: &[u8], max: u8, mode: AddPath, store: &mut [u32]) -> ListAnswer
 pub fn count_nlri_list(s: &[u8], afi: Afi, mode: AddPath) -> ListAnswer
     ensures answer { λ r. ⌜ r ≡ countAnswer (now (s .entry)) (listOf (now (s .entry)) (maxOf afi) mode) ⌝ }
 {
-    count_rows(s, max_len(afi), mode)
+    count_rows(s, families::max_len(afi), mode)
 }
 
 // A list into a lent store, six words a row.
@@ -426,7 +374,7 @@ pub fn parse_nlri_list(s: &[u8], afi: Afi, mode: AddPath, store: &mut [u32]) -> 
     ensures answer { λ r. ⌜ r ≡ readAnswer (now (s .entry)) (listOf (now (s .entry)) (maxOf afi) mode) (length (now (store .entry))) ⌝ }
     ensures store { λ _. ⌜ now (store .exit) ≡ storeAfter (now (s .entry)) (listOf (now (s .entry)) (maxOf afi) mode) (now (store .entry)) ⌝ }
 {
-    read_rows(s, max_len(afi), mode, store)
+    read_rows(s, families::max_len(afi), mode, store)
 }
 
 // Whether a section is one byte, and not 0.
@@ -487,7 +435,7 @@ fn fill_counted(s: &[u8], afi: Afi, mode: AddPath, counted: ListAnswer, store: &
 {
     match counted {
         ListAnswer::Rows(_) => {
-            fill_rows(s, max_len(afi), mode, store);
+            fill_rows(s, families::max_len(afi), mode, store);
         }
         ListAnswer::Refused(_) => {}
     }

@@ -1,6 +1,6 @@
 // Runs inputs through the calls of slots, and prints what they answer: each way to stop, to end and to wait, and lines for outputs of
 // other sizes. The records of document 01 and the lines of every kind are in the input of the lister.
-use routes::AddPath;
+use families::AddPath;
 use slots::SlotAnswer;
 
 fn text(s: &[u8]) {

@@ -7,7 +7,7 @@ use lib.Dec.{ltb, leb, eqb}
 use Rattle.wire.specs.Choice.{pick}
 use Rattle.wire.specs.Extent.{within}
 use Rattle.wire.specs.Store.{laid}
-use Rattle.routes.specs.declared.AddPath.{AddPath}
+use Rattle.families.specs.declared.AddPath.{AddPath}
 use Rattle.routes.specs.declared.ListAnswer.{ListAnswer}
 use Rattle.messages.specs.Header.{updateKind, messageOf, bodyAt}
 use Rattle.messages.specs.declared.MessageAnswer.{MessageAnswer}

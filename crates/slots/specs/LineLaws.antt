@@ -11,7 +11,7 @@ use lib.Seq.{drop-cons, drop-set-lt, getD-set-same}
 use lib.Dec.{ltb, leb}
 use Rattle.wire.specs.Choice.{pick, pick-any, pick-leb}
 use Rattle.wire.specs.Turn.{rest}
-use Rattle.routes.specs.declared.AddPath.{AddPath}
+use Rattle.families.specs.declared.AddPath.{AddPath}
 use Rattle.routes.specs.declared.ListAnswer.{ListAnswer}
 use Rattle.updates.specs.Update.{rowsIn, verdictIn}
 use Rattle.messages.specs.Header.{updateKind}

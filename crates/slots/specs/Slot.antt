@@ -7,8 +7,8 @@ use lib.ListN.{length, getD}
 use lib.Dec.{ltb, leb, eqb}
 use Rattle.wire.specs.Choice.{pick}
 use Rattle.wire.specs.Number.{beAt}
-use Rattle.routes.specs.declared.AddPath.{AddPath}
-use Rattle.routes.specs.declared.AddPath.the-variants.{On, Off, Guess}
+use Rattle.families.specs.declared.AddPath.{AddPath}
+use Rattle.families.specs.declared.AddPath.the-variants.{On, Off, Guess}
 use Rattle.slots.specs.declared.SlotAnswer.{SlotAnswer}
 use Rattle.slots.specs.declared.SlotAnswer.the-variants.{Slot, More, Stop, End}
 

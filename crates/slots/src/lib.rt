@@ -7,8 +7,8 @@ ghost use Rattle.updates.specs.Update.{countUpdate, rowsIn, verdictIn};
 ghost use Rattle.slots.specs.Slot.{differs, overSettings, modeOf, short, slotOf};
 ghost use Rattle.slots.specs.Line.{numberRoom, stateRoom, fieldsRoom, sectionRoom, entryRoom, number, stateOf, space, lineEnd, refusedText, stateText, fieldsText, sectionText, updateEntry, entryOf, entryText, lineOf, headingText, stopText, putCount, putOut};
 ghost use Rattle.slots.specs.Growth.{Grown};
+use families::AddPath;
 use messages::MessageAnswer;
-use routes::AddPath;
 use routes::ListAnswer;
 use updates::UpdateAnswer;
 

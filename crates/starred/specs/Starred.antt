@@ -6,11 +6,12 @@ use mathlib.Core.List.{List, [], _∷_}
 use Rattle.wire.specs.Number.{beAt}
 use Rattle.wire.specs.Refusal.{truncated, prefixLength, oneByteSection, segmentType}
 use Rattle.wire.specs.Walk.{Reading, readAll, walk}
-use Rattle.routes.specs.Prefix.{maxOf, wordAt, rowOf, itemRow, prefixOf}
+use Rattle.families.specs.Family.{maxOf}
+use Rattle.routes.specs.Prefix.{wordAt, rowOf, itemRow, prefixOf}
 use Rattle.routes.specs.List.{inForm, guessForm, stepOf, listOf, sectionOf}
-use Rattle.routes.specs.declared.Afi.the-variants.{Ipv4}
-use Rattle.routes.specs.declared.AddPath.{AddPath}
-use Rattle.routes.specs.declared.AddPath.the-variants.{On, Off, Guess}
+use Rattle.families.specs.declared.Afi.the-variants.{Ipv4}
+use Rattle.families.specs.declared.AddPath.{AddPath}
+use Rattle.families.specs.declared.AddPath.the-variants.{On, Off, Guess}
 use Rattle.routes.specs.declared.Row.{Row}
 use Rattle.asns.specs.Asn.{span, widthOf}
 use Rattle.asns.specs.declared.AsnLength.{AsnLength}

@@ -7,9 +7,9 @@ use lib.Dec.{ltb}
 use Rattle.wire.specs.Choice.{pick}
 use Rattle.wire.specs.Number.{toBe}
 use Rattle.wire.specs.Refusal.{tooLong, noRoom, listLimit, bodyLimit}
-use Rattle.routes.specs.Prefix.{maxOf}
-use Rattle.routes.specs.declared.Afi.the-variants.{Ipv4}
-use Rattle.routes.specs.declared.Form.{Form}
+use Rattle.families.specs.Family.{maxOf}
+use Rattle.families.specs.declared.Afi.the-variants.{Ipv4}
+use Rattle.families.specs.declared.Form.{Form}
 use Rattle.route_writer.specs.Encode.{bytesOf}
 use Rattle.route_writer.specs.Promises.{measured}
 use Rattle.route_writer.specs.declared.WriteAnswer.{WriteAnswer}

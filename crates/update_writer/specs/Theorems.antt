@@ -8,9 +8,9 @@ use lib.ListN.{length, take, drop, length-append}
 use lib.Seq.{take-at, drop-at, drop-drop, take-length}
 use Rattle.wire.specs.Number.{toBe, beAt}
 use Rattle.wire.specs.Refusal.{listLimit, bodyLimit}
-use Rattle.routes.specs.Prefix.{maxOf}
-use Rattle.routes.specs.declared.Afi.the-variants.{Ipv4}
-use Rattle.routes.specs.declared.Form.{Form}
+use Rattle.families.specs.Family.{maxOf}
+use Rattle.families.specs.declared.Afi.the-variants.{Ipv4}
+use Rattle.families.specs.declared.Form.{Form}
 use Rattle.route_writer.specs.Encode.{bytesOf}
 use Rattle.route_writer.specs.Promises.{measured}
 use Rattle.route_writer.specs.PromiseLaws.{measured-bytes}

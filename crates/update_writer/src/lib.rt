@@ -5,16 +5,16 @@ ghost use Prim.Native.Nat.{_+_, _≤_};
 ghost use lib.ListN.{length};
 ghost use Rattle.wire.specs.Refusal.{listLimit};
 ghost use Rattle.wire.specs.Store.{laid, placed};
-ghost use Rattle.routes.specs.Prefix.{maxOf};
-ghost use Rattle.routes.specs.declared.Afi.the-variants.{Ipv4};
+ghost use Rattle.families.specs.Family.{maxOf};
+ghost use Rattle.families.specs.declared.Afi.the-variants.{Ipv4};
 ghost use Rattle.route_writer.specs.Encode.{bytesOf};
 ghost use Rattle.route_writer.specs.Promises.{measured, filled};
 ghost use Rattle.route_writer.specs.declared.WriteAnswer.the-variants.{Bytes};
 ghost use Rattle.update_writer.specs.Body.{sized, bodyBytes, bodyAnswer};
 ghost use Rattle.update_writer.specs.BodyLaws.{Sized};
+use families::Afi;
+use families::Form;
 use route_writer::WriteAnswer;
-use routes::Afi;
-use routes::Form;
 use wire::refusal;
 
 // The bytes of a section's length.

@@ -11,7 +11,8 @@ use Rattle.wire.specs.Choice.{pick-any}
 use Rattle.wire.specs.Refusal.{truncated, prefixLength, oneByteSection, noRoom, listLimit}
 use Rattle.wire.specs.Walk.{stop, Reading, refused}
 use Rattle.wire.specs.WalkLaws.{all-ind}
-use Rattle.routes.specs.Prefix.{maxOf, prefixOf}
+use Rattle.families.specs.Family.{maxOf}
+use Rattle.routes.specs.Prefix.{prefixOf}
 use Rattle.routes.specs.PrefixLaws.{prefix-cases}
 use Rattle.routes.specs.List.{asStep, inForm, formBy, stepOf, listOf, strange, sectionOf}
 use Rattle.routes.specs.ListLaws.{sound}
@@ -19,10 +20,10 @@ use Rattle.routes.specs.Promises.{answerBy, countAnswer}
 use Rattle.routes.specs.Pair.{hasRoom, pairBy, pairAnswer}
 use Rattle.routes.specs.declared.PairAnswer.{PairAnswer}
 use Rattle.routes.specs.declared.PairAnswer.the-variants as Q
-use Rattle.routes.specs.declared.Afi.the-variants.{Ipv4}
-use Rattle.routes.specs.declared.Form.{Form}
-use Rattle.routes.specs.declared.Form.the-variants.{Plain}
-use Rattle.routes.specs.declared.AddPath.{AddPath}
+use Rattle.families.specs.declared.Afi.the-variants.{Ipv4}
+use Rattle.families.specs.declared.Form.{Form}
+use Rattle.families.specs.declared.Form.the-variants.{Plain}
+use Rattle.families.specs.declared.AddPath.{AddPath}
 use Rattle.routes.specs.declared.Row.{Row}
 use Rattle.routes.specs.declared.ListAnswer.{ListAnswer}
 use Rattle.routes.specs.declared.PrefixAnswer.{PrefixAnswer}

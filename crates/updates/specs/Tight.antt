@@ -6,7 +6,7 @@ use mathlib.Core.List.{List}
 use denote.Ref.{RefT}
 use lib.ListN.{length}
 use Rattle.wire.specs.Extent.{Extent, PartOf, one-part}
-use Rattle.routes.specs.declared.AddPath.{AddPath}
+use Rattle.families.specs.declared.AddPath.{AddPath}
 use Rattle.updates.specs.Body.{partsOf}
 use Rattle.updates.specs.Update.{countUpdate, readUpdate, withdrawnAfter, announcedAfter}
 use Rattle.updates.specs.declared.PartsAnswer.{PartsAnswer}

@@ -2,12 +2,12 @@
 -- and does not refuse the UPDATE.
 use Prim.Native.Nat.{ℕ}
 use mathlib.Core.List.{List}
-use Rattle.routes.specs.Prefix.{maxOf}
+use Rattle.families.specs.Family.{maxOf}
 use Rattle.routes.specs.List.{sectionOf}
 use Rattle.routes.specs.Promises.{countAnswer, filled}
 use Rattle.routes.specs.Pair.{pairAnswer}
-use Rattle.routes.specs.declared.Afi.the-variants.{Ipv4}
-use Rattle.routes.specs.declared.AddPath.{AddPath}
+use Rattle.families.specs.declared.Afi.the-variants.{Ipv4}
+use Rattle.families.specs.declared.AddPath.{AddPath}
 use Rattle.routes.specs.declared.Row.{Row}
 use Rattle.routes.specs.declared.ListAnswer.{ListAnswer}
 use Rattle.routes.specs.declared.ListAnswer.the-variants as L

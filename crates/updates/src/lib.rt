@@ -3,14 +3,14 @@
 ghost use mathlib.Core.Path.{_≡_};
 ghost use lib.ListN.{length};
 ghost use Rattle.wire.specs.Extent.{PartOf};
-ghost use Rattle.routes.specs.Prefix.{maxOf};
+ghost use Rattle.families.specs.Family.{maxOf};
 ghost use Rattle.routes.specs.List.{sectionOf};
 ghost use Rattle.routes.specs.Pair.{pairAnswer};
-ghost use Rattle.routes.specs.declared.Afi.the-variants.{Ipv4};
+ghost use Rattle.families.specs.declared.Afi.the-variants.{Ipv4};
 ghost use Rattle.updates.specs.Body.{partsOf, withdrawnAt, attributesAt, announcedAt};
 ghost use Rattle.updates.specs.Update.{countUpdate, readUpdate, asUpdate, withdrawnFilled, announcedFilled, withdrawnAfter, announcedAfter};
-use routes::AddPath;
-use routes::Afi;
+use families::AddPath;
+use families::Afi;
 use routes::ListAnswer;
 use routes::PairAnswer;
 use wire::refusal;

@@ -2,9 +2,9 @@ use mathlib.Core.Path.{sym, ap, _∙_}
 use Prim.Native.Nat.{ℕ}
 use native.Mathlib.Omega.{arith}
 use Rattle.wire.specs.Store.{laid}
-use Rattle.routes.specs.Prefix.{maxOf}
+use Rattle.families.specs.Family.{maxOf}
 use Rattle.route_writer.specs.Encode.{bytesOf}
-use Rattle.route_writer.specs.EncodeLaws.{max-small}
+use Rattle.families.specs.FamilyLaws.{max-small}
 use Rattle.route_writer.specs.PromiseLaws.{measured-bytes, leave-refused, leave-long, leave-full, leave-bytes}
 use borrow.Author.Needs.{needs}
 use Rattle.route_writer.proofs.encode_nlri_prefixes.Statement.{statement}

@@ -1,7 +1,7 @@
 use mathlib.Core.Path.{ap, _∙_}
 use Prim.Native.Nat.{ℕ}
 use native.Mathlib.Omega.{arith}
-use Rattle.route_writer.specs.EncodeLaws.{max-small}
+use Rattle.families.specs.FamilyLaws.{max-small}
 use Rattle.route_writer.specs.Promises.{measured}
 use borrow.Author.Needs.{needs}
 use Rattle.route_writer.proofs.measure_nlri_prefixes.Statement.{statement}

@@ -5,7 +5,7 @@ use Rattle.route_writer.specs.Encode.{fourWords, rowBytes, frontRow}
 use mathlib.Core.Path.{_≡_, ap, _∙_}
 use Prim.Native.Nat.{ℕ, _+_, _-_, _≤_}
 use native.Mathlib.Omega.{arith}
-use Rattle.routes.specs.Prefix.{idSize, markOf, octets}
+use Rattle.families.specs.Family.{idSize, markOf, octets}
 use Rattle.route_writer.specs.EncodeLaws.{is-writable, front-parts, front-laid}
 use borrow.Author.Needs.{needs}
 use Rattle.route_writer.proofs.put_row.Statement.{statement}

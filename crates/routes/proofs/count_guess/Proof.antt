@@ -4,8 +4,8 @@ use Prim.Native.Nat.{_+_, _-_, _≤_, _<_}
 use mathlib.Core.Path.{sym}
 use lib.ListN.{length}
 use Rattle.wire.specs.Turn.{Counted, count-start, count-done}
-use Rattle.routes.specs.declared.Form.the-variants.{Plain}
-use Rattle.routes.specs.declared.AddPath.the-variants.{Guess}
+use Rattle.families.specs.declared.Form.the-variants.{Plain}
+use Rattle.families.specs.declared.AddPath.the-variants.{Guess}
 use Rattle.routes.specs.List.{stepOf, listOf}
 use Rattle.routes.specs.ListLaws.{sound, light, counted-next, counted-refused, count-good}
 use Rattle.routes.proofs.count_guess.Statement.{statement}

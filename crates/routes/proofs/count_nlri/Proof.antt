@@ -1,5 +1,5 @@
 use mathlib.Core.Path.{sym, _∙_}
-use Rattle.routes.specs.Prefix.{maxOf}
+use Rattle.families.specs.Family.{maxOf}
 use Rattle.routes.specs.ListLaws.{section-strange, section-list}
 use borrow.Author.Needs.{needs}
 use Rattle.routes.proofs.count_nlri.Statement.{statement}

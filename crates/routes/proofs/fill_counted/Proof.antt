@@ -1,6 +1,6 @@
 use mathlib.Core.Path.{sym, ap, _∙_}
 use lib.ListN.{length}
-use Rattle.routes.specs.Prefix.{maxOf}
+use Rattle.families.specs.Family.{maxOf}
 use Rattle.routes.specs.Pair.{hasRoom}
 use Rattle.routes.specs.ListLaws.{section-counted}
 use Rattle.routes.specs.PairLaws.{counted-fits}

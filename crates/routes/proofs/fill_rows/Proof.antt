@@ -4,7 +4,7 @@ use Prim.Native.Nat.{_+_, _-_, _≤_}
 use lib.ListN.{length, take, drop}
 use Rattle.routes.specs.Prefix.{words}
 use Rattle.wire.specs.Turn.{Filled, fill-start, fill-done}
-use Rattle.routes.specs.declared.Form.the-variants.{Plain}
+use Rattle.families.specs.declared.Form.the-variants.{Plain}
 use Rattle.routes.specs.PrefixLaws.{Placeable}
 use Rattle.routes.specs.List.{stepOf, listOf}
 use Rattle.routes.specs.ListLaws.{sound, filled-there, filled-item, filled-next}

@@ -1,6 +1,6 @@
 use mathlib.Core.Path.{sym, _∙_}
-use Rattle.routes.specs.declared.AddPath.the-variants.{Guess}
-use Rattle.routes.specs.declared.Form.the-variants.{Plain, Tagged}
+use Rattle.families.specs.declared.AddPath.the-variants.{Guess}
+use Rattle.families.specs.declared.Form.the-variants.{Plain, Tagged}
 use Rattle.routes.specs.ListLaws.{size-step, guess-plain, guess-tagged, guess-else}
 use borrow.Author.Needs.{needs}
 use Rattle.routes.proofs.guess_size.Statement.{statement}

@@ -2,7 +2,7 @@ use mathlib.Core.Path.{_≡_, refl, sym, ap}
 use native.Mathlib.Omega.{arith}
 use Prim.Native.Nat.{_+_}
 use lib.ListN.{getD}
-use Rattle.routes.specs.Prefix.{idSize, octets}
+use Rattle.families.specs.Family.{idSize, octets}
 use Rattle.routes.specs.PrefixLaws.{prefix-none, prefix-long, prefix-short, took-prefix}
 use Rattle.routes.specs.Size.{sizeOf}
 use borrow.Author.Needs.{needs}

@@ -3,9 +3,11 @@ use Prim.Native.Nat.{_+_}
 use native.Mathlib.Omega.{arith}
 use Rattle.wire.specs.Store.{laid}
 use Rattle.routes.specs.declared.Row.{Row}
-use Rattle.routes.specs.Prefix.{words, markOf}
+use Rattle.families.specs.Family.{markOf}
+use Rattle.routes.specs.Prefix.{words}
 use lib.ListN.{getD}
-use Rattle.routes.specs.PrefixLaws.{mark-small, item-row}
+use Rattle.families.specs.FamilyLaws.{mark-small}
+use Rattle.routes.specs.PrefixLaws.{item-row}
 use borrow.Author.Needs.{needs}
 use Rattle.routes.proofs.put_item.Statement.{statement}
 use Rattle.routes.proofs.put_item.Tie as tie

@@ -2,8 +2,10 @@ use mathlib.Core.Path.{_≡_, ap₂}
 use Prim.Native.Nat.{_+_}
 use native.Mathlib.Omega.{arith}
 use lib.ListN.{getD}
-use Rattle.routes.specs.Prefix.{markOf, rowOf}
-use Rattle.routes.specs.PrefixLaws.{mark-small, item-row}
+use Rattle.families.specs.Family.{markOf}
+use Rattle.routes.specs.Prefix.{rowOf}
+use Rattle.families.specs.FamilyLaws.{mark-small}
+use Rattle.routes.specs.PrefixLaws.{item-row}
 use borrow.Author.Needs.{needs}
 use Rattle.routes.proofs.row_of.Statement.{statement}
 use Rattle.routes.proofs.row_of.Tie as tie

@@ -5,8 +5,8 @@ use native.Mathlib.Omega.{arith}
 use lib.ListN.{length, take, drop, length-drop}
 use lib.Seq.{length-take-le}
 use Rattle.wire.specs.Store.{laid-part, placed-fits}
-use Rattle.routes.specs.Prefix.{maxOf}
-use Rattle.routes.specs.declared.Afi.the-variants.{Ipv4}
+use Rattle.families.specs.Family.{maxOf}
+use Rattle.families.specs.declared.Afi.the-variants.{Ipv4}
 use Rattle.route_writer.specs.Encode.{bytesOf}
 use Rattle.route_writer.specs.PromiseLaws.{leave-bytes, measured-bytes}
 use borrow.Author.Needs.{needs}

@@ -3,8 +3,8 @@ use mathlib.Core.List.{List}
 use Prim.Native.Nat.{ℕ}
 use native.Mathlib.Omega.{arith}
 use lib.ListN.{length}
-use Rattle.routes.specs.Prefix.{maxOf}
-use Rattle.routes.specs.declared.Afi.the-variants.{Ipv4}
+use Rattle.families.specs.Family.{maxOf}
+use Rattle.families.specs.declared.Afi.the-variants.{Ipv4}
 use Rattle.route_writer.specs.Encode.{bytesOf}
 use Rattle.route_writer.specs.PromiseLaws.{measured-bytes}
 use Rattle.update_writer.specs.Body.{bodyBytes}

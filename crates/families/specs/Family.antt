@@ -1,0 +1,25 @@
+-- What a family of routes and a form of an item fix. RFC 4271 section 4.3: a length octet, and that many bits of address in whole octets.
+-- RFC 7911 section 3: where Add-Path is in use, four octets of path identifier before it.
+use Prim.Native.Nat.{ℕ, _+_, _/_}
+use Rattle.families.specs.declared.Afi.{Afi}
+use Rattle.families.specs.declared.Afi.the-variants.{Ipv4, Ipv6}
+use Rattle.families.specs.declared.Form.{Form}
+use Rattle.families.specs.declared.Form.the-variants.{Plain, Tagged}
+
+-- the longest prefix of a family, in bits
+abbrev pub maxOf : Afi → ℕ
+maxOf Ipv4 = 32
+maxOf Ipv6 = 128
+
+-- the bytes of an id, and what an id adds to a row's first word
+abbrev pub idSize : Form → ℕ
+idSize Plain = 0
+idSize Tagged = 4
+
+abbrev pub markOf : Form → ℕ
+markOf Plain = 0
+markOf Tagged = 256
+
+-- l bits, in whole octets
+abbrev pub octets : ℕ → ℕ
+octets l = (l + 7) / 8

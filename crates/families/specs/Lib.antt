@@ -1,0 +1,2 @@
+pub mod Family
+pub mod FamilyLaws

@@ -1,0 +1,60 @@
+// The settings of a list of routes: the family, how an item stands, Add-Path; and the numbers that they fix (RFC 4271 section 4.3,
+// RFC 7911 section 3). Each call answers one number, so two results that it allows are equal: `tight-number` of wire.
+ghost use mathlib.Core.Path.{_≡_};
+ghost use Rattle.families.specs.Family.{maxOf, idSize, markOf, octets};
+
+// The family of a route.
+pub enum Afi {
+    Ipv4,
+    Ipv6,
+}
+
+// How an item stands: Plain without a path id, Tagged with one. They are also the two states of the guess.
+pub enum Form {
+    Plain,
+    Tagged,
+}
+
+// The Add-Path setting of a list: on, off, or off with the guess.
+pub enum AddPath {
+    On,
+    Off,
+    Guess,
+}
+
+// The longest prefix of a family, in bits.
+pub fn max_len(afi: Afi) -> u8
+    ensures { λ r. ⌜ r ≡ maxOf afi ⌝ }
+{
+    match afi {
+        Afi::Ipv4 => 32,
+        Afi::Ipv6 => 128,
+    }
+}
+
+// The bytes of an id in a form.
+pub fn id_size(form: Form) -> usize
+    ensures { λ r. ⌜ r ≡ idSize form ⌝ }
+{
+    match form {
+        Form::Plain => 0,
+        Form::Tagged => 4,
+    }
+}
+
+// What an id adds to a row's first word.
+pub fn mark_of(form: Form) -> u32
+    ensures { λ r. ⌜ r ≡ markOf form ⌝ }
+{
+    match form {
+        Form::Plain => 0,
+        Form::Tagged => 256,
+    }
+}
+
+// The octets of a prefix of that many bits.
+pub fn octet_count(len: u8) -> usize
+    ensures { λ r. ⌜ r ≡ octets len ⌝ }
+{
+    (len as usize + 7) / 8
+}
