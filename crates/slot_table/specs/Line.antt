@@ -15,10 +15,10 @@ use Rattle.messages.specs.declared.MessageAnswer.the-variants as M
 use Rattle.updates.specs.Update.{countUpdate, rowsIn, verdictIn}
 use Rattle.updates.specs.declared.UpdateAnswer.{UpdateAnswer}
 use Rattle.updates.specs.declared.UpdateAnswer.the-variants as U
-use Rattle.slots.specs.declared.State.{State}
-use Rattle.slots.specs.declared.State.the-variants.{Whole, Cut, Trailing}
-use Rattle.slots.specs.declared.Entry.{Entry}
-use Rattle.slots.specs.declared.Entry.the-variants.{Refused, Other, Update}
+use Rattle.slot_table.specs.declared.State.{State}
+use Rattle.slot_table.specs.declared.State.the-variants.{Whole, Cut, Trailing}
+use Rattle.slot_table.specs.declared.Entry.{Entry}
+use Rattle.slot_table.specs.declared.Entry.the-variants.{Refused, Other, Update}
 
 -- ---- what a line says
 

@@ -15,12 +15,12 @@ use Rattle.families.specs.declared.AddPath.{AddPath}
 use Rattle.routes.specs.declared.ListAnswer.{ListAnswer}
 use Rattle.updates.specs.Update.{rowsIn, verdictIn}
 use Rattle.messages.specs.Header.{updateKind}
-use Rattle.slots.specs.Line.{space, lineEnd, slash, stateText, digits, number, fieldsText, sectionText, entryOf, entryText, lineOf, stopText, headingText, numberRoom, stateRoom, fieldsRoom, sectionRoom, entryRoom, lineRoom, putCount, putOut}
-use Rattle.slots.specs.Growth.{Grown}
-use Rattle.slots.specs.declared.State.{State}
-use Rattle.slots.specs.declared.State.the-variants.{Whole, Cut, Trailing}
-use Rattle.slots.specs.declared.Entry.{Entry}
-use Rattle.slots.specs.declared.Entry.the-variants.{Refused, Other, Update}
+use Rattle.slot_table.specs.Line.{space, lineEnd, slash, stateText, digits, number, fieldsText, sectionText, entryOf, entryText, lineOf, stopText, headingText, numberRoom, stateRoom, fieldsRoom, sectionRoom, entryRoom, lineRoom, putCount, putOut}
+use Rattle.slot_table.specs.Growth.{Grown}
+use Rattle.slot_table.specs.declared.State.{State}
+use Rattle.slot_table.specs.declared.State.the-variants.{Whole, Cut, Trailing}
+use Rattle.slot_table.specs.declared.Entry.{Entry}
+use Rattle.slot_table.specs.declared.Entry.the-variants.{Refused, Other, Update}
 
 -- ---- digits
 

@@ -66,11 +66,11 @@ fn put_sections(
     requires { ⌜ Sized first (length (now attributes)) last (length (now out)) ⌝ }
     ensures { λ _. ⌜ now (out .exit) ≡ laid (now (out .entry)) 0 (bodyBytes (now (withdrawn .entry)) (now (attributes .entry)) (now (announced .entry)) form) ⌝ }
 {
-    wire::put_u16(out, 0, first as u16);
+    outputs::put_u16(out, 0, first as u16);
     put_routes(withdrawn, form, first, out, LENGTH_SIZE);
     let at = LENGTH_SIZE + first;
-    wire::put_u16(out, at, attributes.len() as u16);
-    wire::copy_at(out, at + LENGTH_SIZE, attributes);
+    outputs::put_u16(out, at, attributes.len() as u16);
+    outputs::copy_at(out, at + LENGTH_SIZE, attributes);
     put_routes(
         announced,
         form,

@@ -4,10 +4,10 @@ use native.Mathlib.Omega.{arith}
 use native.Mathlib.Numerals.{add-one}
 use lib.ListN.{length, length-set}
 use lib.Seq.{paste, paste-zero, paste-suc}
 use Rattle.wire.specs.Store.{placed-fits, placed-not, paste-laid}
 use borrow.Author.Needs.{needs}
-use Rattle.wire.proofs.copy_at.Statement.{statement}
-use Rattle.wire.proofs.copy_at.Tie as tie
+use Rattle.outputs.proofs.copy_at.Statement.{statement}
+use Rattle.outputs.proofs.copy_at.Tie as tie
 
 abbrev Inv-loop : tie.InvT-loop
 Inv-loop out₀ to src i₀ out i = (i ≤ length src) × (length out ≡ length out₀) × (out ≡ paste out₀ to src i)

@@ -1,14 +1,14 @@
 use mathlib.Core.Path.{sym}
 use mathlib.Core.List.{[], _∷_}
 use Prim.Native.Nat.{_/_, _%_}
 use Rattle.wire.specs.Number.{toBe}
 use Rattle.wire.specs.NumberLaws.{toBe-four}
 use Rattle.wire.specs.Store.{placed-not, puts-placed}
 use native.Mathlib.Omega.{arith}
 use lib.ListN.{length-set}
 use borrow.Author.Needs.{needs}
-use Rattle.wire.proofs.put4.Statement.{statement}
-use Rattle.wire.proofs.put4.Tie as tie
+use Rattle.outputs.proofs.put4.Statement.{statement}
+use Rattle.outputs.proofs.put4.Tie as tie
 
 sub-if1 : tie.Need-sub-if1
 sub-if1 c = search needs

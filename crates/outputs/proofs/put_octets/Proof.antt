@@ -3,13 +3,13 @@ use mathlib.Core.List.{List, [], _∷_}
 use Prim.Native.Nat.{ℕ, _/_, _%_}
 use lib.ListN.{take, length-set}
 use lib.Seq.{length-take-le, take-all}
 use Rattle.wire.specs.Number.{toBe}
 use Rattle.wire.specs.NumberLaws.{toBe-four}
 use Rattle.wire.specs.Store.{placed, placed-nil, placed-not, puts-placed}
 use native.Mathlib.Omega.{arith}
 use borrow.Author.Needs.{needs}
-use Rattle.wire.proofs.put_octets.Statement.{statement}
-use Rattle.wire.proofs.put_octets.Tie as tie
+use Rattle.outputs.proofs.put_octets.Statement.{statement}
+use Rattle.outputs.proofs.put_octets.Tie as tie
 
 returns : tie.Need-returns
 returns c =

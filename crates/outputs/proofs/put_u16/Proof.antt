@@ -2,12 +2,12 @@ use mathlib.Core.Path.{_≡_, sym, ap}
 use mathlib.Core.List.{[], _∷_}
 use Prim.Native.Nat.{ℕ, _/_, _%_, _^_}
 use lib.ListN.{length-set}
 use Rattle.wire.specs.Number.{toBe}
 use Rattle.wire.specs.Store.{placed-not, puts-placed}
 use native.Mathlib.Omega.{arith}
 use borrow.Author.Needs.{needs}
-use Rattle.wire.proofs.put_u16.Statement.{statement}
-use Rattle.wire.proofs.put_u16.Tie as tie
+use Rattle.outputs.proofs.put_u16.Statement.{statement}
+use Rattle.outputs.proofs.put_u16.Tie as tie
 
 returns : tie.Need-returns
 returns c = let a = c .before .args in sym (placed-not (a .out .now) (a .to) (toBe 2 (a .v)) (omega arith))

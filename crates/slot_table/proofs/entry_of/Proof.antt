@@ -1,9 +1,9 @@
 use mathlib.Core.Path.{sym, _∙_}
 use borrow.Author.Tests.{eq-eqb, ne-eqb}
-use Rattle.slots.specs.Line.{entryOf}
+use Rattle.slot_table.specs.Line.{entryOf}
 use borrow.Author.Needs.{needs}
-use Rattle.slots.proofs.entry_of.Statement.{statement}
-use Rattle.slots.proofs.entry_of.Tie as tie
+use Rattle.slot_table.proofs.entry_of.Statement.{statement}
+use Rattle.slot_table.proofs.entry_of.Tie as tie
 
 parse-bgp-message-requires : tie.Need-parse-bgp-message-requires
 parse-bgp-message-requires c κs = search needs

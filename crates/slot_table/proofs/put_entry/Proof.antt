@@ -1,11 +1,11 @@
 use native.Mathlib.Omega.{arith}
 use Rattle.messages.specs.Header.{updateKind}
-use Rattle.slots.specs.Line.{entryText, fieldsText}
-use Rattle.slots.specs.LineLaws.{fields-few}
-use Rattle.slots.specs.Growth.{grow}
+use Rattle.slot_table.specs.Line.{entryText, fieldsText}
+use Rattle.slot_table.specs.LineLaws.{fields-few}
+use Rattle.slot_table.specs.Growth.{grow}
 use borrow.Author.Needs.{needs}
-use Rattle.slots.proofs.put_entry.Statement.{statement}
-use Rattle.slots.proofs.put_entry.Tie as tie
+use Rattle.slot_table.proofs.put_entry.Statement.{statement}
+use Rattle.slot_table.proofs.put_entry.Tie as tie
 
 enum-known-entry : tie.Need-enum-known-entry
 enum-known-entry c = search needs

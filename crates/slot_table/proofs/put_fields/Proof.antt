@@ -1,10 +1,10 @@
 use native.Mathlib.Omega.{arith}
-use Rattle.slots.specs.Line.{space, fieldsText}
-use Rattle.slots.specs.LineLaws.{number-few}
-use Rattle.slots.specs.Growth.{grow}
+use Rattle.slot_table.specs.Line.{space, fieldsText}
+use Rattle.slot_table.specs.LineLaws.{number-few}
+use Rattle.slot_table.specs.Growth.{grow}
 use borrow.Author.Needs.{needs}
-use Rattle.slots.proofs.put_fields.Statement.{statement}
-use Rattle.slots.proofs.put_fields.Tie as tie
+use Rattle.slot_table.proofs.put_fields.Statement.{statement}
+use Rattle.slot_table.proofs.put_fields.Tie as tie
 
 put-number-requires : tie.Need-put-number-requires
 put-number-requires c κs = search needs

@@ -1,8 +1,8 @@
-use Rattle.slots.specs.Line.{headingText}
-use Rattle.slots.specs.LineLaws.{put-fits, put-not}
+use Rattle.slot_table.specs.Line.{headingText}
+use Rattle.slot_table.specs.LineLaws.{put-fits, put-not}
 use borrow.Author.Needs.{needs}
-use Rattle.slots.proofs.put_heading.Statement.{statement}
-use Rattle.slots.proofs.put_heading.Tie as tie
+use Rattle.slot_table.proofs.put_heading.Statement.{statement}
+use Rattle.slot_table.proofs.put_heading.Tie as tie
 
 returns : tie.Need-returns
 returns c = put-not headingText (c .before .before .args .out .now) (c .if1 .taken)

@@ -1,10 +1,10 @@
 use native.Mathlib.Omega.{arith}
-use Rattle.slots.specs.Line.{space, lineOf}
-use Rattle.slots.specs.LineLaws.{number-few, put-fits, put-not}
-use Rattle.slots.specs.Growth.{grow}
+use Rattle.slot_table.specs.Line.{space, lineOf}
+use Rattle.slot_table.specs.LineLaws.{number-few, put-fits, put-not}
+use Rattle.slot_table.specs.Growth.{grow}
 use borrow.Author.Needs.{needs}
-use Rattle.slots.proofs.put_line.Statement.{statement}
-use Rattle.slots.proofs.put_line.Tie as tie
+use Rattle.slot_table.proofs.put_line.Statement.{statement}
+use Rattle.slot_table.proofs.put_line.Tie as tie
 
 returns : tie.Need-returns
 returns c = let a = c .before .before .before .args in put-not (lineOf (a .nth) (a .slot .now) (a .mode)) (a .out .now) (c .if1 .taken)

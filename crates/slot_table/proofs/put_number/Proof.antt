@@ -1,12 +1,12 @@
 use native.Mathlib.Omega.{arith}
 use lib.ListN.{length-drop, take, drop}
 use lib.Seq.{take-all}
-use Rattle.slots.specs.Line.{numberRoom}
+use Rattle.slot_table.specs.Line.{numberRoom}
 use mathlib.Core.Path.{_≡_}
 use Prim.Native.Nat.{_-_}
 use borrow.Author.Needs.{needs}
-use Rattle.slots.proofs.put_number.Statement.{statement}
-use Rattle.slots.proofs.put_number.Tie as tie
+use Rattle.slot_table.proofs.put_number.Statement.{statement}
+use Rattle.slot_table.proofs.put_number.Tie as tie
 
 slice-aggregate-spell : tie.Need-slice-aggregate-spell
 slice-aggregate-spell c = search needs

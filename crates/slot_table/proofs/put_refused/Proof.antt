@@ -1,7 +1,7 @@
-use Rattle.slots.specs.Growth.{grow}
+use Rattle.slot_table.specs.Growth.{grow}
 use borrow.Author.Needs.{needs}
-use Rattle.slots.proofs.put_refused.Statement.{statement}
-use Rattle.slots.proofs.put_refused.Tie as tie
+use Rattle.slot_table.proofs.put_refused.Statement.{statement}
+use Rattle.slot_table.proofs.put_refused.Tie as tie
 
 slice-aggregate-put-text : tie.Need-slice-aggregate-put-text
 slice-aggregate-put-text c = search needs

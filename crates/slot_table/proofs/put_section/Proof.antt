@@ -1,10 +1,10 @@
 use native.Mathlib.Omega.{arith}
-use Rattle.slots.specs.Line.{slash, sectionText}
-use Rattle.slots.specs.LineLaws.{number-few}
-use Rattle.slots.specs.Growth.{grow}
+use Rattle.slot_table.specs.Line.{slash, sectionText}
+use Rattle.slot_table.specs.LineLaws.{number-few}
+use Rattle.slot_table.specs.Growth.{grow}
 use borrow.Author.Needs.{needs}
-use Rattle.slots.proofs.put_section.Statement.{statement}
-use Rattle.slots.proofs.put_section.Tie as tie
+use Rattle.slot_table.proofs.put_section.Statement.{statement}
+use Rattle.slot_table.proofs.put_section.Tie as tie
 
 rows-in-requires : tie.Need-rows-in-requires
 rows-in-requires c κs = search needs

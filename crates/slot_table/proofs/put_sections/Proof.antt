@@ -1,10 +1,10 @@
 use native.Mathlib.Omega.{arith}
-use Rattle.slots.specs.Line.{space}
-use Rattle.slots.specs.LineLaws.{section-few}
-use Rattle.slots.specs.Growth.{grow}
+use Rattle.slot_table.specs.Line.{space}
+use Rattle.slot_table.specs.LineLaws.{section-few}
+use Rattle.slot_table.specs.Growth.{grow}
 use borrow.Author.Needs.{needs}
-use Rattle.slots.proofs.put_sections.Statement.{statement}
-use Rattle.slots.proofs.put_sections.Tie as tie
+use Rattle.slot_table.proofs.put_sections.Statement.{statement}
+use Rattle.slot_table.proofs.put_sections.Tie as tie
 
 put-section-requires : tie.Need-put-section-requires
 put-section-requires c κs = search needs

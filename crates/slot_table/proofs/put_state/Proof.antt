@@ -1,6 +1,6 @@
 use borrow.Author.Needs.{needs}
-use Rattle.slots.proofs.put_state.Statement.{statement}
-use Rattle.slots.proofs.put_state.Tie as tie
+use Rattle.slot_table.proofs.put_state.Statement.{statement}
+use Rattle.slot_table.proofs.put_state.Tie as tie
 
 enum-told : tie.Need-enum-told
 enum-told c = search needs

@@ -1,9 +1,9 @@
-use Rattle.slots.specs.Line.{stopText}
-use Rattle.slots.specs.LineLaws.{put-fits, put-not}
-use Rattle.slots.specs.Growth.{grow}
+use Rattle.slot_table.specs.Line.{stopText}
+use Rattle.slot_table.specs.LineLaws.{put-fits, put-not}
+use Rattle.slot_table.specs.Growth.{grow}
 use borrow.Author.Needs.{needs}
-use Rattle.slots.proofs.put_stop.Statement.{statement}
-use Rattle.slots.proofs.put_stop.Tie as tie
+use Rattle.slot_table.proofs.put_stop.Statement.{statement}
+use Rattle.slot_table.proofs.put_stop.Tie as tie
 
 returns : tie.Need-returns
 returns c = let a = c .before .before .args in put-not (stopText (a .nth)) (a .out .now) (c .if1 .taken)

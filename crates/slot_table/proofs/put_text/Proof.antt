@@ -1,8 +1,8 @@
 use mathlib.Core.Path.{refl, _∙_}
 use Rattle.wire.specs.Store.{placed-fits}
 use borrow.Author.Needs.{needs}
-use Rattle.slots.proofs.put_text.Statement.{statement}
-use Rattle.slots.proofs.put_text.Tie as tie
+use Rattle.slot_table.proofs.put_text.Statement.{statement}
+use Rattle.slot_table.proofs.put_text.Tie as tie
 
 copy-at-requires : tie.Need-copy-at-requires
 copy-at-requires c κs = search needs

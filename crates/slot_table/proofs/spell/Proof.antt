@@ -1,12 +1,12 @@
-use Rattle.slots.specs.LineLaws.{digits-left, digits-turn, digits-first, drop-set}
+use Rattle.slot_table.specs.LineLaws.{digits-left, digits-turn, digits-first, drop-set}
 use mathlib.Core.Path.{_≡_, refl, sym, _∙_}
 use Prim.Native.Nat.{suc, _+_, _^_, _≤_, _<_}
 use native.Mathlib.Omega.{arith}
 use borrow.Author.Needs.{needs}
 use lib.ListN.{length, drop, length-set}
-use Rattle.slots.specs.Line.{digits, number, numberRoom}
-use Rattle.slots.proofs.spell.Statement.{statement}
-use Rattle.slots.proofs.spell.Tie as tie
+use Rattle.slot_table.specs.Line.{digits, number, numberRoom}
+use Rattle.slot_table.proofs.spell.Statement.{statement}
+use Rattle.slot_table.proofs.spell.Tie as tie
 
 abbrev Inv-loop : tie.InvT-loop
 Inv-loop text₀ n at₀ left₀ text at left =

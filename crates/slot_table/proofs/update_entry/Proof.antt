@@ -1,7 +1,7 @@
 use mathlib.Core.Path.{sym, _∙_}
 use borrow.Author.Needs.{needs}
-use Rattle.slots.proofs.update_entry.Statement.{statement}
-use Rattle.slots.proofs.update_entry.Tie as tie
+use Rattle.slot_table.proofs.update_entry.Statement.{statement}
+use Rattle.slot_table.proofs.update_entry.Tie as tie
 
 count-bgp-update-message-requires : tie.Need-count-bgp-update-message-requires
 count-bgp-update-message-requires c κs = search needs
