@@ -39,9 +39,9 @@ fn put_list(out: &mut [u8], at: usize, a: ListAnswer) -> usize {
 fn read_list(h: Head, s: &[u8], a: &mut [u32]) -> ListAnswer {
     let mode = request::mode(h.settings);
     if h.op == 2 {
-        return routes::parse_nlri_list(s, request::afi(h.settings), mode, a);
+        return route_reader::parse_nlri_list(s, request::afi(h.settings), mode, a);
     }
-    routes::read_nlri(s, Afi::Ipv4, mode, a)
+    route_reader::read_nlri(s, Afi::Ipv4, mode, a)
 }
 
 fn list(h: Head, s: &[u8], a: &mut [u32], out: &mut [u8], at: usize) -> usize {

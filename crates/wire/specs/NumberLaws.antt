@@ -1,6 +1,6 @@
 -- Laws of numbers as bytes, each once over the size.
 -- Assumes nothing.
-use Prim.Native.Nat.{ℕ, zero, suc, _+_, _-_, _*_, _^_, _/_, _%_, _≤_, _<_}
+use Prim.Native.Nat.{ℕ, zero, suc, _+_, _*_, _^_, _/_, _%_, _≤_, _<_}
 use mathlib.Core.Path.{_≡_, refl, sym, ap, ap₂, _∙_}
 use mathlib.Core.List.{List, [], _∷_, _++_}
 use native.Mathlib.Nat.{div-add-mod', mod-lt, add-zero, add-suc, div-lt-iff-lt-mul, one-le-pow, pow-succ', not-suc-le-zero, mul-assoc, zero-mul, add-mul, add-assoc}
@@ -174,7 +174,7 @@ padded-cells s at n = ap (λ (j : ℕ). padded n (drop j s)) (sym (add-zero at))
 
 -- ---- a number with its last bytes cleared
 
-be-append : (s t : List ℕ) → be (s ++ t) ≡ be s * 256 ^ length t + be t
+pub be-append : (s t : List ℕ) → be (s ++ t) ≡ be s * 256 ^ length t + be t
 be-append [] t = rw (zero-mul (256 ^ length t)) (omega arith)
 be-append (b ∷ s) t =
     rw (length-append s t, pow-add 256 (length s) (length t), be-append s t, add-mul (b * 256 ^ length s) (be s) (256 ^ length t), mul-assoc b (256 ^ length s) (256 ^ length t))
