@@ -1,4 +1,6 @@
 // What an answer's line is made of: text, numbers, and the places of a store. Each function answers where the next byte goes.
+use crate::numbers::Numbers;
+use crate::store;
 
 // How many places of a store are shown.
 const SHOWN: usize = 12;
@@ -16,7 +18,7 @@ pub fn put(out: &mut [u8], at: usize, text: &[u8]) -> usize {
 }
 
 // A number in decimal.
-pub fn decimal(out: &mut [u8], at: usize, n: usize) -> usize {
+fn decimal(out: &mut [u8], at: usize, n: usize) -> usize {
     let mut text = [0u8; 20];
     let k = io::decimal(n as u64, &mut text);
     put(out, at, &text[..k])
@@ -28,58 +30,30 @@ pub fn number(out: &mut [u8], at: usize, n: usize) -> usize {
     decimal(out, next, n)
 }
 
-pub fn two_numbers(out: &mut [u8], at: usize, m: usize, n: usize) -> usize {
-    let next = number(out, at, m);
-    number(out, next, n)
+// The start of a line.
+pub fn record_and_op(out: &mut [u8], at: usize, record: usize, op: u8) -> usize {
+    let next = decimal(out, at, record);
+    number(out, next, op as usize)
 }
 
-// A flag as 1 or 0.
-pub fn flag(out: &mut [u8], at: usize, set: bool) -> usize {
-    if set {
-        return put(out, at, b" 1");
+// The numbers of an answer.
+pub fn numbers(out: &mut [u8], at: usize, n: Numbers) -> usize {
+    let values = n.values;
+    let mut next = at;
+    let mut i: usize = 0;
+    while i < 9 {
+        if n.count <= i {
+            return next;
+        }
+        next = number(out, next, values[i]);
+        i = i + 1;
     }
-    put(out, at, b" 0")
-}
-
-// A refusal number, and the zeros that stand for the op's numbers.
-pub fn refused(out: &mut [u8], at: usize, n: u8, zeros: &[u8]) -> usize {
-    let next = number(out, at, n as usize);
-    put(out, next, zeros)
+    next
 }
 
 // A word as a wider number.
 fn wider(x: u32) -> usize {
     x as usize
-}
-
-// The sum after one place more.
-fn mixed(h: usize, x: u32) -> usize {
-    (h % 4294967291 * 65599 + x as usize + 1) % 4294967291
-}
-
-fn sum_of_words(s: &[u32]) -> usize {
-    let mut h: usize = 0;
-    let mut i: usize = 0;
-    while i < s.len() {
-        h = mixed(h, s[i]);
-        i = i + 1;
-    }
-    h
-}
-
-fn sum_of_bytes(s: &[u8]) -> usize {
-    let mut h: usize = 0;
-    let mut i: usize = 0;
-    while i < s.len() {
-        h = mixed(h, wire::wide(s[i]));
-        i = i + 1;
-    }
-    h
-}
-
-// The length and the sum of a part.
-pub fn part(out: &mut [u8], at: usize, s: &[u8]) -> usize {
-    two_numbers(out, at, s.len(), sum_of_bytes(s))
 }
 
 // The first places of a store, and of an output.
@@ -111,14 +85,14 @@ fn first_bytes(out: &mut [u8], at: usize, s: &[u8]) -> usize {
 
 // A store that was lent: its sum and its first places.
 pub fn words(out: &mut [u8], at: usize, s: &[u32]) -> usize {
-    let mut next = put(out, at, b" |");
-    next = number(out, next, sum_of_words(s));
-    first_words(out, next, s)
+    let bar = put(out, at, b" |");
+    let sum = number(out, bar, store::sum_of_words(s));
+    first_words(out, sum, s)
 }
 
 // An output that was lent, in the same way.
 pub fn bytes(out: &mut [u8], at: usize, s: &[u8]) -> usize {
-    let mut next = put(out, at, b" |");
-    next = number(out, next, sum_of_bytes(s));
-    first_bytes(out, next, s)
+    let bar = put(out, at, b" |");
+    let sum = number(out, bar, store::sum_of_bytes(s));
+    first_bytes(out, sum, s)
 }

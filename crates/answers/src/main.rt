@@ -1,5 +1,9 @@
 // Reads request records from standard input, runs the call that each names, and writes a line for each to standard output.
+ghost use mathlib.Core.Path.{_≡_};
+ghost use lib.ListN.{length};
+
 mod line;
+mod numbers;
 mod reads;
 mod request;
 mod store;
@@ -21,37 +25,6 @@ struct State {
     over: bool,
 }
 
-// A writer over the parts of a record: the stores take the numbers that the parts hold.
-fn writer(
-    h: Head,
-    s: &[u8],
-    a: &mut [u32],
-    b: &mut [u32],
-    w: &mut [u8],
-    out: &mut [u8],
-    at: usize,
-) -> usize {
-    let one = request::part_one(s, h);
-    let two = request::part_two(s, h);
-    writes::answer(h, one, two, request::last_part(s, h), a, b, w, out, at)
-}
-
-// The call that an op names.
-fn called(
-    h: Head,
-    s: &[u8],
-    a: &mut [u32],
-    b: &mut [u32],
-    w: &mut [u8],
-    out: &mut [u8],
-    at: usize,
-) -> usize {
-    if h.op < 13 {
-        return reads::answer(h, request::part_one(s, h), a, b, out, at);
-    }
-    writer(h, s, a, b, w, out, at)
-}
-
 // The line of a whole record.
 fn answer(
     s: &[u8],
@@ -63,10 +36,13 @@ fn answer(
     at: usize,
 ) -> usize {
     let h = request::read_head(s);
-    let mut next = line::decimal(out, at, record);
-    next = line::number(out, next, h.op as usize);
-    next = called(h, s, a, b, w, out, next);
-    line::put(out, next, b"\n")
+    let named = line::record_and_op(out, at, record, h.op);
+    if h.op < 13 {
+        let read = reads::answer(h, request::part_one(s, h), a, b, out, named);
+        return line::put(out, read, b"\n");
+    }
+    let written = writes::answer(h, s, a, b, w, out, named);
+    line::put(out, written, b"\n")
 }
 
 // Writes the output that waits, and answers whether all of it went out.
@@ -107,10 +83,10 @@ fn finish(state: State, at: usize, out: &[u8]) -> State {
 
 // A record that is short or not given ends the run.
 fn stop(state: State, out: &mut [u8]) -> State {
-    let mut at = line::put(out, state.at, b"stop");
-    at = line::number(out, at, state.record);
-    at = line::put(out, at, b"\n");
-    finish(state, at, out)
+    let word = line::put(out, state.at, b"stop");
+    let record = line::number(out, word, state.record);
+    let end = line::put(out, record, b"\n");
+    finish(state, end, out)
 }
 
 // Moves the bytes from start to have to the front.
@@ -199,11 +175,29 @@ fn run(input: &mut [u8], a: &mut [u32], b: &mut [u32], w: &mut [u8], out: &mut [
     }
 }
 
+// Zeros, for a store and for an output. The `ensures` gives the length, which lending the array as a slice needs.
+fn word_places() -> [u32; 400000]
+    ensures { λ r. ⌜ 400000 ≡ length r ⌝ }
+{
+    [0; 400000]
+}
+
+fn byte_places() -> [u8; 400000]
+    ensures { λ r. ⌜ 400000 ≡ length r ⌝ }
+{
+    [0; 400000]
+}
+
+// The places that are lent.
+fn run_with_places(input: &mut [u8], out: &mut [u8]) {
+    let mut a = word_places();
+    let mut b = word_places();
+    let mut w = byte_places();
+    run(input, &mut a, &mut b, &mut w, out);
+}
+
 fn main() {
     let mut input = [0u8; 1310720];
-    let mut a = [0u32; 400000];
-    let mut b = [0u32; 400000];
-    let mut w = [0u8; 400000];
     let mut out = [0u8; 65536];
-    run(&mut input, &mut a, &mut b, &mut w, &mut out);
+    run_with_places(&mut input, &mut out);
 }

@@ -137,7 +137,7 @@ pub fn part_two(s: &[u8], h: Head) -> &[u8] {
     wire::part(s, plus(HEAD_SIZE, h.one), h.two)
 }
 
-// The second part that holds numbers, where an op has two such.
+// The second part that holds numbers, where an op has two such: the third of op 17, and else the second.
 pub fn last_part(s: &[u8], h: Head) -> &[u8] {
     if h.op == 17 {
         return wire::part(s, plus(plus(HEAD_SIZE, h.one), h.two), h.three);

@@ -1,4 +1,4 @@
-// What lent places hold before a call, and numbers from the bytes of a part.
+// What lent places hold before a call, their sum, and numbers from the bytes of a part.
 use crate::request::plus;
 
 // The places of a store before a call.
@@ -28,4 +28,29 @@ pub fn decode(s: &[u8], store: &mut [u32]) {
         at = plus(at, 4);
         i = i + 1;
     }
+}
+
+// The sum after one place more.
+fn mixed(h: usize, x: u32) -> usize {
+    (h % 4294967291 * 65599 + x as usize + 1) % 4294967291
+}
+
+pub fn sum_of_words(s: &[u32]) -> usize {
+    let mut h: usize = 0;
+    let mut i: usize = 0;
+    while i < s.len() {
+        h = mixed(h, s[i]);
+        i = i + 1;
+    }
+    h
+}
+
+pub fn sum_of_bytes(s: &[u8]) -> usize {
+    let mut h: usize = 0;
+    let mut i: usize = 0;
+    while i < s.len() {
+        h = mixed(h, wire::wide(s[i]));
+        i = i + 1;
+    }
+    h
 }

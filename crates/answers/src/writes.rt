@@ -1,17 +1,10 @@
 // Ops 13 to 17: the writers.
 use crate::line;
+use crate::numbers;
 use crate::request;
 use crate::request::Head;
 use crate::store;
 use route_writer::WriteAnswer;
-
-// A refusal number or 0, and the bytes written.
-fn put_written(out: &mut [u8], at: usize, a: WriteAnswer) -> usize {
-    match a {
-        WriteAnswer::Bytes(n) => line::two_numbers(out, at, 0, n),
-        WriteAnswer::Refused(n) => line::refused(out, at, n, b" 0"),
-    }
-}
 
 // The answers of the other writers in the same form.
 fn of_asns(a: asns::WriteAnswer) -> WriteAnswer {
@@ -59,67 +52,41 @@ fn written(
 }
 
 // The refusal and the bytes written, and what the writer left in the output.
-fn show(
+fn into_output(
     h: Head,
-    one: &[u8],
-    two: &[u8],
-    rows: &[u32],
-    more: &[u32],
+    s: &[u8],
+    rows: &mut [u32],
+    more: &mut [u32],
     w: &mut [u8],
     out: &mut [u8],
     at: usize,
 ) -> usize {
+    let one = request::part_one(s, h);
+    store::decode(one, rows);
+    store::decode(request::last_part(s, h), more);
     store::fill_bytes(w);
-    let next = put_written(out, at, written(h, one, two, rows, more, w));
+    let answer = written(h, one, request::part_two(s, h), rows, more, w);
+    let next = line::numbers(out, at, numbers::of_written(answer));
     line::bytes(out, next, w)
 }
 
-// The numbers of the parts, decoded; last is the second part that holds numbers.
-fn decoded(
-    h: Head,
-    one: &[u8],
-    two: &[u8],
-    last: &[u8],
-    rows: &mut [u32],
-    more: &mut [u32],
-    w: &mut [u8],
-    out: &mut [u8],
-    at: usize,
-) -> usize {
-    store::decode(one, rows);
-    store::decode(last, more);
-    show(h, one, two, rows, more, w, out, at)
-}
-
-// The places lent: a word for each number, and the output's room.
+// The places lent: a word for each number of the parts that hold numbers, and the output's room.
 pub fn answer(
     h: Head,
-    one: &[u8],
-    two: &[u8],
-    last: &[u8],
+    s: &[u8],
     rows: &mut [u32],
     more: &mut [u32],
     w: &mut [u8],
     out: &mut [u8],
     at: usize,
 ) -> usize {
-    let m = one.len() / 4;
-    let n = last.len() / 4;
-    let room = h.room_a;
-    if rows.len() < m {
-        return at;
-    }
-    if more.len() < n {
-        return at;
-    }
-    if w.len() < room {
-        return at;
-    }
-    decoded(
+    let m = wire::least(h.one / 4, rows.len());
+    let last = request::last_part(s, h);
+    let n = wire::least(last.len() / 4, more.len());
+    let room = wire::least(h.room_a, w.len());
+    into_output(
         h,
-        one,
-        two,
-        last,
+        s,
         &mut rows[..m],
         &mut more[..n],
         &mut w[..room],

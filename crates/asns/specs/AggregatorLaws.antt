@@ -3,21 +3,48 @@
 use Prim.Native.Nat.{ℕ, _+_, _≤_, _<_}
 use mathlib.Core.Path.{_≡_, sym, ap, ap₂, _∙_}
 use mathlib.Core.List.{List}
-use mathlib.Core.Bool.{true, false}
+use mathlib.Core.Bool.{Bool, true, false}
 use native.Mathlib.Omega.{arith}
-use borrow.Author.Tests.{le-leb, lt-leb}
+use borrow.Author.Tests.{le-leb, lt-leb, eq-eqb, ne-eqb}
 use lib.ListN.{length, take, length-append}
 use lib.Seq.{take-all}
-use Rattle.wire.specs.Number.{toBe}
+use Rattle.wire.specs.Number.{beAt, toBe}
 use Rattle.wire.specs.NumberLaws.{length-toBe}
-use Rattle.wire.specs.Refusal.{noRoom, wideNumber}
+use Rattle.wire.specs.Refusal.{tooLong, aggregatorLength, noRoom, wideNumber, listLimit}
 use Rattle.wire.specs.Store.{laid, placed, placed-fits, laid-laid, length-laid}
 use Rattle.asns.specs.Asn.{widthOf, fitsWidth, withNumber, written}
 use Rattle.asns.specs.AsnLaws.{put-room}
-use Rattle.asns.specs.Aggregator.{aggregatorBytes, aggregatorWritten, aggregatorLeft}
+use Rattle.asns.specs.Aggregator.{unlike, aggregatorIn, aggregatorOf, aggregatorBytes, aggregatorWritten, aggregatorLeft}
 use Rattle.asns.specs.declared.AsnLength.{AsnLength}
+use Rattle.asns.specs.declared.AsnLength.the-variants.{Bits16, Bits32}
+use Rattle.asns.specs.declared.AggregatorAnswer.the-variants as A
 use Rattle.asns.specs.declared.WriteAnswer.{WriteAnswer}
 use Rattle.asns.specs.declared.WriteAnswer.the-variants.{Written, Refused}
+
+-- ---- an AGGREGATOR read
+
+module _ (s : List ℕ) (width : AsnLength) where
+  -- from its parts
+  pub in-parts : (found : AsnLength) (asn identifier : ℕ) (differs : Bool) → asn ≡ beAt s 0 (widthOf found) → identifier ≡ beAt s (widthOf found) 4 → differs ≡ unlike found width
+      → A.Aggregator asn identifier differs ≡ aggregatorIn s found width
+  in-parts found asn identifier differs e f g = cc
+
+  pub over-limit : listLimit < length s → aggregatorOf s width ≡ A.Refused tooLong
+  unfolding aggregatorOf
+  over-limit h = rw (lt-leb (length s) listLimit h)
+
+  module _ (h : length s ≤ listLimit) where
+    pub of-eight : length s ≡ 8 → aggregatorOf s width ≡ aggregatorIn s Bits32 width
+    unfolding aggregatorOf
+    of-eight e = rw (le-leb (length s) listLimit h, eq-eqb (length s) 8 e)
+
+    pub of-six : (length s ≡ 8 → ⊥) → length s ≡ 6 → aggregatorOf s width ≡ aggregatorIn s Bits16 width
+    unfolding aggregatorOf
+    of-six n e = rw (le-leb (length s) listLimit h, ne-eqb (length s) 8 n, eq-eqb (length s) 6 e)
+
+    pub of-other : (length s ≡ 8 → ⊥) → (length s ≡ 6 → ⊥) → aggregatorOf s width ≡ A.Refused aggregatorLength
+    unfolding aggregatorOf
+    of-other n m = rw (le-leb (length s) listLimit h, ne-eqb (length s) 8 n, ne-eqb (length s) 6 m)
 
 -- ---- an AGGREGATOR written
 

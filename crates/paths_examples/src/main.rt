@@ -76,15 +76,6 @@ fn show_sequence(count: u32, numbers: &[u32], width: AsnLength) {
     show_written(path_writer::encode_as_path(&pairs, numbers, width, &mut out));
 }
 
-// As many numbers as a segment holds, and one more.
-fn show_most() {
-    show_sequence(255, &[65001u32; 255], AsnLength::Bits32);
-}
-
-fn show_more() {
-    show_sequence(256, &[65001u32; 256], AsnLength::Bits32);
-}
-
 // An AGGREGATOR that is read: its number, its identifier's four bytes as one number, and whether the width differs.
 fn show_aggregator(value: &[u8], width: AsnLength) {
     match asns::parse_aggregator(value, width) {
@@ -110,7 +101,7 @@ fn show_aggregator_back(asn: u32, identifier: u32, width: AsnLength, out: &mut [
     show_aggregator(out, width);
 }
 
-fn main() {
+fn read_paths() {
     show_path(
         b"\x02\x02\x00\x00\xFD\xE9\x00\x00\xFD\xEA",
         AsnLength::Bits32,
@@ -122,6 +113,9 @@ fn main() {
     show_path(b"\x02\x00", AsnLength::Bits32);
     show_path(b"\x05\x01", AsnLength::Bits32);
     show_path(b"\x05\x00", AsnLength::Bits32);
+}
+
+fn counted_paths() {
     show_count(
         b"\x02\x02\x00\x00\xFD\xE9\x00\x00\xFD\xEA",
         AsnLength::Bits32,
@@ -130,10 +124,17 @@ fn main() {
         b"\x02\x02\x00\x00\xFD\xE9\x00\x00\xFD\xEA",
         AsnLength::Bits16,
     );
+}
+
+// With as many numbers as a segment holds, and one more.
+fn written_paths() {
     show_sequence(1, &[65536u32; 1], AsnLength::Bits16);
-    show_most();
-    show_more();
+    show_sequence(255, &[65001u32; 255], AsnLength::Bits32);
+    show_sequence(256, &[65001u32; 256], AsnLength::Bits32);
     show_sequence(2, &[65001u32; 1], AsnLength::Bits32);
+}
+
+fn aggregators() {
     show_aggregator(b"\xFD\xE9\x0A\x00\x00\x01", AsnLength::Bits16);
     show_aggregator(b"\xFD\xE9\x0A\x00\x00\x01", AsnLength::Bits32);
     show_aggregator(b"\xFD\xE9\x0A\x00\x00\x01\x00", AsnLength::Bits32);
@@ -141,4 +142,11 @@ fn main() {
     show_aggregator_back(65001, 167772161, AsnLength::Bits32, &mut wide);
     let mut narrow = [0u8; 6];
     show_aggregator_back(65536, 167772161, AsnLength::Bits16, &mut narrow);
+}
+
+fn main() {
+    read_paths();
+    counted_paths();
+    written_paths();
+    aggregators();
 }

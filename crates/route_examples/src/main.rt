@@ -229,19 +229,30 @@ fn items(s: &[u8], form: Form) {
     }
 }
 
-fn main() {
+// Nothing, and one byte.
+fn shortest() {
     list(b"", Afi::Ipv4, AddPath::Off);
     list(b"\x00", Afi::Ipv4, AddPath::Off);
     list(b"\x00", Afi::Ipv4, AddPath::Guess);
     list(b"\x00", Afi::Ipv4, AddPath::On);
     section(b"\x08", AddPath::Off);
     section(b"\x00", AddPath::Off);
+}
+
+fn lengths() {
     list(b"\x20\x0A\x00\x00\x01", Afi::Ipv4, AddPath::Off);
     list(b"\x21\x0A\x00\x00\x00\x00", Afi::Ipv4, AddPath::Off);
     list(b"\x09\x0A\xFF", Afi::Ipv4, AddPath::Off);
+}
+
+fn with_id() {
     list(b"\x00\x00\x00\x07\x08\x0A", Afi::Ipv4, AddPath::On);
     list(b"\x00\x00\x00\x07\x08\x0A", Afi::Ipv4, AddPath::Off);
     items(b"\x00\x00\x00\x07\x08\x0A", Form::Plain);
+}
+
+// Lists that the guess reads otherwise, or in both forms.
+fn guessed() {
     list(
         b"\x00\x18\x0A\x01\x08\x18\xC8\x02\x00",
         Afi::Ipv4,
@@ -259,10 +270,21 @@ fn main() {
         Afi::Ipv4,
         AddPath::Guess,
     );
+}
+
+fn ipv6() {
     list(
         b"\x40\x20\x01\x0D\xB8\x00\x00\x00\x01",
         Afi::Ipv6,
         AddPath::Off,
     );
     list(b"\x81", Afi::Ipv6, AddPath::Off);
+}
+
+fn main() {
+    shortest();
+    lengths();
+    with_id();
+    guessed();
+    ipv6();
 }

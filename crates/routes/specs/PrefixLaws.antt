@@ -106,6 +106,11 @@ prefix-names s max form n =
 
 -- ---- the row of an item, from where its parts stand
 
+pub row-parts : (o : List ℕ) (first id w0 w1 w2 w3 : ℕ) → w0 ≡ wordAt o 0 → w1 ≡ wordAt o 4 → w2 ≡ wordAt o 8 → w3 ≡ wordAt o 12
+    → record { first = first; id = id; w0 = w0; w1 = w1; w2 = w2; w3 = w3 } ≡ rowOf o first id
+unfolding rowOf
+row-parts o first id w0 w1 w2 w3 e0 e4 e8 e12 = cc
+
 pub item-row : (s : List ℕ) (form : Form) (e k first id : ℕ) → k ≡ idSize form → first ≡ getD s k 0 + markOf form → id ≡ beAt s 0 (idSize form) → k + 1 ≤ e → e ≤ length s
     → rowOf (take (e - (k + 1)) (drop (k + 1) s)) first id ≡ itemRow form (take e s)
 unfolding itemRow beAt

@@ -66,7 +66,8 @@ fn lines(out: &mut [u8]) {
     shown(out, stop);
 }
 
-fn main() {
+// Records that are not all there.
+fn short_records() {
     front(b"nothing", b"");
     front(b"half a mark", b"\xC5");
     front(b"a mark", b"\xC5\x3A");
@@ -74,16 +75,29 @@ fn main() {
     front(b"no settings", b"\xC5\x3A\x00\x01");
     front(b"no kept bytes yet", b"\xC5\x3A\x00\x01\x00");
     front(b"one of two kept bytes", b"\xC5\x3A\x00\x02\x03\xFF");
+}
+
+// What is no record.
+fn strange_records() {
     front(b"another first byte", b"\xC4");
     front(b"another second byte", b"\xC5\x3B");
     front(b"another mark of a whole record", b"\x3A\xC5\x00\x00\x00");
     front(b"settings 4", b"\xC5\x3A\x00\x00\x04");
     front(b"settings 255, kept bytes missing", b"\xC5\x3A\xFF\xFF\xFF");
+}
+
+fn whole_records() {
     front(b"no kept bytes", b"\xC5\x3A\x00\x00\x00");
     front(b"settings 1", b"\xC5\x3A\x00\x00\x01");
     front(b"settings 2", b"\xC5\x3A\x00\x00\x02");
     front(b"settings 3", b"\xC5\x3A\x00\x00\x03");
     front(b"a record and more", b"\xC5\x3A\x00\x01\x00\xFF\x00");
+}
+
+fn main() {
+    short_records();
+    strange_records();
+    whole_records();
     let mut small = [0u8; 191];
     lines(&mut small);
     let mut enough = [0u8; 192];

@@ -1,12 +1,12 @@
-use borrow.Author.Tests.{le-leb, lt-leb, eq-eqb, ne-eqb}
-use Rattle.asns.specs.Aggregator.{aggregatorOf}
+use mathlib.Core.Path.{sym, _∙_}
+use Rattle.asns.specs.AggregatorLaws.{in-parts, over-limit, of-eight, of-six, of-other}
+use Rattle.asns.specs.declared.AsnLength.the-variants.{Bits16, Bits32}
 use borrow.Author.Needs.{needs}
 use Rattle.asns.proofs.parse_aggregator.Statement.{statement}
 use Rattle.asns.proofs.parse_aggregator.Tie as tie
 
 returns : tie.Need-returns
-unfolding aggregatorOf
-returns c = simp (lt-leb _ _ (c .if1 .taken))
+returns c = let a = c .before .before .args in sym (over-limit (a .value .now) (a .width) (c .if1 .taken))
 
 u32-at-requires : tie.Need-u32-at-requires
 u32-at-requires c κs = search needs
@@ -18,8 +18,10 @@ differs-requires : tie.Need-differs-requires
 differs-requires c κs = search needs
 
 returns-2 : tie.Need-returns-2
-unfolding aggregatorOf
-returns-2 c = simp (le-leb _ _ (c .before .before .before .before .if1 .left), eq-eqb _ _ (c .before .before .before .if2 .taken)) cc
+returns-2 c =
+    let a = c .before .before .before .before .before .before .args in
+    in-parts (a .value .now) (a .width) Bits32 _ _ _ (c .before .before .u32-at .ensures) (c .before .u32-at2 .ensures) (c .differs .ensures)
+    ∙ sym (of-eight (a .value .now) (a .width) (c .before .before .before .before .if1 .left) (c .before .before .before .if2 .taken))
 
 u16-at-requires : tie.Need-u16-at-requires
 u16-at-requires c κs = search needs
@@ -31,12 +33,15 @@ differs-requires-2 : tie.Need-differs-requires-2
 differs-requires-2 c κs = search needs
 
 returns-3 : tie.Need-returns-3
-unfolding aggregatorOf
-returns-3 c = simp (le-leb _ _ (c .before .before .before .before .before .if1 .left), ne-eqb _ _ (c .before .before .before .before .if2 .left), eq-eqb _ _ (c .before .before .before .if3 .taken)) cc
+returns-3 c =
+    let a = c .before .before .before .before .before .before .before .args in
+    in-parts (a .value .now) (a .width) Bits16 _ _ _ (c .before .before .u16-at .ensures) (c .before .u32-at3 .ensures) (c .differs2 .ensures)
+    ∙ sym (of-six (a .value .now) (a .width) (c .before .before .before .before .before .if1 .left) (c .before .before .before .before .if2 .left) (c .before .before .before .if3 .taken))
 
 returns-4 : tie.Need-returns-4
-unfolding aggregatorOf
-returns-4 c = simp (le-leb _ _ (c .before .before .if1 .left), ne-eqb _ _ (c .before .if2 .left), ne-eqb _ _ (c .if3 .left))
+returns-4 c =
+    let a = c .before .before .before .before .args in
+    sym (of-other (a .value .now) (a .width) (c .before .before .if1 .left) (c .before .if2 .left) (c .if3 .left))
 
 pub parse-aggregator-spec : {M : Type 1} → statement M
 parse-aggregator-spec =

@@ -1,11 +1,11 @@
-use mathlib.Core.Path.{_≡_, ap₂}
+use mathlib.Core.Path.{_≡_, ap₂, _∙_}
 use Prim.Native.Nat.{_+_}
 use native.Mathlib.Omega.{arith}
 use lib.ListN.{getD}
 use Rattle.families.specs.Family.{markOf}
 use Rattle.families.specs.FamilyLaws.{mark-small}
-use Rattle.routes.specs.Prefix.{wordAt, rowOf}
-use Rattle.routes.specs.PrefixLaws.{item-row}
+use Rattle.routes.specs.Prefix.{wordAt}
+use Rattle.routes.specs.PrefixLaws.{row-parts, item-row}
 use borrow.Author.Needs.{needs}
 use Rattle.routes.proofs.row_of.Statement.{statement}
 use Rattle.routes.proofs.row_of.Tie as tie
@@ -53,14 +53,15 @@ u32-at-requires-4 : tie.Need-u32-at-requires-4
 u32-at-requires-4 c κs = search needs
 
 returns : tie.Need-returns
-unfolding rowOf wordAt
+unfolding wordAt
 returns c =
     let g = c .before .before .before .before .before .before .before .before .before .before .before in
     let a = g .args in
     let k = c .before .before .before .before .before .before .before .before .before .id-size in
     let first : c .before .before .before .before .before .before .wide .result + c .before .before .before .before .before .mark-of .result ≡ getD (a .s .now) (k .result) 0 + markOf (a .form) =
     ap₂ _+_ (c .before .before .before .before .before .before .wide .ensures) (c .before .before .before .before .before .mark-of .ensures) in
-    cc (item-row (a .s .now) (a .form) (a .e) _ _ _ (k .ensures) first (c .before .before .before .before .id-of .ensures) (omega (arith, g .pre .front, k .ensures)) (g .pre .within))
+    row-parts _ _ _ _ _ _ _ (c .before .before .before .u32-at .ensures) (c .before .before .u32-at2 .ensures) (c .before .u32-at3 .ensures) (c .u32-at4 .ensures)
+    ∙ item-row (a .s .now) (a .form) (a .e) _ _ _ (k .ensures) first (c .before .before .before .before .id-of .ensures) (omega (arith, g .pre .front, k .ensures)) (g .pre .within)
 
 pub row-of-spec : {M : Type 1} → statement M
 row-of-spec =

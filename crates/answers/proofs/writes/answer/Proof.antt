@@ -1,41 +1,40 @@
-use native.Mathlib.Omega.{arith}
-use Prim.Native.Nat.{_/_}
-use lib.ListN.{length}
-use lib.Seq.{length-take-le}
-use mathlib.Core.Path.{sym}
+use Rattle.answers.specs.Lent.{lent}
 use borrow.Author.Needs.{needs}
 use Rattle.answers.proofs.writes.answer.Statement.{statement}
 use Rattle.answers.proofs.writes.answer.Tie as tie
 
-returns : tie.Need-returns
-returns c = search needs
+least-requires : tie.Need-least-requires
+least-requires c κs = search needs
 
-returns-2 : tie.Need-returns-2
-returns-2 c = search needs
+last-part-requires : tie.Need-last-part-requires
+last-part-requires c κs = search needs
 
-returns-3 : tie.Need-returns-3
-returns-3 c = search needs
+least-requires-2 : tie.Need-least-requires-2
+least-requires-2 c κs = search needs
 
-slice-relend-prefix-decoded : tie.Need-slice-relend-prefix-decoded
-slice-relend-prefix-decoded c = search needs
+least-requires-3 : tie.Need-least-requires-3
+least-requires-3 c κs = search needs
 
-slice-aggregate-decoded : tie.Need-slice-aggregate-decoded
-slice-aggregate-decoded c = let a = c .before .before .before .before .before .before .before .before .before .before .before .args in sym (length-take-le (length (a .one .now) / 4) (a .rows .now) (omega arith))
+slice-relend-prefix-into-output : tie.Need-slice-relend-prefix-into-output
+slice-relend-prefix-into-output c = search needs
 
-slice-relend-prefix-decoded-2 : tie.Need-slice-relend-prefix-decoded-2
-slice-relend-prefix-decoded-2 c = search needs
+slice-aggregate-into-output : tie.Need-slice-aggregate-into-output
+slice-aggregate-into-output c = lent _ _ _ (c .before .before .before .before .least .ensures)
 
-slice-aggregate-decoded-2 : tie.Need-slice-aggregate-decoded-2
-slice-aggregate-decoded-2 c = let a = c .before .before .before .before .before .before .before .before .before .before .before .before .args in sym (length-take-le (length (a .last .now) / 4) (a .more .now) (omega arith))
+slice-relend-prefix-into-output-2 : tie.Need-slice-relend-prefix-into-output-2
+slice-relend-prefix-into-output-2 c = search needs
 
-slice-relend-prefix-decoded-3 : tie.Need-slice-relend-prefix-decoded-3
-slice-relend-prefix-decoded-3 c = search needs
+slice-aggregate-into-output-2 : tie.Need-slice-aggregate-into-output-2
+slice-aggregate-into-output-2 c = lent _ _ _ (c .before .before .before .least2 .ensures)
 
-slice-aggregate-decoded-3 : tie.Need-slice-aggregate-decoded-3
-slice-aggregate-decoded-3 c = let a = c .before .before .before .before .before .before .before .before .before .before .before .before .before .args in sym (length-take-le (a .h .«room_a») (a .w .now) (omega arith))
+slice-relend-prefix-into-output-3 : tie.Need-slice-relend-prefix-into-output-3
+slice-relend-prefix-into-output-3 c = search needs
 
-decoded-requires : tie.Need-decoded-requires
-decoded-requires c κs = search needs
+slice-aggregate-into-output-3 : tie.Need-slice-aggregate-into-output-3
+slice-aggregate-into-output-3 c = lent _ _ _ (c .before .before .before .least3 .ensures)
+
+into-output-requires : tie.Need-into-output-requires
+into-output-requires c κs = search needs
 
 same-length : tie.Need-same-length
 same-length c = search needs
@@ -49,25 +48,26 @@ same-length-3 c = search needs
 same-length-4 : tie.Need-same-length-4
 same-length-4 c = search needs
 
-returns-4 : tie.Need-returns-4
-returns-4 c = search needs
+returns : tie.Need-returns
+returns c = search needs
 
 pub answer-spec : {M : Type 1} → statement M
 answer-spec =
     tie.close
     (tie.spec
-    returns
-    returns-2
-    returns-3
-    slice-relend-prefix-decoded
-    slice-aggregate-decoded
-    slice-relend-prefix-decoded-2
-    slice-aggregate-decoded-2
-    slice-relend-prefix-decoded-3
-    slice-aggregate-decoded-3
-    decoded-requires
+    least-requires
+    last-part-requires
+    least-requires-2
+    least-requires-3
+    slice-relend-prefix-into-output
+    slice-aggregate-into-output
+    slice-relend-prefix-into-output-2
+    slice-aggregate-into-output-2
+    slice-relend-prefix-into-output-3
+    slice-aggregate-into-output-3
+    into-output-requires
     same-length
     same-length-2
     same-length-3
     same-length-4
-    returns-4)
+    returns)

@@ -3,8 +3,8 @@ use mathlib.Core.Path.{_≡_}
 use borrow.Author.Needs.{needs}
 use Prim.Native.Nat.{_-_, _≤_}
 use lib.ListN.{length}
-use Rattle.answers.proofs.line.sum_of_bytes.Statement.{statement}
-use Rattle.answers.proofs.line.sum_of_bytes.Tie as tie
+use Rattle.answers.proofs.store.sum_of_bytes.Statement.{statement}
+use Rattle.answers.proofs.store.sum_of_bytes.Tie as tie
 
 abbrev Inv-loop : tie.InvT-loop
 Inv-loop s h₀ i₀ h i = i ≤ length s
