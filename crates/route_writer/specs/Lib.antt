@@ -1,5 +1,6 @@
 pub mod Encode
 pub mod EncodeLaws
+pub mod Ahead
 pub mod Promises
 pub mod PromiseLaws
 pub mod Tight

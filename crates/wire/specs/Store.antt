@@ -7,7 +7,7 @@ use native.Mathlib.Nat.{add-zero, zero-add, add-suc, add-assoc}
 use native.Mathlib.Omega.{arith}
 use borrow.Author.Tests.{le-leb, lt-leb}
 use lib.ListN.{length, take, drop, set, length-append, length-drop, drop-of-length-le, take-append-drop}
-use lib.Seq.{sets, sets-eq, take-at, drop-at, length-take-le, drop-drop, paste, take-length, take-all}
+use lib.Seq.{sets, sets-eq, take-at, drop-at, take-append-le, take-take, length-take-le, drop-drop, paste, take-length, take-all}
 use lib.Dec.{leb}
 use Rattle.wire.specs.Choice.{pick, pick-leb}
 use Rattle.wire.specs.NumberLaws.{off, off-add}
@@ -82,6 +82,40 @@ laid-laid d at vs ws h =
     ap₂ (λ (l r : List ℕ). l ++ (ws ++ r)) (take-laid d at vs fits) more
     ∙ append-assoc (take at d) vs (ws ++ drop (at + length (vs ++ ws)) d)
     ∙ ap (λ (r : List ℕ). take at d ++ r) (sym (append-assoc vs ws (drop (at + length (vs ++ ws)) d)))
+
+-- values before values
+pub laid-before : (d : List ℕ) (at : ℕ) (vs ws : List ℕ) → at + length vs + length ws ≤ length d → laid (laid d (at + length vs) ws) at vs ≡ laid d at (vs ++ ws)
+laid-before d at vs ws h =
+    let m : ℕ = at + length vs in
+    let t : List ℕ = ws ++ drop (m + length ws) d in
+    let size : length (take m d) ≡ m = length-take-le m d (omega arith) in
+    let front : take at (laid d m ws) ≡ take at d =
+    take-append-le at (take m d) t (omega arith) ∙ take-take at m d (omega arith) in
+    let past : m + length ws ≡ at + length (vs ++ ws) = omega (arith, length-append vs ws) in
+    ap₂ (λ (l r : List ℕ). l ++ (vs ++ r)) front (drop-at (take m d) t m size ∙ ap (λ (k : ℕ). ws ++ drop k d) past)
+    ∙ ap (λ (r : List ℕ). take at d ++ r) (sym (append-assoc vs ws (drop (at + length (vs ++ ws)) d)))
+
+-- the first of the values that are laid
+pub take-laid-front : (d : List ℕ) (at : ℕ) (vs ws : List ℕ) → at + length (vs ++ ws) ≤ length d → take (at + length vs) (laid d at (vs ++ ws)) ≡ take at d ++ vs
+take-laid-front d at vs ws h =
+    let n : length (vs ++ ws) ≡ length vs + length ws = length-append vs ws in
+    let first : at + length vs ≤ length d = omega arith in
+    let m : ℕ = at + length vs in
+    let size : length (take m (laid d at vs)) ≡ m = length-take-le m (laid d at vs) (omega (arith, length-laid d at vs first)) in
+    ap (take m) (sym (laid-laid d at vs ws (omega arith)))
+    ∙ take-at (take m (laid d at vs)) (ws ++ drop (m + length ws) (laid d at vs)) m size
+    ∙ take-laid d at vs first
+
+-- what stands past them
+pub drop-laid-past : (d : List ℕ) (at : ℕ) (vs : List ℕ) (n : ℕ) → at + length vs ≤ n → at + length vs ≤ length d → drop n (laid d at vs) ≡ drop n d
+drop-laid-past d at vs n le h =
+    let m : ℕ = at + length vs in
+    let e : m + (n - m) ≡ n = omega arith in
+    ap (λ (k : ℕ). drop k (laid d at vs)) (sym e)
+    ∙ sym (drop-drop (n - m) m (laid d at vs))
+    ∙ ap (drop (n - m)) (drop-laid d at vs h)
+    ∙ drop-drop (n - m) m d
+    ∙ ap (λ (k : ℕ). drop k d) e
 
 -- values placed after those at the front
 pub placed-next : (d vs : List ℕ) (at : ℕ) (ws : List ℕ) → at ≡ length vs → at + length ws ≤ length d → placed (laid d 0 vs) at ws ≡ laid d 0 (vs ++ ws)
