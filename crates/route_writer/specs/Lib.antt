@@ -3,4 +3,6 @@ pub mod EncodeLaws
 pub mod Ahead
 pub mod Promises
 pub mod PromiseLaws
+pub mod Pair
+pub mod PairLaws
 pub mod Tight

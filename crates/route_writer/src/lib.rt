@@ -10,6 +10,8 @@ ghost use Rattle.families.specs.Family.{maxOf, idSize, markOf, octets};
 ghost use Rattle.route_writer.specs.Encode.{fourWords, address, lengthOf, rowBytes, allZero, idFits, writable, frontRow, writeStep, bytesOf};
 ghost use Rattle.route_writer.specs.Ahead.{rowAt, headBytes, Fillable, Ahead};
 ghost use Rattle.route_writer.specs.Promises.{sizeBy, measured, writeAnswer, outAfter};
+ghost use Rattle.route_writer.specs.Pair.{pairSized, pairAnswer, pairAfter};
+ghost use Rattle.route_writer.specs.declared.WriteAnswer.the-variants.{Bytes};
 use families::Afi;
 use families::Form;
 use wire::refusal;
@@ -17,6 +19,12 @@ use wire::refusal;
 // The bytes that were written or would be, or a refusal number.
 pub enum WriteAnswer {
     Bytes(usize),
+    Refused(u8),
+}
+
+// The bytes of two lists that were written, or a refusal number.
+pub enum ListsAnswer {
+    Lists { first: usize, second: usize },
     Refused(u8),
 }
 
@@ -304,5 +312,98 @@ pub fn encode_nlri_prefixes(rows: &[u32], afi: Afi, form: Form, out: &mut [u8]) 
             WriteAnswer::Bytes(n)
         }
         WriteAnswer::Refused(n) => WriteAnswer::Refused(n),
+    }
+}
+
+// Two lists of these sizes, if they fit below `most` and into so many places; no sum is made before it is known to be small.
+fn pair_size(
+    first: usize,
+    second: usize,
+    start: usize,
+    between: usize,
+    most: usize,
+    places: usize,
+) -> ListsAnswer
+    ensures { λ r. ⌜ r ≡ pairSized start between most places first second ⌝ }
+{
+    if wire::LIST_LIMIT < first {
+        return ListsAnswer::Refused(refusal::TOO_LONG);
+    }
+    if wire::LIST_LIMIT < second {
+        return ListsAnswer::Refused(refusal::TOO_LONG);
+    }
+    if most < start {
+        return ListsAnswer::Refused(refusal::TOO_LONG);
+    }
+    if most - start < between {
+        return ListsAnswer::Refused(refusal::TOO_LONG);
+    }
+    if most - start - between < first + second {
+        return ListsAnswer::Refused(refusal::TOO_LONG);
+    }
+    if places < start + first + between + second {
+        return ListsAnswer::Refused(refusal::NO_ROOM);
+    }
+    ListsAnswer::Lists { first, second }
+}
+
+// The sizes of two lists of rows, if they can be written and fit.
+fn measure_pair(
+    first: &[u32],
+    second: &[u32],
+    afi: Afi,
+    form: Form,
+    start: usize,
+    between: usize,
+    most: usize,
+    places: usize,
+) -> ListsAnswer
+    ensures { λ r. ⌜ r ≡ pairAnswer (now (first .entry)) (now (second .entry)) (maxOf afi) form start between most places ⌝ }
+{
+    match measure_nlri_prefixes(first, afi, form) {
+        WriteAnswer::Bytes(a) => match measure_nlri_prefixes(second, afi, form) {
+            WriteAnswer::Bytes(b) => pair_size(a, b, start, between, most, places),
+            WriteAnswer::Refused(n) => ListsAnswer::Refused(n),
+        },
+        WriteAnswer::Refused(n) => ListsAnswer::Refused(n),
+    }
+}
+
+// Rows that were measured, as a list at a place of an output that has room.
+fn put_list(rows: &[u32], afi: Afi, form: Form, size: usize, out: &mut [u8], to: usize)
+    requires { ⌜ (measured (now rows) (maxOf afi) form ≡ Bytes size) × (to + size ≤ length (now out)) ⌝ }
+    ensures { λ _. ⌜ now (out .exit) ≡ laid (now (out .entry)) to (bytesOf (now (rows .entry)) (maxOf afi) form) ⌝ }
+{
+    fill(rows, afi, form, &mut out[to..], size);
+}
+
+// Two lists, both or neither: the first at `start`, the second `between` bytes after its end, all within `most` bytes. What stands
+// before and between them is left as it is.
+pub fn encode_nlri_pair(
+    first: &[u32],
+    second: &[u32],
+    afi: Afi,
+    form: Form,
+    start: usize,
+    between: usize,
+    most: usize,
+    out: &mut [u8],
+) -> ListsAnswer
+    ensures answer { λ r. ⌜ r ≡ pairAnswer (now (first .entry)) (now (second .entry)) (maxOf afi) form start between most (length (now (out .entry))) ⌝ }
+    ensures out { λ r. ⌜ now (out .exit) ≡ pairAfter r start between (bytesOf (now (first .entry)) (maxOf afi) form) (bytesOf (now (second .entry)) (maxOf afi) form) (now (out .entry)) ⌝ }
+{
+    match measure_pair(first, second, afi, form, start, between, most, out.len()) {
+        ListsAnswer::Lists {
+            first: a,
+            second: b,
+        } => {
+            put_list(first, afi, form, a, out, start);
+            put_list(second, afi, form, b, out, start + a + between);
+            ListsAnswer::Lists {
+                first: a,
+                second: b,
+            }
+        }
+        ListsAnswer::Refused(n) => ListsAnswer::Refused(n),
     }
 }
