@@ -180,6 +180,17 @@ be-append (b ∷ s) t =
     rw (length-append s t, pow-add 256 (length s) (length t), be-append s t, add-mul (b * 256 ^ length s) (be s) (256 ^ length t), mul-assoc b (256 ^ length s) (256 ^ length t))
     (sym (add-assoc (b * (256 ^ length s * 256 ^ length t)) (be s * 256 ^ length t) (be t)))
 
+-- two numbers one after the other are one
+pub toBe-append : (m n a b : ℕ) → a < 256 ^ m → b < 256 ^ n → toBe m a ++ toBe n b ≡ toBe (m + n) (a * 256 ^ n + b)
+toBe-append m n a b h k =
+    let s : List ℕ = toBe m a ++ toBe n b in
+    let size : length s ≡ m + n = length-append (toBe m a) (toBe n b) ∙ ap₂ _+_ (length-toBe m a) (length-toBe n b) in
+    let number : be s ≡ a * 256 ^ n + b =
+    be-append (toBe m a) (toBe n b)
+    ∙ ap₂ (λ (x j : ℕ). x * 256 ^ j + be (toBe n b)) (be-toBe m a h) (length-toBe n b)
+    ∙ ap (λ (x : ℕ). a * 256 ^ n + x) (be-toBe n b k) in
+    sym (toBe-be s (bytes-append (toBe m a) (toBe n b) (bytes-toBe m a h) (bytes-toBe n b k))) ∙ ap₂ toBe size number
+
 be-zeros : (k : ℕ) → be (replicate k 0) ≡ 0
 be-zeros zero = refl
 be-zeros (suc k) = let z : List ℕ = replicate k 0 in rw (zero-mul (256 ^ length z), be-zeros k)
