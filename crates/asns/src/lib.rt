@@ -91,14 +91,14 @@ pub fn parse_aggregator(value: &[u8], width: AsnLength) -> AggregatorAnswer
     }
     if value.len() == 8 {
         return AggregatorAnswer::Aggregator {
-            asn: wire::u32_at(value, 0),
+            asn: number_at(value, 0, AsnLength::Bits32),
             identifier: wire::u32_at(value, 4),
             differs: differs(AsnLength::Bits32, width),
         };
     }
     if value.len() == 6 {
         return AggregatorAnswer::Aggregator {
-            asn: wire::u16_at(value, 0),
+            asn: number_at(value, 0, AsnLength::Bits16),
             identifier: wire::u32_at(value, 2),
             differs: differs(AsnLength::Bits16, width),
         };

@@ -8,11 +8,11 @@ returns : tie.Need-returns
 unfolding aggregatorOf
 returns c = simp (lt-leb _ _ (c .if1 .taken))
 
+number-at-requires : tie.Need-number-at-requires
+number-at-requires c κs = search needs
+
 u32-at-requires : tie.Need-u32-at-requires
 u32-at-requires c κs = search needs
-
-u32-at-requires-2 : tie.Need-u32-at-requires-2
-u32-at-requires-2 c κs = search needs
 
 differs-requires : tie.Need-differs-requires
 differs-requires c κs = search needs
@@ -21,11 +21,11 @@ returns-2 : tie.Need-returns-2
 unfolding aggregatorOf
 returns-2 c = simp (le-leb _ _ (c .before .before .before .before .if1 .left), eq-eqb _ _ (c .before .before .before .if2 .taken)) cc
 
-u16-at-requires : tie.Need-u16-at-requires
-u16-at-requires c κs = search needs
+number-at-requires-2 : tie.Need-number-at-requires-2
+number-at-requires-2 c κs = search needs
 
-u32-at-requires-3 : tie.Need-u32-at-requires-3
-u32-at-requires-3 c κs = search needs
+u32-at-requires-2 : tie.Need-u32-at-requires-2
+u32-at-requires-2 c κs = search needs
 
 differs-requires-2 : tie.Need-differs-requires-2
 differs-requires-2 c κs = search needs
@@ -43,12 +43,12 @@ parse-aggregator-spec =
     tie.close
     (tie.spec
     returns
+    number-at-requires
     u32-at-requires
-    u32-at-requires-2
     differs-requires
     returns-2
-    u16-at-requires
-    u32-at-requires-3
+    number-at-requires-2
+    u32-at-requires-2
     differs-requires-2
     returns-3
     returns-4)
