@@ -13,7 +13,7 @@ path-word-requires : tie.Need-path-word-requires
 path-word-requires c κs = rw (c .count-as-path .ensures) (count-path-narrow _ (c .before .asn-length-of .result))
 
 returns : tie.Need-returns
-returns c = cc
+returns c = rw (← c .before .before .asn-length-of .ensures, ← c .before .count-as-path .ensures) (c .path-word .ensures)
 
 pub doorbramble-count-as-path-spec : {M : Type 1} → statement M
 doorbramble-count-as-path-spec =

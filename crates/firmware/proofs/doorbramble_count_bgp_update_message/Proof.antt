@@ -13,7 +13,7 @@ update-word-requires : tie.Need-update-word-requires
 update-word-requires c κs = rw (c .count-bgp-update-message .ensures) (count-update-narrow _ _)
 
 returns : tie.Need-returns
-returns c = cc
+returns c = rw (← c .before .before .mode-of .ensures, ← c .before .count-bgp-update-message .ensures) (c .update-word .ensures)
 
 pub doorbramble-count-bgp-update-message-spec : {M : Type 1} → statement M
 doorbramble-count-bgp-update-message-spec =

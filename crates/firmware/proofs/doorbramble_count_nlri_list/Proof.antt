@@ -16,7 +16,7 @@ list-word-requires : tie.Need-list-word-requires
 list-word-requires c κs = rw (c .count-nlri-list .ensures) (count-list-narrow _ _ _)
 
 returns : tie.Need-returns
-returns c = cc
+returns c = rw (← c .before .before .before .family-of .ensures, ← c .before .before .mode-of .ensures, ← c .before .count-nlri-list .ensures) (c .list-word .ensures)
 
 pub doorbramble-count-nlri-list-spec : {M : Type 1} → statement M
 doorbramble-count-nlri-list-spec =

@@ -16,7 +16,7 @@ same-length : tie.Need-same-length
 same-length c = search needs
 
 returns : tie.Need-returns
-returns c = (cc, cc)
+returns c = let k = c .before .before .before .encode-aggregator .ensures in rw (← c .before .before .before .before .before .asn-length-of .ensures, ← k .0) (c .asns-written .ensures, k .1)
 
 pub doorbramble-encode-aggregator-spec : {M : Type 1} → statement M
 doorbramble-encode-aggregator-spec =

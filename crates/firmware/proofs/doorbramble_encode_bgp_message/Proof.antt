@@ -13,7 +13,7 @@ same-length : tie.Need-same-length
 same-length c = search needs
 
 returns : tie.Need-returns
-returns c = (cc, cc)
+returns c = let k = c .before .before .before .encode-bgp-message .ensures in rw (← k .0) (c .message-written .ensures, k .1)
 
 pub doorbramble-encode-bgp-message-spec : {M : Type 1} → statement M
 doorbramble-encode-bgp-message-spec =

@@ -19,7 +19,7 @@ same-length : tie.Need-same-length
 same-length c = search needs
 
 returns : tie.Need-returns
-returns c = (cc, cc)
+returns c = let k = c .before .before .before .encode-nlri-prefixes .ensures in rw (← c .before .before .before .before .before .before .family-of .ensures, ← c .before .before .before .before .before .form-of .ensures, ← k .0) (c .routes-written .ensures, k .1)
 
 pub doorbramble-encode-nlri-prefixes-spec : {M : Type 1} → statement M
 doorbramble-encode-nlri-prefixes-spec =

@@ -52,7 +52,7 @@ returns-2 : tie.Need-returns-2
 returns-2 c =
     let room = c .before .before .if1 .left in
     rw (← c .before .before .before .before .before .before .before .asn-length-of .ensures, ← c .before .before .before .before .before .before .parse-aggregator .ensures, c .before .before .before .before .asn .given .1, le-ltb _ _ room)
-    (cc, puts-placed (c .before .before .before .before .before .before .before .before .before .before .args .words .now) 0 _ _ (omega (arith, room)) refl)
+    (rw (← c .before .bit-of .ensures .0) (c .word2 .ensures), puts-placed (c .before .before .before .before .before .before .before .before .before .before .args .words .now) 0 _ _ (omega (arith, room)) refl)
 
 returns-3 : tie.Need-returns-3
 returns-3 c =

@@ -19,7 +19,7 @@ same-length-2 : tie.Need-same-length-2
 same-length-2 c = search needs
 
 returns : tie.Need-returns
-returns c = (cc, ((cc), cc))
+returns c = let k = c .before .before .before .before .before .parse-as-path .ensures in rw (← c .before .before .before .before .before .before .before .before .asn-length-of .ensures, ← k .0) (c .path-word .ensures, (k .1 .0, k .1 .1))
 
 pub doorbramble-parse-as-path-spec : {M : Type 1} → statement M
 doorbramble-parse-as-path-spec =

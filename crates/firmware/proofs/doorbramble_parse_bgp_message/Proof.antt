@@ -10,7 +10,7 @@ message-word-requires : tie.Need-message-word-requires
 message-word-requires c κs = rw (c .parse-bgp-message .ensures) (message-narrow _)
 
 returns : tie.Need-returns
-returns c = cc
+returns c = rw (← c .before .parse-bgp-message .ensures) (c .message-word .ensures)
 
 pub doorbramble-parse-bgp-message-spec : {M : Type 1} → statement M
 doorbramble-parse-bgp-message-spec =

@@ -10,7 +10,7 @@ message-word-requires : tie.Need-message-word-requires
 message-word-requires c κs = rw (c .parse-bgp-message-strict .ensures) (strict-narrow _)
 
 returns : tie.Need-returns
-returns c = cc
+returns c = rw (← c .before .parse-bgp-message-strict .ensures) (c .message-word .ensures)
 
 pub doorbramble-parse-bgp-message-strict-spec : {M : Type 1} → statement M
 doorbramble-parse-bgp-message-strict-spec =

@@ -19,7 +19,7 @@ same-length-2 : tie.Need-same-length-2
 same-length-2 c = search needs
 
 returns : tie.Need-returns
-returns c = (cc, ((cc), cc))
+returns c = let k = c .before .before .before .before .before .parse-bgp-update-message .ensures in rw (← c .before .before .before .before .before .before .before .before .mode-of .ensures, ← k .0) (c .update-word .ensures, (k .1 .0, k .1 .1))
 
 pub doorbramble-parse-bgp-update-message-spec : {M : Type 1} → statement M
 doorbramble-parse-bgp-update-message-spec =

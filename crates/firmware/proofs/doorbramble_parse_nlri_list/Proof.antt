@@ -19,7 +19,7 @@ same-length : tie.Need-same-length
 same-length c = search needs
 
 returns : tie.Need-returns
-returns c = (cc, cc)
+returns c = let k = c .before .before .before .parse-nlri-list .ensures in rw (← c .before .before .before .before .before .before .family-of .ensures, ← c .before .before .before .before .before .mode-of .ensures, ← k .0) (c .list-word .ensures, k .1)
 
 pub doorbramble-parse-nlri-list-spec : {M : Type 1} → statement M
 doorbramble-parse-nlri-list-spec =

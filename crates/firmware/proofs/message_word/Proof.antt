@@ -19,28 +19,28 @@ bit-of-requires : tie.Need-bit-of-requires
 bit-of-requires c κs = search needs
 
 mul-word : tie.Need-mul-word
-mul-word c = search needs
+mul-word c = omega arith
 
 add-word : tie.Need-add-word
-add-word c = search needs
+add-word c = omega arith
 
 bit-of-requires-2 : tie.Need-bit-of-requires-2
 bit-of-requires-2 c κs = search needs
 
 mul-word-2 : tie.Need-mul-word-2
-mul-word-2 c = search needs
+mul-word-2 c = omega arith
 
 add-word-2 : tie.Need-add-word-2
-add-word-2 c = search needs
+add-word-2 c = omega arith
 
 bit-of-requires-3 : tie.Need-bit-of-requires-3
 bit-of-requires-3 c κs = search needs
 
 mul-word-3 : tie.Need-mul-word-3
-mul-word-3 c = search needs
+mul-word-3 c = omega arith
 
 add-word-3 : tie.Need-add-word-3
-add-word-3 c = search needs
+add-word-3 c = omega arith
 
 word-requires : tie.Need-word-requires
 word-requires c κs = search needs
@@ -52,7 +52,8 @@ word-requires-2 : tie.Need-word-requires-2
 word-requires-2 c κs = search needs
 
 returns : tie.Need-returns
-returns c = rw (c .before .before .before .before .before .a .given .1) (cc)
+returns c =
+    rw (c .before .before .before .before .before .a .given .1, ← c .before .before .before .bit-of .ensures .0, ← c .before .before .bit-of2 .ensures .0, ← c .before .bit-of3 .ensures .0) (c .word .ensures)
 
 returns-2 : tie.Need-returns-2
 returns-2 c = rw (c .before .before .a2 .given .1) (c .word2 .ensures)

@@ -46,7 +46,9 @@ word-requires-2 : tie.Need-word-requires-2
 word-requires-2 c κs = search needs
 
 returns : tie.Need-returns
-returns c = rw (c .before .before .before .before .before .before .a .given .1) (cc)
+returns c =
+    rw (c .before .before .before .before .before .before .a .given .1, ← c .before .before .before .before .rows-in .ensures, ← c .before .before .before .rows-in2 .ensures, ← c .before .before .verdict-in .ensures, ← c .before .verdict-in2 .ensures)
+    (c .word .ensures)
 
 returns-2 : tie.Need-returns-2
 returns-2 c = rw (c .before .before .a2 .given .1) (c .word2 .ensures)
