@@ -101,8 +101,8 @@ uint64_t doorbramble_withdrawn_part(const uint8_t *body, size_t body_len);
 uint64_t doorbramble_attribute_part(const uint8_t *body, size_t body_len);
 uint64_t doorbramble_announced_part(const uint8_t *body, size_t body_len);
 
-/* How many routes, all IPv4, the withdrawn and the announced section have. A malformed section does not refuse the body: it has no rows, and
- * its verdict is 2, 7 or 8. Answer: withdrawn_rows, announced_rows, withdrawn_verdict, announced_verdict. Refusals: 1, 2. */
+/* How many routes, all IPv4, the withdrawn and the announced section have. A malformed section does not refuse the body: it has no rows,
+ * and its verdict is 2, 7 or 8. Answer: withdrawn_rows, announced_rows, withdrawn_verdict, announced_verdict. Refusals: 1, 2. */
 uint64_t doorbramble_count_bgp_update_message(const uint8_t *body, size_t body_len, uint8_t settings);
 
 /* The same, with the rows of each section at the front of its store. Refusals: 1, 2, then 11 where either store has no room for the rows of
@@ -166,8 +166,8 @@ static inline unsigned doorbramble_field_b(uint64_t answer) { return (unsigned)(
 static inline unsigned doorbramble_field_c_low(uint64_t answer) { return (unsigned)(answer >> 32 & 0xFF); }
 static inline unsigned doorbramble_field_c_high(uint64_t answer) { return (unsigned)(answer >> 40 & 0xFF); }
 
-/* of a message: the length that its header claims, the bytes of it that are there, its type; whether its marker is not all FF, it claims more
- * bytes than there are, or fewer */
+/* of a message: the length that its header claims, the bytes of it that are there, its type; whether its marker is not all FF, it claims
+ * more bytes than there are, or fewer */
 static inline unsigned doorbramble_claimed(uint64_t answer) { return doorbramble_field_a(answer); }
 static inline unsigned doorbramble_taken(uint64_t answer) { return doorbramble_field_b(answer); }
 static inline unsigned doorbramble_kind(uint64_t answer) { return doorbramble_field_c_low(answer); }

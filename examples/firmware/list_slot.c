@@ -2,8 +2,9 @@
  *
  * usage: list_slot FILE
  *
- * A record is the bytes C5 3A, the number of kept bytes in two bytes, a settings byte (DOORBRAMBLE_ADD_PATH, DOORBRAMBLE_GUESS), and the kept
- * bytes. Exit status: 0 where every message and section was read, 1 where one was refused, 2 where the file ends in a record or has none. */
+ * A record is the bytes C5 3A, the number of kept bytes in two bytes, a settings byte (DOORBRAMBLE_ADD_PATH, DOORBRAMBLE_GUESS), and the
+ * kept bytes. Exit status: 0 where every message and section was read, 1 where one was refused, 2 where the file cannot be read to its end
+ * as records. */
 #include <stdio.h>
 
 #include "doorbramble.h"
@@ -63,8 +64,8 @@ static int print_section(const char *what, unsigned rows, unsigned verdict, cons
 }
 
 static int print_update(const uint8_t *body, size_t size, uint8_t settings) {
-    uint64_t found = doorbramble_parse_bgp_update_message(body, size, settings, withdrawn, sizeof withdrawn / sizeof withdrawn[0], announced,
-                                                          sizeof announced / sizeof announced[0]);
+    uint64_t found = doorbramble_parse_bgp_update_message(body, size, settings, withdrawn, sizeof withdrawn / sizeof withdrawn[0],
+                                                          announced, sizeof announced / sizeof announced[0]);
     unsigned refusal = doorbramble_refusal(found);
     int good;
     if (refusal != 0) {
@@ -84,8 +85,8 @@ static int print_slot(unsigned long number, const uint8_t *s, size_t size, uint8
         printf("slot %lu: refused %u: %s\n", number, refusal, reason(refusal));
         return 0;
     }
-    printf("slot %lu: %s, %u of %u bytes%s%s%s\n", number, KINDS[doorbramble_kind(found)], doorbramble_taken(found), doorbramble_claimed(found),
-           doorbramble_cut(found) ? ", cut" : "", doorbramble_trailing(found) ? ", other bytes follow" : "",
+    printf("slot %lu: %s, %u of %u bytes%s%s%s\n", number, KINDS[doorbramble_kind(found)], doorbramble_taken(found),
+           doorbramble_claimed(found), doorbramble_cut(found) ? ", cut" : "", doorbramble_trailing(found) ? ", other bytes follow" : "",
            doorbramble_marker(found) ? ", marker not all FF" : "");
     if (doorbramble_kind(found) != DOORBRAMBLE_UPDATE)
         return 1;

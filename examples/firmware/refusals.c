@@ -56,7 +56,8 @@ static int has_bytes(const uint8_t *bytes, size_t count) {
 /* an answer; the words that each store has, and the bytes that the output has */
 static void check(const char *what, uint64_t answer, uint64_t wanted, const uint32_t *first, size_t first_count, const uint32_t *second,
                   size_t second_count, const uint8_t *bytes, size_t byte_count) {
-    expect(what, answer == wanted && has_words(one, first, first_count) && has_words(two, second, second_count) && has_bytes(bytes, byte_count));
+    expect(what,
+           answer == wanted && has_words(one, first, first_count) && has_words(two, second, second_count) && has_bytes(bytes, byte_count));
     clear();
 }
 
@@ -74,6 +75,7 @@ static void check_out(const char *what, uint64_t answer, uint64_t wanted, const 
 
 static void messages(void) {
     static const uint8_t keepalive[] = {MARKER, 0, 19, 4};
+    /* a marker that starts with 0, so that the length is FF 1B: 65,307 */
     static const uint8_t cut[] = {0, MARKER, 27, 2};
     static const uint8_t short_claim[] = {MARKER, 0, 18, 9};
     static const uint8_t two_of_them[] = {MARKER, 0, 19, 4, 0xFF};
@@ -87,16 +89,21 @@ static void messages(void) {
     check_answer("parse_bgp_message: 3", doorbramble_parse_bgp_message(short_claim, 19), refused(DOORBRAMBLE_MESSAGE_LENGTH));
     answer = doorbramble_parse_bgp_message(cut, 19);
     check_answer("parse_bgp_message: cut, another marker", answer, accepted(65307, 19, 2 + 256 + 512));
-    expect("the fields of a message", doorbramble_refusal(answer) == 0 && doorbramble_claimed(answer) == 65307 && doorbramble_taken(answer) == 19
-           && doorbramble_kind(answer) == DOORBRAMBLE_UPDATE && doorbramble_marker(answer) && doorbramble_cut(answer) && !doorbramble_trailing(answer));
+    expect("the fields of a message", doorbramble_refusal(answer) == 0 && doorbramble_claimed(answer) == 65307 &&
+                                          doorbramble_taken(answer) == 19 && doorbramble_kind(answer) == DOORBRAMBLE_UPDATE &&
+                                          doorbramble_marker(answer) && doorbramble_cut(answer) && !doorbramble_trailing(answer));
 
-    check_answer("parse_bgp_message_strict: a KEEPALIVE", doorbramble_parse_bgp_message_strict(two_of_them, 20), accepted(19, 19, 4 + 1024));
+    check_answer("parse_bgp_message_strict: a KEEPALIVE", doorbramble_parse_bgp_message_strict(two_of_them, 20),
+                 accepted(19, 19, 4 + 1024));
     check_answer("parse_bgp_message_strict: 6", doorbramble_parse_bgp_message_strict(cut, 19), refused(DOORBRAMBLE_BAD_MARKER));
 
-    check_out("encode_bgp_message: a KEEPALIVE", doorbramble_encode_bgp_message(DOORBRAMBLE_KEEPALIVE, NULL, 0, out, PLACES), accepted(19, 0, 0), keepalive, 19);
+    check_out("encode_bgp_message: a KEEPALIVE", doorbramble_encode_bgp_message(DOORBRAMBLE_KEEPALIVE, NULL, 0, out, PLACES),
+              accepted(19, 0, 0), keepalive, 19);
     check_answer("encode_bgp_message: 4", doorbramble_encode_bgp_message(6, NULL, 0, out, PLACES), refused(DOORBRAMBLE_MESSAGE_TYPE));
-    check_answer("encode_bgp_message: 3", doorbramble_encode_bgp_message(DOORBRAMBLE_KEEPALIVE, body, 1, out, PLACES), refused(DOORBRAMBLE_MESSAGE_LENGTH));
-    check_answer("encode_bgp_message: 11", doorbramble_encode_bgp_message(DOORBRAMBLE_KEEPALIVE, NULL, 0, out, 18), refused(DOORBRAMBLE_NO_ROOM));
+    check_answer("encode_bgp_message: 3", doorbramble_encode_bgp_message(DOORBRAMBLE_KEEPALIVE, body, 1, out, PLACES),
+                 refused(DOORBRAMBLE_MESSAGE_LENGTH));
+    check_answer("encode_bgp_message: 11", doorbramble_encode_bgp_message(DOORBRAMBLE_KEEPALIVE, NULL, 0, out, 18),
+                 refused(DOORBRAMBLE_NO_ROOM));
 }
 
 static void updates(void) {
@@ -123,18 +130,27 @@ static void updates(void) {
     check_answer("count_bgp_update_message: verdicts 8 and 8", answer, accepted(0, 0, 8 + 8 * 256));
     answer = doorbramble_count_bgp_update_message(body, 9, 0);
     check_answer("count_bgp_update_message: an announced section cut to a byte", answer, accepted(1, 0, 8 * 256));
-    expect("the fields of an UPDATE", doorbramble_withdrawn_rows(answer) == 1 && doorbramble_announced_rows(answer) == 0
-           && doorbramble_withdrawn_verdict(answer) == 0 && doorbramble_announced_verdict(answer) == DOORBRAMBLE_ONE_BYTE_SECTION);
-    check_answer("count_bgp_update_message: Add-Path", doorbramble_count_bgp_update_message(body, 12, DOORBRAMBLE_ADD_PATH), accepted(0, 0, 2 + 2 * 256));
+    expect("the fields of an UPDATE", doorbramble_withdrawn_rows(answer) == 1 && doorbramble_announced_rows(answer) == 0 &&
+                                          doorbramble_withdrawn_verdict(answer) == 0 &&
+                                          doorbramble_announced_verdict(answer) == DOORBRAMBLE_ONE_BYTE_SECTION);
+    check_answer("count_bgp_update_message: Add-Path", doorbramble_count_bgp_update_message(body, 12, DOORBRAMBLE_ADD_PATH),
+                 accepted(0, 0, 2 + 2 * 256));
 
-    check("parse_bgp_update_message", doorbramble_parse_bgp_update_message(body, 12, 0, one, PLACES, two, PLACES), accepted(1, 1, 0), ten, 6, ten_one, 6, NULL, 0);
-    check_answer("parse_bgp_update_message: 11", doorbramble_parse_bgp_update_message(body, 12, 0, one, 6, two, 5), refused(DOORBRAMBLE_NO_ROOM));
-    check_answer("parse_bgp_update_message: 2", doorbramble_parse_bgp_update_message(body, 7, 0, one, PLACES, two, PLACES), refused(DOORBRAMBLE_TRUNCATED));
+    check("parse_bgp_update_message", doorbramble_parse_bgp_update_message(body, 12, 0, one, PLACES, two, PLACES), accepted(1, 1, 0), ten,
+          6, ten_one, 6, NULL, 0);
+    check_answer("parse_bgp_update_message: 11", doorbramble_parse_bgp_update_message(body, 12, 0, one, 6, two, 5),
+                 refused(DOORBRAMBLE_NO_ROOM));
+    check_answer("parse_bgp_update_message: 2", doorbramble_parse_bgp_update_message(body, 7, 0, one, PLACES, two, PLACES),
+                 refused(DOORBRAMBLE_TRUNCATED));
 
-    check_out("encode_bgp_update_message", doorbramble_encode_bgp_update_message(ten, 6, attributes, 2, ten_one, 6, 0, out, PLACES), accepted(12, 0, 0), body, 12);
-    check_answer("encode_bgp_update_message: 14", doorbramble_encode_bgp_update_message(ten, 6, attributes, 2, ten_one, 6, 1, out, PLACES), refused(DOORBRAMBLE_NOT_WRITABLE));
-    check_answer("encode_bgp_update_message: 11", doorbramble_encode_bgp_update_message(ten, 6, attributes, 2, ten_one, 6, 0, out, 11), refused(DOORBRAMBLE_NO_ROOM));
-    check_out("encode_bgp_update_message: of nothing", doorbramble_encode_bgp_update_message(NULL, 0, NULL, 0, NULL, 0, 0, out, PLACES), accepted(4, 0, 0), (const uint8_t *)"\0\0\0", 4);
+    check_out("encode_bgp_update_message", doorbramble_encode_bgp_update_message(ten, 6, attributes, 2, ten_one, 6, 0, out, PLACES),
+              accepted(12, 0, 0), body, 12);
+    check_answer("encode_bgp_update_message: 14", doorbramble_encode_bgp_update_message(ten, 6, attributes, 2, ten_one, 6, 1, out, PLACES),
+                 refused(DOORBRAMBLE_NOT_WRITABLE));
+    check_answer("encode_bgp_update_message: 11", doorbramble_encode_bgp_update_message(ten, 6, attributes, 2, ten_one, 6, 0, out, 11),
+                 refused(DOORBRAMBLE_NO_ROOM));
+    check_out("encode_bgp_update_message: of nothing", doorbramble_encode_bgp_update_message(NULL, 0, NULL, 0, NULL, 0, 0, out, PLACES),
+              accepted(4, 0, 0), (const uint8_t *)"\0\0\0", 4);
 }
 
 static void lists(void) {
@@ -155,9 +171,11 @@ static void lists(void) {
     check_answer("count_nlri_list: 7 for IPv4", doorbramble_count_nlri_list(wide, 9, 0, 0), refused(DOORBRAMBLE_PREFIX_LENGTH));
     check_answer("count_nlri_list: an empty list", doorbramble_count_nlri_list(NULL, 0, 0, 0), accepted(0, 0, 0));
 
-    check_store("parse_nlri_list: Add-Path", doorbramble_parse_nlri_list(tagged, 6, 0, DOORBRAMBLE_ADD_PATH, one, PLACES), accepted(1, 0, 0), seven, 6);
+    check_store("parse_nlri_list: Add-Path", doorbramble_parse_nlri_list(tagged, 6, 0, DOORBRAMBLE_ADD_PATH, one, PLACES),
+                accepted(1, 0, 0), seven, 6);
     check_store("parse_nlri_list: IPv6, by any flag", doorbramble_parse_nlri_list(wide, 9, 200, 0, one, 6), accepted(1, 0, 0), six, 6);
-    check_store("parse_nlri_list: the guess", doorbramble_parse_nlri_list(guess, 8, 0, DOORBRAMBLE_GUESS, one, PLACES), accepted(2, 0, 0), guessed, 12);
+    check_store("parse_nlri_list: the guess", doorbramble_parse_nlri_list(guess, 8, 0, DOORBRAMBLE_GUESS, one, PLACES), accepted(2, 0, 0),
+                guessed, 12);
     check_answer("parse_nlri_list: 11", doorbramble_parse_nlri_list(guess, 8, 0, DOORBRAMBLE_GUESS, one, 11), refused(DOORBRAMBLE_NO_ROOM));
     check_answer("parse_nlri_list: 11, no store", doorbramble_parse_nlri_list(wide, 9, 1, 0, NULL, 0), refused(DOORBRAMBLE_NO_ROOM));
     check_answer("parse_nlri_list: 2 before 11", doorbramble_parse_nlri_list(wide, 8, 1, 0, NULL, 0), refused(DOORBRAMBLE_TRUNCATED));
@@ -166,7 +184,8 @@ static void lists(void) {
     expect("the field of a writer", doorbramble_bytes(answer) == 6);
     check_out("encode_nlri_prefixes", answer, accepted(6, 0, 0), tagged, 6);
     check_out("encode_nlri_prefixes: IPv6", doorbramble_encode_nlri_prefixes(six, 6, 1, 0, out, 9), accepted(9, 0, 0), wide, 9);
-    check_answer("encode_nlri_prefixes: 14", doorbramble_encode_nlri_prefixes(seven, 6, 0, 0, out, PLACES), refused(DOORBRAMBLE_NOT_WRITABLE));
+    check_answer("encode_nlri_prefixes: 14", doorbramble_encode_nlri_prefixes(seven, 6, 0, 0, out, PLACES),
+                 refused(DOORBRAMBLE_NOT_WRITABLE));
     check_answer("encode_nlri_prefixes: 11", doorbramble_encode_nlri_prefixes(six, 6, 1, 0, out, 8), refused(DOORBRAMBLE_NO_ROOM));
 }
 
@@ -185,14 +204,19 @@ static void paths(void) {
     check_answer("count_as_path: 9 at width 2", doorbramble_count_as_path(value, 10, 0), refused(DOORBRAMBLE_SEGMENT_TYPE));
     check_answer("count_as_path: 2", doorbramble_count_as_path(value, 9, 1), refused(DOORBRAMBLE_TRUNCATED));
 
-    check("parse_as_path", doorbramble_parse_as_path(value, 10, 1, one, PLACES, two, PLACES), accepted(1, 2, 0), pairs, 2, numbers, 2, NULL, 0);
-    check_answer("parse_as_path: 11 for a pair", doorbramble_parse_as_path(value, 10, 1, one, 1, two, PLACES), refused(DOORBRAMBLE_NO_ROOM));
-    check_answer("parse_as_path: 11 for a number", doorbramble_parse_as_path(value, 10, 1, one, PLACES, two, 1), refused(DOORBRAMBLE_NO_ROOM));
-    check_answer("parse_as_path: 9", doorbramble_parse_as_path(type_five, 2, 1, one, PLACES, two, PLACES), refused(DOORBRAMBLE_SEGMENT_TYPE));
+    check("parse_as_path", doorbramble_parse_as_path(value, 10, 1, one, PLACES, two, PLACES), accepted(1, 2, 0), pairs, 2, numbers, 2, NULL,
+          0);
+    check_answer("parse_as_path: 11 for a pair", doorbramble_parse_as_path(value, 10, 1, one, 1, two, PLACES),
+                 refused(DOORBRAMBLE_NO_ROOM));
+    check_answer("parse_as_path: 11 for a number", doorbramble_parse_as_path(value, 10, 1, one, PLACES, two, 1),
+                 refused(DOORBRAMBLE_NO_ROOM));
+    check_answer("parse_as_path: 9", doorbramble_parse_as_path(type_five, 2, 1, one, PLACES, two, PLACES),
+                 refused(DOORBRAMBLE_SEGMENT_TYPE));
 
     check_out("encode_as_path", doorbramble_encode_as_path(pairs, 2, numbers, 2, 1, out, PLACES), accepted(10, 0, 0), value, 10);
     check_answer("encode_as_path: 14", doorbramble_encode_as_path(pairs, 2, numbers, 1, 1, out, PLACES), refused(DOORBRAMBLE_NOT_WRITABLE));
-    check_answer("encode_as_path: 9", doorbramble_encode_as_path(bad_type, 2, numbers, 2, 1, out, PLACES), refused(DOORBRAMBLE_SEGMENT_TYPE));
+    check_answer("encode_as_path: 9", doorbramble_encode_as_path(bad_type, 2, numbers, 2, 1, out, PLACES),
+                 refused(DOORBRAMBLE_SEGMENT_TYPE));
     check_answer("encode_as_path: 13", doorbramble_encode_as_path(pairs, 2, wide, 2, 0, out, PLACES), refused(DOORBRAMBLE_WIDE_NUMBER));
     check_answer("encode_as_path: 11", doorbramble_encode_as_path(pairs, 2, numbers, 2, 1, out, 9), refused(DOORBRAMBLE_NO_ROOM));
 }
@@ -208,11 +232,14 @@ static void aggregators(void) {
     expect("the fields of an AGGREGATOR", doorbramble_words(answer) == 2 && doorbramble_differs(answer));
     check_store("parse_aggregator: of another width", answer, accepted(2, 1, 0), words, 2);
     check_answer("parse_aggregator: 11", doorbramble_parse_aggregator(value, 6, 0, one, 1), refused(DOORBRAMBLE_NO_ROOM));
-    check_answer("parse_aggregator: 10 before 11", doorbramble_parse_aggregator(long_value, 7, 0, NULL, 0), refused(DOORBRAMBLE_AGGREGATOR_LENGTH));
+    check_answer("parse_aggregator: 10 before 11", doorbramble_parse_aggregator(long_value, 7, 0, NULL, 0),
+                 refused(DOORBRAMBLE_AGGREGATOR_LENGTH));
 
     check_out("encode_aggregator", doorbramble_encode_aggregator(65001, 0x0A000001, 0, out, PLACES), accepted(6, 0, 0), value, 6);
-    check_out("encode_aggregator: of four bytes", doorbramble_encode_aggregator(65536, 0x0A000001, 1, out, 8), accepted(8, 0, 0), long_value, 8);
-    check_answer("encode_aggregator: 13", doorbramble_encode_aggregator(65536, 0x0A000001, 0, out, PLACES), refused(DOORBRAMBLE_WIDE_NUMBER));
+    check_out("encode_aggregator: of four bytes", doorbramble_encode_aggregator(65536, 0x0A000001, 1, out, 8), accepted(8, 0, 0),
+              long_value, 8);
+    check_answer("encode_aggregator: 13", doorbramble_encode_aggregator(65536, 0x0A000001, 0, out, PLACES),
+                 refused(DOORBRAMBLE_WIDE_NUMBER));
     check_answer("encode_aggregator: 11", doorbramble_encode_aggregator(65001, 0x0A000001, 0, out, 5), refused(DOORBRAMBLE_NO_ROOM));
 }
 
@@ -229,8 +256,10 @@ static void limits(void) {
     check_answer("count_bgp_update_message: 1", doorbramble_count_bgp_update_message(zeros, 65517, 0), refused(DOORBRAMBLE_TOO_LONG));
     check_answer("parse_aggregator: 1", doorbramble_parse_aggregator(zeros, 65536, 0, one, PLACES), refused(DOORBRAMBLE_TOO_LONG));
     check_answer("count_as_path: 1", doorbramble_count_as_path(zeros, 65536, 0), refused(DOORBRAMBLE_TOO_LONG));
-    check_answer("encode_bgp_update_message: 1", doorbramble_encode_bgp_update_message(NULL, 0, zeros, 65513, NULL, 0, 0, out, PLACES), refused(DOORBRAMBLE_TOO_LONG));
-    check_answer("encode_as_path: 12", doorbramble_encode_as_path(pair, 2, numbers, 256, 1, out, PLACES), refused(DOORBRAMBLE_LONG_SEGMENT));
+    check_answer("encode_bgp_update_message: 1", doorbramble_encode_bgp_update_message(NULL, 0, zeros, 65513, NULL, 0, 0, out, PLACES),
+                 refused(DOORBRAMBLE_TOO_LONG));
+    check_answer("encode_as_path: 12", doorbramble_encode_as_path(pair, 2, numbers, 256, 1, out, PLACES),
+                 refused(DOORBRAMBLE_LONG_SEGMENT));
 }
 
 int main(void) {
