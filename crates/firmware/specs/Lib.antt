@@ -3,3 +3,4 @@ pub mod Word
 pub mod Answers
 pub mod WordLaws
 pub mod Bounds
+pub mod Tight
