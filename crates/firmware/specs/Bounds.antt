@@ -40,6 +40,8 @@ use Rattle.asns.specs.Aggregator.{aggregatorBytes, aggregatorWritten}
 use Rattle.asns.specs.AggregatorLaws.{bytes-length}
 use Rattle.asns.specs.declared.AsnLength.{AsnLength}
 use Rattle.asns.specs.declared.AsnLength.the-variants.{Bits16, Bits32}
+use Rattle.asns.specs.declared.AggregatorAnswer.{AggregatorAnswer}
+use Rattle.asns.specs.declared.AggregatorAnswer.the-variants as G
 use Rattle.asns.specs.declared.WriteAnswer as asns
 use Rattle.asns.specs.declared.WriteAnswer.the-variants as N
 use Rattle.paths.specs.Segment.{knownType, segmentOf, pathOf, asnsOf}
@@ -65,7 +67,7 @@ use Rattle.updates.specs.declared.UpdateAnswer.{UpdateAnswer}
 use Rattle.updates.specs.declared.UpdateAnswer.the-variants as U
 use Rattle.update_writer.specs.Body.{totalOf, bodyAnswer, sized, ifWritable}
 use Rattle.firmware.specs.Word.{fieldSize, given, refused, Narrow}
-use Rattle.firmware.specs.Answers.{bit, messageFields, partFields, updateFields, listFields, pathFields, routesWritten, messageWritten, asnsWritten}
+use Rattle.firmware.specs.Answers.{bit, messageFields, partFields, updateFields, listFields, pathFields, aggregatorSize, aggregatorFields, routesWritten, messageWritten, asnsWritten}
 
 pub refused-narrow : (n : ℕ) → Narrow (refused n)
 refused-narrow n = record { a = omega arith; b = omega arith; c = omega arith }
@@ -272,6 +274,14 @@ module _ (s : List ℕ) where
   strict-narrow =
       strict-cases s (λ a. Narrow (messageFields a)) refused-narrow messageLimit
       (λ h. message-by (kindOf s) (claimedOf s) (claimedOf s) false false (ltb (claimedOf s) (length s)) (h .known) (omega (arith, h .within)) (omega arith))
+
+-- ---- AGGREGATORs
+
+pub aggregator-narrow : (a : AggregatorAnswer) (places : ℕ) → Narrow (aggregatorFields a places)
+aggregator-narrow (G.Aggregator asn identifier differs) places =
+    pick-any Narrow (ltb places aggregatorSize) (refused noRoom) (given aggregatorSize (bit differs) 0) (refused-narrow noRoom)
+    (record { a = omega arith; b = omega (arith, bit-small differs); c = omega arith })
+aggregator-narrow (G.Refused n) places = refused-narrow n
 
 -- ---- writers
 

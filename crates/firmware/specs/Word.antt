@@ -17,7 +17,7 @@ given a b c = fields a b c 0
 abbrev pub refused : ℕ → Fields
 refused n = fields 0 0 0 n
 
--- a field goes up to this
+-- a field is under this
 abbrev pub fieldSize : ℕ
 fieldSize = 65536
 

@@ -1,4 +1,4 @@
--- Each field is read back from a word, so two answers never share one.
+-- Each field is read back from its word, as include/doorbramble.h does it, so other fields have another word.
 -- Assumes nothing.
 use Prim.Native.Nat.{ℕ, _/_, _%_}
 use mathlib.Core.Path.{_≡_, sym, ap, _∙_}
