@@ -1,6 +1,9 @@
 use mathlib.Core.Path.{sym, _∙_}
 use native.Mathlib.Omega.{arith}
 use Rattle.updates.specs.Body.{attributesAt}
+use Rattle.updates.specs.declared.PartsAnswer.the-variants.{Parts}
+use Rattle.firmware.specs.Word.{Narrow}
+use Rattle.firmware.specs.Answers.{partFields}
 use Rattle.firmware.specs.Bounds.{part-narrow}
 use borrow.Author.Needs.{needs}
 use Rattle.firmware.proofs.doorbramble_attribute_part.Statement.{statement}
@@ -12,17 +15,21 @@ update-parts-requires c κs = search needs
 enum-known-withdrawn : tie.Need-enum-known-withdrawn
 enum-known-withdrawn c = search needs
 
+-- the section is in the body
+narrow : (c : tie.After-known-told) → let p = c .before .withdrawn .given .0 in Narrow (partFields attributesAt (Parts (p .0) (p .1 .0) (p .1 .1 .0)))
+narrow c = part-narrow attributesAt _ _ _ _ _ (omega arith) (c .before .before .before .update-parts .ensures) (c .before .withdrawn .given .1)
+
 add-word : tie.Need-add-word
-add-word c = omega (arith, part-narrow attributesAt _ _ _ _ _ (omega arith) (c .before .before .before .update-parts .ensures) (c .before .withdrawn .given .1))
+add-word c = omega (arith, narrow c)
 
 add-word-2 : tie.Need-add-word-2
-add-word-2 c = omega (arith, part-narrow attributesAt _ _ _ _ _ (omega arith) (c .before .before .before .update-parts .ensures) (c .before .withdrawn .given .1))
+add-word-2 c = omega (arith, narrow c)
 
 cast-word : tie.Need-cast-word
-cast-word c = omega (arith, part-narrow attributesAt _ _ _ _ _ (omega arith) (c .before .before .before .update-parts .ensures) (c .before .withdrawn .given .1))
+cast-word c = omega (arith, narrow c)
 
 cast-word-2 : tie.Need-cast-word-2
-cast-word-2 c = omega (arith, part-narrow attributesAt _ _ _ _ _ (omega arith) (c .before .before .before .update-parts .ensures) (c .before .withdrawn .given .1))
+cast-word-2 c = omega (arith, narrow c)
 
 word-requires : tie.Need-word-requires
 word-requires c κs = search needs
