@@ -72,12 +72,18 @@ INLINE void write8(uint8_t *to, uint64_t number) {
 
 // ---- Route lists ----
 
-INLINE unsigned most_bits(bool ipv6) { return ipv6 ? 128 : 32; }
+INLINE uint32_t most_bits(bool ipv6) { return ipv6 ? 128 : 32; }
 
-INLINE size_t octets_of(unsigned bits) { return (bits + 7) >> 3; }
+INLINE uint32_t octets_of(uint32_t bits) { return (bits + 7) >> 3; }
+
+// The bytes of an id, if there is one.
+INLINE uint32_t head_of(bool id) { return id ? 4 : 0; }
+
+// The bytes of an item with `head` bytes before its length.
+INLINE uint32_t item_bytes(uint32_t bits, uint32_t head) { return (bits + 8 * head + 15) >> 3; }
 
 // The first octets of a word of four.
-INLINE uint32_t mask4(size_t octets) { return (uint32_t)(0xFFFFFFFF00000000u >> (8 * octets)); }
+INLINE uint32_t mask4(uint32_t octets) { return (uint32_t)(0xFFFFFFFF00000000u >> (8 * octets)); }
 
 // The first octets of sixteen, as two words of eight.
 static const uint64_t first_mask[17] = {
@@ -105,21 +111,20 @@ static const uint64_t second_mask[17] = {
 
 // Whether a well-formed item with an id begins at `at`.
 INLINE bool item_with_id(const uint8_t *s, size_t n, size_t at, bool ipv6) {
-    return n - at >= 5 && s[at + 4] <= most_bits(ipv6) && n - at - 5 >= octets_of(s[at + 4]);
+    return n - at >= 5 && s[at + 4] <= most_bits(ipv6) && n - at >= item_bytes(s[at + 4], 4);
 }
 
-// The rows of a list whose items have `head` bytes before the length, or the refusal.
-INLINE uint64_t count_items(const uint8_t *s, size_t n, bool ipv6, size_t head) {
+// The rows of a list whose items have `head` bytes before the length, or the refusal. An item that is not all there is
+// the last: it alone leaves the place elsewhere than at the end.
+INLINE uint64_t count_items(const uint8_t *s, size_t n, bool ipv6, uint32_t head) {
     size_t at = 0, rows = 0;
-    while (at < n) {
-        if (n - at <= head) return refused(TOO_SHORT);
-        unsigned bits = s[at + head];
+    while (at + head < n) {
+        uint32_t bits = s[at + head];
         if (bits > most_bits(ipv6)) return refused(BAD_PREFIX_LENGTH);
-        at += head + 1 + octets_of(bits);
-        if (at > n) return refused(TOO_SHORT);
+        at += item_bytes(bits, head);
         rows++;
     }
-    return rows;
+    return at == n ? rows : refused(TOO_SHORT);
 }
 
 INLINE uint64_t count_guessed(const uint8_t *s, size_t n, bool ipv6) {
@@ -128,11 +133,11 @@ INLINE uint64_t count_guessed(const uint8_t *s, size_t n, bool ipv6) {
     while (at < n) {
         tagged |= s[at] == 0;
         if (tagged && item_with_id(s, n, at, ipv6)) {
-            at += 5 + octets_of(s[at + 4]);
+            at += item_bytes(s[at + 4], 4);
         } else {
             tagged = false;
             if (s[at] > most_bits(ipv6)) return refused(BAD_PREFIX_LENGTH);
-            at += 1 + octets_of(s[at]);
+            at += item_bytes(s[at], 0);
             if (at > n) return refused(TOO_SHORT);
         }
         rows++;
@@ -141,7 +146,7 @@ INLINE uint64_t count_guessed(const uint8_t *s, size_t n, bool ipv6) {
 }
 
 INLINE uint64_t count_list(const uint8_t *s, size_t n, bool ipv6, form form) {
-    return form == GUESS ? count_guessed(s, n, ipv6) : count_items(s, n, ipv6, form == WITH_ID ? 4 : 0);
+    return form == GUESS ? count_guessed(s, n, ipv6) : count_items(s, n, ipv6, head_of(form == WITH_ID));
 }
 
 INLINE void put_row(uint32_t *row, uint32_t first, uint32_t id, uint64_t address, uint64_t rest) {
@@ -153,28 +158,26 @@ INLINE void put_row(uint32_t *row, uint32_t first, uint32_t id, uint64_t address
     row[5] = (uint32_t)rest;
 }
 
-// The row of a checked item; `last` where its address may end within 16 (IPv4: 4) bytes of the end.
-INLINE size_t fill_item(const uint8_t *s, size_t at, bool ipv6, bool id, bool last, uint32_t *row) {
-    uint32_t path = id ? read4(s + at) : 0;
-    at += id ? 4 : 0;
-    unsigned bits = s[at++];
-    size_t octets = octets_of(bits);
-    uint32_t first = bits + (id ? HAS_ID : 0);
+// Puts the row of a checked item; `last` where its address may end within 16 (IPv4: 4) bytes of the end.
+INLINE size_t fill_item(const uint8_t *restrict s, size_t at, bool ipv6, bool id, bool last, uint32_t *restrict row) {
+    uint32_t bits = s[at + head_of(id)];
+    uint32_t octets = octets_of(bits);
+    uint32_t first = bits + (id ? HAS_ID : 0), path = id ? read4(s + at) : 0;
     uint8_t copied[16] = {0};
-    const uint8_t *address = s + at;
+    const uint8_t *address = s + at + head_of(id) + 1;
     if (last) {
-        for (size_t i = 0; i < octets; i++) copied[i] = address[i];
+        for (uint32_t i = 0; i < octets; i++) copied[i] = address[i];
         address = copied;
     }
     if (ipv6)
         put_row(row, first, path, read8(address) & first_mask[octets], read8(address + 8) & second_mask[octets]);
     else
         put_row(row, first, path, (uint64_t)(read4(address) & mask4(octets)) << 32, 0);
-    return at + octets;
+    return at + item_bytes(bits, head_of(id));
 }
 
 // The bytes of the longest item.
-INLINE size_t longest(bool ipv6, bool id) { return (id ? 4 : 0) + 1 + (ipv6 ? 16 : 4); }
+INLINE uint32_t longest(bool ipv6, bool id) { return item_bytes(most_bits(ipv6), head_of(id)); }
 
 INLINE void fill_items(const uint8_t *s, size_t n, bool ipv6, bool id, uint32_t *store) {
     size_t at = 0;
@@ -410,11 +413,11 @@ INLINE uint64_t measure_rows(const uint32_t *rows, size_t places, bool ipv6, boo
     for (const uint32_t *row = rows, *end = rows + places; row < end; row += ROW) {
         uint32_t bits = row[0] - (id ? HAS_ID : 0);
         if (bits > most_bits(ipv6) || (!id && row[1])) return refused(NOT_WRITABLE);
-        size_t octets = octets_of(bits);
+        uint32_t octets = octets_of(bits);
         uint64_t first = ipv6 ? first_mask[octets] : (uint64_t)mask4(octets) << 32;
         uint64_t second = ipv6 ? second_mask[octets] : 0;
         if ((joined(row + 2) & ~first) | (joined(row + 4) & ~second)) return refused(NOT_WRITABLE);
-        bytes += (id ? 5 : 1) + octets;
+        bytes += item_bytes(bits, head_of(id));
     }
     return bytes;
 }
@@ -425,10 +428,10 @@ INLINE uint8_t *write_row(const uint32_t *row, bool ipv6, bool id, bool last, ui
         out += 4;
     }
     uint8_t bits = (uint8_t)row[0];
-    size_t octets = octets_of(bits);
+    uint32_t octets = octets_of(bits);
     *out++ = bits;
     if (last) {
-        for (size_t i = 0; i < octets; i++) out[i] = (uint8_t)(row[2 + i / 4] >> (24 - 8 * (i % 4)));
+        for (uint32_t i = 0; i < octets; i++) out[i] = (uint8_t)(row[2 + i / 4] >> (24 - 8 * (i % 4)));
     } else if (ipv6) {
         write8(out, joined(row + 2));
         write8(out + 8, joined(row + 4));
@@ -465,23 +468,31 @@ uint64_t plain_encode_nlri_prefixes(const uint32_t *rows, size_t places, uint8_t
     return bytes;
 }
 
-// The bytes of a path to write, or the refusal.
+// The first refusal of a path to write that has one.
+static uint64_t path_refusal(const uint32_t *pairs, size_t pair_places, const uint32_t *numbers, size_t width) {
+    for (size_t i = 0; i < pair_places; i += 2) {
+        if (pairs[i] < 1 || pairs[i] > 4) return refused(BAD_SEGMENT_TYPE);
+        if (pairs[i + 1] > 255) return refused(LONG_SEGMENT);
+        for (uint32_t j = 0; j < pairs[i + 1]; j++)
+            if (*numbers++ > 0xFFFF && width == 2) return refused(WIDE_NUMBER);
+    }
+    return 0;
+}
+
+// The bytes of a path to write, or the refusal. The order of refusals matters only where there is one.
 INLINE uint64_t measure_path(const uint32_t *pairs, size_t pair_places, const uint32_t *numbers, size_t count,
                              size_t width) {
     if (pair_places % 2) return refused(NOT_WRITABLE);
     uint64_t counted = 0;
-    for (size_t i = 1; i < pair_places; i += 2) counted += pairs[i];
-    if (counted != count) return refused(NOT_WRITABLE);
+    bool good = true;
     for (size_t i = 0; i < pair_places; i += 2) {
-        if (pairs[i] < 1 || pairs[i] > 4) return refused(BAD_SEGMENT_TYPE);
-        if (pairs[i + 1] > 255) return refused(LONG_SEGMENT);
-        if (width == 2) {
-            uint32_t any = 0;
-            for (uint32_t j = 0; j < pairs[i + 1]; j++) any |= numbers[j];
-            if (any > 0xFFFF) return refused(WIDE_NUMBER);
-            numbers += pairs[i + 1];
-        }
+        counted += pairs[i + 1];
+        good &= pairs[i] - 1 < 4 && pairs[i + 1] <= 255;
     }
+    if (counted != count) return refused(NOT_WRITABLE);
+    uint32_t any = 0;
+    for (size_t i = 0; width == 2 && i < count; i++) any |= numbers[i];
+    if (!good || any > 0xFFFF) return path_refusal(pairs, pair_places, numbers, width);
     return pair_places + width * count;
 }
 

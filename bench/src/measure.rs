@@ -19,8 +19,8 @@ pub struct Effort {
 }
 
 impl Effort {
-    pub const FULL: Effort = Effort { rounds: 61, turn: Duration::from_micros(4_000) };
-    pub const QUICK: Effort = Effort { rounds: 11, turn: Duration::from_micros(1_000) };
+    pub const FULL: Effort = Effort { rounds: 151, turn: Duration::from_micros(1_500) };
+    pub const QUICK: Effort = Effort { rounds: 25, turn: Duration::from_micros(500) };
 }
 
 /// The seconds of a batch of each side, a row for each round.
@@ -52,8 +52,9 @@ impl Times {
     }
 }
 
-/// Runs a side until its turn is over; the seconds of a batch.
+/// Runs a side's turn, after a batch that is not counted; the seconds of a batch.
 fn turn(side: &mut Side, batches: u32) -> f64 {
+    side();
     let total: Duration = (0..batches).map(|_| side()).sum();
     total.as_secs_f64() / f64::from(batches)
 }
