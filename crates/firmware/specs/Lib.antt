@@ -1,0 +1,5 @@
+pub mod Settings
+pub mod Word
+pub mod Answers
+pub mod WordLaws
+pub mod Bounds
