@@ -350,27 +350,27 @@ uint64_t plain_parse_bgp_message_strict(const uint8_t *s, size_t n) {
 
 INLINE uint64_t count_path(const uint8_t *s, size_t n, size_t width) {
     size_t at = 0, segments = 0, numbers = 0;
-    while (at < n) {
-        if (n - at < 2) return refused(TOO_SHORT);
-        unsigned kind = s[at], count = s[at + 1];
-        if (n - at - 2 < width * count) return refused(TOO_SHORT);
-        if (kind < 1 || kind > 4) return refused(BAD_SEGMENT_TYPE);
-        at += 2 + width * count;
+    while (at + 1 < n) {
+        size_t kind = s[at], count = s[at + 1];
+        at += 2;
+        if (n - at < width * count) return refused(TOO_SHORT);
+        if (kind - 1 > 3) return refused(BAD_SEGMENT_TYPE);
+        at += width * count;
         segments++;
         numbers += count;
     }
-    return answer(segments, numbers, 0);
+    return at == n ? answer(segments, numbers, 0) : refused(TOO_SHORT);
 }
 
-INLINE void fill_path(const uint8_t *s, size_t n, size_t width, uint32_t *restrict pairs,
+INLINE void fill_path(const uint8_t *restrict s, size_t n, uint32_t width, uint32_t *restrict pairs,
                       uint32_t *restrict numbers) {
     const uint8_t *end = s + n;
     while (s < end) {
-        unsigned count = s[1];
+        uint32_t count = s[1];
         *pairs++ = s[0];
         *pairs++ = count;
         s += 2;
-        for (unsigned i = 0; i < count; i++) numbers[i] = width == 4 ? read4(s + 4 * i) : read2(s + 2 * i);
+        for (uint32_t i = 0; i < count; i++) numbers[i] = width == 4 ? read4(s + 4 * i) : read2(s + 2 * i);
         s += width * count;
         numbers += count;
     }
@@ -414,9 +414,9 @@ INLINE uint64_t measure_rows(const uint32_t *rows, size_t places, bool ipv6, boo
         uint32_t bits = row[0] - (id ? HAS_ID : 0);
         if (bits > most_bits(ipv6) || (!id && row[1])) return refused(NOT_WRITABLE);
         uint32_t octets = octets_of(bits);
-        uint64_t first = ipv6 ? first_mask[octets] : (uint64_t)mask4(octets) << 32;
-        uint64_t second = ipv6 ? second_mask[octets] : 0;
-        if ((joined(row + 2) & ~first) | (joined(row + 4) & ~second)) return refused(NOT_WRITABLE);
+        uint64_t past = ipv6 ? (joined(row + 2) & ~first_mask[octets]) | (joined(row + 4) & ~second_mask[octets])
+                             : (row[2] & ~mask4(octets)) | row[3] | row[4] | row[5];
+        if (past) return refused(NOT_WRITABLE);
         bytes += item_bytes(bits, head_of(id));
     }
     return bytes;

@@ -12,6 +12,12 @@ use records::{Request, ADD_PATH, FOUR_BYTE_AS, GUESS, STRICT};
 /// Small lists in a batch, so that no list is learnt by heart.
 const SMALL_LISTS: usize = 256;
 
+/// Paths of 64 KB in a batch, for the same reason: the counts of their segments are guessed by a processor.
+const LARGE_PATHS: usize = 4;
+
+/// Calls in a batch of those that take a few nanoseconds, so that reading the clock does not count.
+const TINY_CALLS: usize = 2_048;
+
 /// What a case is, which says how much of the crate's time it may take.
 #[derive(Clone, Copy)]
 pub enum Kind {
@@ -22,6 +28,8 @@ pub enum Kind {
     Write,
     /// The request names no share of the crate's time for it.
     Other,
+    /// The crate has no call that does the same work.
+    WithoutCrate,
 }
 
 impl Kind {
@@ -31,7 +39,7 @@ impl Kind {
             Kind::ReadTen => Some(0.20),
             Kind::Count => Some(0.15),
             Kind::Path | Kind::Write => Some(0.33),
-            Kind::Other => None,
+            Kind::Other | Kind::WithoutCrate => None,
         }
     }
 }
@@ -40,11 +48,9 @@ pub struct Case {
     pub name: String,
     pub kind: Kind,
     pub calls: Calls,
-    /// Whether the crate's call does the same work.
-    pub has_crate: bool,
 }
 
-/// The same work in one call of 64 KB and in ten of 6.4 KB.
+/// The same work in calls of 64 KB and in ten times as many of 6.4 KB.
 pub struct Growth {
     pub name: String,
     pub large: Calls,
@@ -102,36 +108,33 @@ impl<'a> Cases<'a> {
             for asked in requests {
                 compare_timed(name, asked);
             }
-            let has_crate = !matches!(requests[0].op, 9) || name.contains("framing");
-            let calls = Calls::new(requests, Lending::Same);
-            self.cases.push(Case { name: name.to_string(), kind, calls, has_crate });
+            let calls = Calls::new(&often_enough(requests), Lending::Same);
+            self.cases.push(Case { name: name.to_string(), kind, calls });
         }
     }
 
-    fn add_growth(&mut self, name: &str, large: &Request, small: &[Request]) {
+    fn add_growth(&mut self, name: &str, large: &[Request], small: &[Request]) {
         let name = format!("growth: {name}");
         if self.wants(&name) {
-            for asked in small.iter().chain([large]) {
+            for asked in small.iter().chain(large) {
                 compare_timed(&name, asked);
             }
-            let large = Calls::new(std::slice::from_ref(large), Lending::Apart);
-            self.growths.push(Growth { name, large, small: Calls::new(small, Lending::Apart) });
+            let [large, small] = [large, small].map(|requests| Calls::new(requests, Lending::Apart));
+            self.growths.push(Growth { name, large, small });
         }
     }
 
-    /// Reading, counting and writing of a list or path at both sizes, and their growth.
-    fn sizes(&mut self, what: &str, (read, write): (Kind, bool), large: Request, small: Vec<Request>) {
-        let thing = if large.op == 2 { "list" } else { "path" };
-        let mut verbs: Vec<(&str, Kind, Request, Vec<Request>)> = vec![
-            ("read", read, large.clone(), small.clone()),
-            ("count", Kind::Count, inputs::counting(&large), small.iter().map(inputs::counting).collect()),
-        ];
+    /// Reading, counting and maybe writing of lists or paths at both sizes, and their growth.
+    fn sizes(&mut self, what: &str, read: Kind, write: bool, [large, small]: [Vec<Request>; 2]) {
+        let thing = if large[0].op == 2 { "list" } else { "path" };
+        let mut verbs: Vec<(&str, Kind, fn(&Request) -> Request)> =
+            vec![("read", read, Request::clone), ("count", Kind::Count, inputs::counting)];
         if write {
-            let small = small.iter().map(inputs::write_back).collect();
-            verbs.push(("write", Kind::Write, inputs::write_back(&large), small));
+            verbs.push(("write", Kind::Write, inputs::write_back));
         }
-        for (verb, kind, large, small) in verbs {
-            self.add(&format!("{verb} {thing}: {what}, 64 KB"), kind, std::slice::from_ref(&large));
+        for (verb, kind, asked) in verbs {
+            let [large, small] = [&large, &small].map(|reads| reads.iter().map(asked).collect::<Vec<_>>());
+            self.add(&format!("{verb} {thing}: {what}, 64 KB"), kind, &large);
             self.add(&format!("{verb} {thing}: {what}, 6.4 KB"), kind, &small);
             self.add_growth(&format!("{verb} {thing}: {what}"), &large, &small);
         }
@@ -155,8 +158,8 @@ impl<'a> Cases<'a> {
             let mut rng = Rng::new(seed as u64);
             let settings = inputs::settings(lengths, list_settings);
             let tenths: Vec<Vec<u8>> = (0..10).map(|_| lengths.tenth(&mut rng, with_id)).collect();
-            let small = tenths.iter().map(|list| inputs::read_list(list, settings)).collect();
-            self.sizes(what, (Kind::Read, write), inputs::read_list(&tenths.concat(), settings), small);
+            let reads = both_sizes(&tenths, |list| inputs::read_list(list, settings));
+            self.sizes(what, Kind::Read, write, reads);
         }
     }
 
@@ -228,46 +231,59 @@ impl<'a> Cases<'a> {
         for width in [4, 2] {
             let mut rng = Rng::new(300 + width as u64);
             let settings = inputs::width_setting(width);
-            let tenths: Vec<Vec<u8>> = (0..10).map(|_| inputs::path_tenth(&mut rng, width)).collect();
-            let small = tenths.iter().map(|value| inputs::read_path(value, settings)).collect();
-            let large = inputs::read_path(&tenths.concat(), settings);
-            self.sizes(&format!("{width} bytes"), (Kind::Path, true), large, small);
+            let tenths: Vec<Vec<u8>> = (0..10 * LARGE_PATHS).map(|_| inputs::path_tenth(&mut rng, width)).collect();
+            let reads = both_sizes(&tenths, |value| inputs::read_path(value, settings));
+            self.sizes(&format!("{width} bytes"), Kind::Path, true, reads);
         }
         let aggregators = inputs::captured(self.captures, 8);
         let lent: Vec<Request> = aggregators.iter().map(|read| Request { room_a: 2, ..read.clone() }).collect();
         self.add("read AGGREGATOR: captures", Kind::Other, &lent);
     }
 
+    /// The crate's reader of a message reads its body too. A KEEPALIVE has none to read, whatever its length: so the
+    /// frames of the captured messages, as KEEPALIVEs, are what the crate can be asked.
     fn headers(&mut self) {
-        let messages: Vec<&Capture> = self.captures.iter().collect();
-        let reads = |settings| messages.iter().map(|message| on_bytes(9, settings, (0, 0), &message.bytes)).collect();
+        let messages: Vec<&[u8]> = self.captures.iter().map(|capture| capture.bytes.as_slice()).collect();
+        let reads = |settings| messages.iter().map(|message| on_bytes(9, settings, (0, 0), message)).collect();
         let (crate_reading, strict): (Vec<Request>, Vec<Request>) = (reads(0), reads(STRICT));
-        let mut framing = crate_reading.clone();
-        framing.retain(|read| read.parts[0].len() <= 4_096);
-        framing.iter_mut().for_each(|read| read.parts[0][18] = 4);
-        self.add("header: framing of the captures", Kind::Other, &framing);
-        self.add("header: captures", Kind::Other, &crate_reading);
-        self.add("header: captures, strict", Kind::Other, &strict);
+        let mut keepalives = crate_reading.clone();
+        keepalives.retain(|read| read.parts[0].len() <= 4_096);
+        keepalives.iter_mut().for_each(|read| read.parts[0][18] = 4);
+        self.add("header: captures as KEEPALIVEs", Kind::Other, &keepalives);
+        self.add("header: captures", Kind::WithoutCrate, &crate_reading);
+        self.add("header: captures, strict", Kind::WithoutCrate, &strict);
     }
 
     fn other_writers(&mut self) {
-        let values: Vec<Request> = inputs::captured(self.captures, 8);
-        let aggregators: Vec<Request> = values
-            .iter()
-            .map(|read| {
-                let found = model::answer(read).numbers;
-                let four = read.parts[0].len() == 8;
-                let settings = if four { FOUR_BYTE_AS } else { 0 };
-                let value = words(&[found[0] as u32, found[1] as u32]);
-                request(15, settings, (8, 0), [value, vec![], vec![]], 0)
-            })
-            .collect();
+        let aggregators: Vec<Request> = inputs::captured(self.captures, 8).iter().map(write_aggregator).collect();
         self.add("write AGGREGATOR: captures", Kind::Write, &aggregators);
-        let empty = request(16, 0, (19, 0), Default::default(), 4);
-        self.add("write message: KEEPALIVE", Kind::Write, &vec![empty; SMALL_LISTS]);
-        let notices: Vec<Request> = self.captures.iter().map(notification).collect();
-        self.add("write message: NOTIFICATIONs as long as the captures", Kind::Write, &notices);
+        let keepalive = request(16, 0, (19, 0), Default::default(), 4);
+        self.add("write message: KEEPALIVE", Kind::Write, &vec![keepalive; SMALL_LISTS]);
+        let notifications: Vec<Request> = self.captures.iter().map(notification).collect();
+        self.add("write message: NOTIFICATIONs as long as the captures", Kind::Write, &notifications);
     }
+}
+
+/// The request that writes the AGGREGATOR that this one reads.
+fn write_aggregator(read: &Request) -> Request {
+    let found = model::answer(read).numbers;
+    let settings = inputs::width_setting(read.parts[0].len() - 4);
+    let value = words(&[found[0] as u32, found[1] as u32]);
+    request(15, settings, (8, 0), [value, vec![], vec![]], 0)
+}
+
+/// Requests of tiny calls again and again.
+fn often_enough(requests: &[Request]) -> Vec<Request> {
+    let bytes: usize = requests.iter().map(|asked| asked.parts[0].len()).sum();
+    let is_tiny = matches!(requests[0].op, 7..=9 | 15 | 16) && bytes / requests.len() < 1_000;
+    let times = if is_tiny { TINY_CALLS.div_ceil(requests.len()) } else { 1 };
+    requests.iter().cycle().take(times * requests.len()).cloned().collect()
+}
+
+/// Requests to read ten tenths at a time as a whole, and each alone.
+fn both_sizes(tenths: &[Vec<u8>], read: impl Fn(&[u8]) -> Request) -> [Vec<Request>; 2] {
+    let large = tenths.chunks(10).map(|ten| read(&ten.concat())).collect();
+    [large, tenths.iter().map(|tenth| read(tenth)).collect()]
 }
 
 fn ten_lists(rng: &mut Rng, lengths: Lengths, with_id: bool) -> Vec<Vec<u8>> {

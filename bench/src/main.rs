@@ -1,4 +1,4 @@
-//! bench [--quick] [--compare N] [PART..]: measures the cases whose name has one of the parts (all without any), and
+//! bench [--quick] [PART..]: measures the cases whose name has one of the parts (all without any), and
 //! prints tables in Markdown. CAPTURES names the file of captured messages. ./run builds it and runs it.
 
 mod answers;
@@ -10,14 +10,17 @@ mod sides;
 mod table;
 
 use cases::Cases;
-use compare::inputs::captures;
+use compare::inputs::captures::{self, Capture};
 use compare::inputs::Inputs;
 use measure::Effort;
 use std::path::Path;
 use std::process::ExitCode;
 
-/// Requests of the comparison that both libraries answer as the model does, refused ones too, before any timing.
+/// Requests of the comparison, good, damaged and refused, that all sides answer alike before any timing.
 const COMPARED: u64 = 20_000;
+
+/// What they are made from.
+const SEED: u64 = 7;
 
 fn main() -> ExitCode {
     let arguments: Vec<String> = std::env::args().skip(1).collect();
@@ -28,22 +31,21 @@ fn main() -> ExitCode {
         _ => panic!("bench [--quick] [PART..]"),
     };
     let path = std::env::var("CAPTURES").expect("CAPTURES names the file of captured messages");
-    let captured = captures::load(Path::new(&path)).expect("a file of captured messages");
+    let captured = || captures::load(Path::new(&path)).expect("a file of captured messages");
 
     crate_oracle::oracle::warnings::record_from_now_on();
-    compare_more(&path);
-    let made = Cases::new(&wanted, &captured);
+    compare_more(captured());
+    let made = Cases::new(&wanted, &captured());
     // From here on the crate's warnings are off, as for a user without a logger.
     log::set_max_level(log::LevelFilter::Off);
     table::measure(made, effort)
 }
 
-/// Compares answers on requests of the comparison, good, damaged and refused.
-fn compare_more(path: &str) {
-    let captured = captures::load(Path::new(path)).expect("a file of captured messages");
-    let mut inputs = Inputs::new(7, captured);
+/// Compares answers on requests of the comparison that have a call: good, damaged and refused.
+fn compare_more(captured: Vec<Capture>) {
+    let mut inputs = Inputs::new(SEED, captured);
     let mut compared = 0;
-    for _ in 0..COMPARED {
+    while compared < COMPARED {
         let asked = inputs.next();
         if answers::has_call(asked.op) {
             cases::compare("comparison", &asked, &asked);

@@ -52,15 +52,14 @@ impl Times {
     }
 }
 
-/// Runs a side's turn, after a batch that is not counted; the seconds of a batch.
-fn turn(side: &mut Side, batches: u32) -> f64 {
+/// Runs a side's turn, after a batch that is not counted; the seconds of its median batch.
+fn turn(side: &mut Side, batches: usize) -> f64 {
     side();
-    let total: Duration = (0..batches).map(|_| side()).sum();
-    total.as_secs_f64() / f64::from(batches)
+    spread((0..batches).map(|_| side().as_secs_f64()).collect()).median
 }
 
 /// Warms a side up for a turn or more; the batches that fill a turn.
-fn batches(side: &mut Side, length: Duration) -> u32 {
+fn batches(side: &mut Side, length: Duration) -> usize {
     let mut total = Duration::ZERO;
     let mut done = 0;
     while total < length {
@@ -72,7 +71,7 @@ fn batches(side: &mut Side, length: Duration) -> u32 {
 
 /// Alternates the sides; who begins changes with each round.
 pub fn alternate(sides: &mut [Side], effort: Effort) -> Times {
-    let sizes: Vec<u32> = sides.iter_mut().map(|side| batches(side, effort.turn)).collect();
+    let sizes: Vec<usize> = sides.iter_mut().map(|side| batches(side, effort.turn)).collect();
     let mut times = vec![];
     for round in 0..effort.rounds {
         let mut seconds = vec![0.0; sides.len()];

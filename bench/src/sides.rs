@@ -183,28 +183,21 @@ impl Calls {
         self.calls[0].request.has(STRICT)
     }
 
-    /// The side of the crate; none for what it has no call for.
-    pub fn by_crate(&self) -> Option<Side> {
+    /// The side of the crate.
+    pub fn by_crate(&self) -> Side {
         let afi = family(&self.calls[0].request);
         match self.op() {
-            2 | 3 => Some(self.owning(move |bytes, request| {
-                drop(black_box(parse_nlri_list(bytes, request.has(ADD_PATH), &afi)));
-            })),
-            6 | 7 => Some(self.owning(|bytes, request| drop(black_box(Inside::parse_as_path(bytes, &width(request)))))),
-            8 => Some(self.owning(|bytes, request| drop(black_box(Inside::parse_aggregator(bytes, &width(request)))))),
-            9 if self.is_strict() => None,
-            9 => Some(self.owning(|mut bytes, request| {
-                drop(black_box(parse_bgp_message(&mut bytes, request.has(ADD_PATH), &width(request))));
-            })),
-            10 | 11 => Some(self.owning(|bytes, request| {
-                drop(black_box(parse_bgp_update_message(bytes, request.has(ADD_PATH), &width(request))));
-            })),
-            _ => Some(self.crate_writers()),
+            2 | 3 => self.owning(move |bytes, call| parse_nlri_list(bytes, call.has(ADD_PATH), &afi)),
+            6 | 7 => self.owning(|bytes, call| Inside::parse_as_path(bytes, &width(call))),
+            8 => self.owning(|bytes, call| Inside::parse_aggregator(bytes, &width(call))),
+            9 => self.owning(|mut bytes, call| parse_bgp_message(&mut bytes, call.has(ADD_PATH), &width(call))),
+            10 | 11 => self.owning(|bytes, call| parse_bgp_update_message(bytes, call.has(ADD_PATH), &width(call))),
+            _ => self.crate_writers(),
         }
     }
 
     /// A batch of a reader of the crate, which owns the handle of its bytes. Handles are made before the clock starts.
-    fn owning(&self, call: impl Fn(Bytes, &Request) + 'static) -> Side {
+    fn owning<T>(&self, call: impl Fn(Bytes, &Request) -> T + 'static) -> Side {
         let own = self.clone();
         let given: Vec<Bytes> = own.calls.iter().map(|call| Bytes::from(call.s().to_vec())).collect();
         let mut handles = Vec::with_capacity(given.len());
@@ -212,7 +205,7 @@ impl Calls {
             handles.extend(given.iter().cloned());
             timed(|| {
                 for (bytes, each) in handles.drain(..).zip(own.calls.iter()) {
-                    call(black_box(bytes), &each.request);
+                    drop(black_box(call(black_box(bytes), &each.request)));
                 }
             })
         })
@@ -220,19 +213,16 @@ impl Calls {
 
     fn crate_writers(&self) -> Side {
         match self.op() {
-            13 => writing(self.values_of(|call| prefixes(&call.words[0], &call.request)), |prefixes, _| {
-                drop(black_box(encode_nlri_prefixes(prefixes)));
-            }),
-            14 => writing(self.values_of(|call| path(&call.words[0], &call.words[1])), |path, width| {
+            13 => writing(self.values_of(prefixes), |prefixes, _| encode_nlri_prefixes(prefixes)),
+            14 => writing(self.values_of(path), |path, width| {
                 let mut output = BytesMut::new();
-                Inside::encode_as_path(path, width, &mut output).expect("a writable path");
-                drop(black_box(output));
+                Inside::encode_as_path(path, width, &mut output).map(|()| output)
             }),
             15 => writing(self.values_of(aggregator), |(asn, address), width| {
-                drop(black_box(Inside::encode_aggregator(asn, address, width)));
+                Inside::encode_aggregator(asn, address, width)
             }),
-            16 => writing(self.values_of(message), |message, width| drop(black_box(message.encode(width)))),
-            _ => writing(self.values_of(update), |update, width| drop(black_box(update.encode(width)))),
+            16 => writing(self.values_of(message), |message, width| message.encode(width)),
+            _ => writing(self.values_of(update), |update, width| update.encode(width)),
         }
     }
 
@@ -243,11 +233,11 @@ impl Calls {
 }
 
 /// A batch of a writer of the crate.
-fn writing<T: 'static>(values: Vec<(T, AsnLength)>, call: impl Fn(&T, AsnLength) + 'static) -> Side {
+fn writing<T: 'static, R>(values: Vec<(T, AsnLength)>, call: impl Fn(&T, AsnLength) -> R + 'static) -> Side {
     Box::new(move || {
         timed(|| {
             for (value, width) in &values {
-                call(black_box(value), *width);
+                drop(black_box(call(black_box(value), *width)));
             }
         })
     })
@@ -269,12 +259,13 @@ fn family(request: &Request) -> Afi {
     }
 }
 
-fn prefixes(rows: &[u32], request: &Request) -> Vec<NetworkPrefix> {
-    routes::prefixes(rows, request.has(ADD_PATH), family(request)).expect("writable rows")
+fn prefixes(call: &Call) -> Vec<NetworkPrefix> {
+    let request = &call.request;
+    routes::prefixes(&call.words[0], request.has(ADD_PATH), family(request)).expect("writable rows")
 }
 
-fn path(pairs: &[u32], numbers: &[u32]) -> AsPath {
-    paths::path(pairs, numbers).expect("a writable path")
+fn path(call: &Call) -> AsPath {
+    paths::path(&call.words[0], &call.words[1]).expect("a writable path")
 }
 
 fn aggregator(call: &Call) -> (Asn, IpAddr) {

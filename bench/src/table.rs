@@ -1,6 +1,6 @@
 //! Measures the cases and prints a line for each.
 
-use crate::cases::{Case, Cases, Growth};
+use crate::cases::{Case, Cases, Growth, Kind};
 use crate::library::{Ours, Plain};
 use crate::measure::{alternate, Effort, Spread};
 use std::process::ExitCode;
@@ -52,14 +52,15 @@ fn verdict(good: bool) -> &'static str {
 /// Measures a case and prints its line; whether it is within its targets.
 fn case_line(case: Case, effort: Effort) -> bool {
     let mut sides = vec![case.calls.library::<Ours>(), case.calls.library::<Plain>()];
-    let by_crate = if case.has_crate { case.calls.by_crate() } else { None };
-    let has_crate = by_crate.is_some();
-    sides.extend(by_crate);
+    let has_crate = !matches!(case.kind, Kind::WithoutCrate);
+    if has_crate {
+        sides.push(case.calls.by_crate());
+    }
     let times = alternate(&mut sides, effort);
     let ns = |side| format!("{:.1}", times.of(side).median * 1e9 / case.calls.count() as f64);
     let of_plain = times.ratio(OURS, PLAIN);
     let of_crate = has_crate.then(|| times.ratio(OURS, CRATE));
-    let most = if has_crate { case.kind.of_crate() } else { None };
+    let most = case.kind.of_crate();
     let crate_good = of_crate.zip(most).is_none_or(|(ratio, most)| ratio.median <= most);
     let good = crate_good && of_plain.median <= OF_PLAIN;
     let dash = || "-".to_string();
@@ -83,7 +84,7 @@ fn growth_line(growth: Growth, effort: Effort) -> bool {
     let mut sides =
         [large.library::<Ours>(), small.library::<Ours>(), large.library::<Plain>(), small.library::<Plain>()];
     let times = alternate(&mut sides, effort);
-    let tenths = small.count() as f64;
+    let tenths = small.count() as f64 / large.count() as f64;
     let grown = |large, small| {
         let ratio = times.ratio(large, small);
         Spread { low: ratio.low * tenths, median: ratio.median * tenths, high: ratio.high * tenths }
