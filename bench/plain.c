@@ -85,29 +85,19 @@ INLINE uint32_t item_bytes(uint32_t bits, uint32_t head) { return (bits + 8 * he
 // The first octets of a word of four.
 INLINE uint32_t mask4(uint32_t octets) { return (uint32_t)(0xFFFFFFFF00000000u >> (8 * octets)); }
 
-// The first octets of sixteen, as two words of eight.
-static const uint64_t first_mask[17] = {
-    0,
-    0xFF00000000000000,
-    0xFFFF000000000000,
-    0xFFFFFF0000000000,
-    0xFFFFFFFF00000000,
-    0xFFFFFFFFFF000000,
-    0xFFFFFFFFFFFF0000,
-    0xFFFFFFFFFFFFFF00,
+// At i + 8, the mask of the first i octets of eight: none up to 8, all from 16 on.
+// clang-format off
+static const uint64_t octet_masks[25] = {
+    0, 0, 0, 0, 0, 0, 0, 0, 0,
+    0xFF00000000000000, 0xFFFF000000000000, 0xFFFFFF0000000000, 0xFFFFFFFF00000000,
+    0xFFFFFFFFFF000000, 0xFFFFFFFFFFFF0000, 0xFFFFFFFFFFFFFF00,
     ~0ull, ~0ull, ~0ull, ~0ull, ~0ull, ~0ull, ~0ull, ~0ull, ~0ull,
 };
-static const uint64_t second_mask[17] = {
-    0, 0, 0, 0, 0, 0, 0, 0, 0,
-    0xFF00000000000000,
-    0xFFFF000000000000,
-    0xFFFFFF0000000000,
-    0xFFFFFFFF00000000,
-    0xFFFFFFFFFF000000,
-    0xFFFFFFFFFFFF0000,
-    0xFFFFFFFFFFFFFF00,
-    ~0ull,
-};
+// clang-format on
+
+// The first octets of sixteen, as two words of eight.
+INLINE uint64_t mask16(uint32_t octets) { return octet_masks[8 + octets]; }
+INLINE uint64_t rest16(uint32_t octets) { return octet_masks[octets]; }
 
 // Whether a well-formed item with an id begins at `at`.
 INLINE bool item_with_id(const uint8_t *s, size_t n, size_t at, bool ipv6) {
@@ -170,7 +160,7 @@ INLINE size_t fill_item(const uint8_t *restrict s, size_t at, bool ipv6, bool id
         address = copied;
     }
     if (ipv6)
-        put_row(row, first, path, read8(address) & first_mask[octets], read8(address + 8) & second_mask[octets]);
+        put_row(row, first, path, read8(address) & mask16(octets), read8(address + 8) & rest16(octets));
     else
         put_row(row, first, path, (uint64_t)(read4(address) & mask4(octets)) << 32, 0);
     return at + item_bytes(bits, head_of(id));
@@ -194,8 +184,7 @@ INLINE size_t fill_guessed_item(const uint8_t *s, size_t n, size_t at, bool ipv6
 INLINE void fill_guessed(const uint8_t *s, size_t n, bool ipv6, uint32_t *store) {
     size_t at = 0;
     bool tagged = false;
-    for (; at + longest(ipv6, true) <= n; store += ROW)
-        at = fill_guessed_item(s, n, at, ipv6, &tagged, false, store);
+    for (; at + longest(ipv6, true) <= n; store += ROW) at = fill_guessed_item(s, n, at, ipv6, &tagged, false, store);
     for (; at < n; store += ROW) at = fill_guessed_item(s, n, at, ipv6, &tagged, true, store);
 }
 
@@ -414,7 +403,7 @@ INLINE uint64_t measure_rows(const uint32_t *rows, size_t places, bool ipv6, boo
         uint32_t bits = row[0] - (id ? HAS_ID : 0);
         if (bits > most_bits(ipv6) || (!id && row[1])) return refused(NOT_WRITABLE);
         uint32_t octets = octets_of(bits);
-        uint64_t past = ipv6 ? (joined(row + 2) & ~first_mask[octets]) | (joined(row + 4) & ~second_mask[octets])
+        uint64_t past = ipv6 ? (joined(row + 2) & ~mask16(octets)) | (joined(row + 4) & ~rest16(octets))
                              : (row[2] & ~mask4(octets)) | row[3] | row[4] | row[5];
         if (past) return refused(NOT_WRITABLE);
         bytes += item_bytes(bits, head_of(id));

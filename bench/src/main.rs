@@ -31,11 +31,12 @@ fn main() -> ExitCode {
         _ => panic!("bench [--quick] [PART..]"),
     };
     let path = std::env::var("CAPTURES").expect("CAPTURES names the file of captured messages");
-    let captured = || captures::load(Path::new(&path)).expect("a file of captured messages");
+    let load = || captures::load(Path::new(&path)).expect("a file of captured messages");
+    let captured = load();
 
     crate_oracle::oracle::warnings::record_from_now_on();
-    compare_more(captured());
-    let made = Cases::new(&wanted, &captured());
+    compare_more(load());
+    let made = Cases::new(&wanted, &captured);
     // From here on the crate's warnings are off, as for a user without a logger.
     log::set_max_level(log::LevelFilter::Off);
     table::measure(made, effort)
