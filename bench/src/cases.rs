@@ -44,6 +44,9 @@ impl Kind {
     }
 }
 
+/// A list to measure: its name, how long its prefixes are, whether they have ids, and the settings to read it with.
+type ListKind = (&'static str, Lengths, bool, u8);
+
 pub struct Case {
     pub name: String,
     pub kind: Kind,
@@ -65,25 +68,26 @@ pub struct Cases<'a> {
 }
 
 /// Compares the answers of all sides to a request; stops the run at a difference. The crate is asked by a request of
-/// its own, and is left out where it has no answer.
-pub fn compare(name: &str, asked: &Request, of_crate: &Request) {
+/// its own, and is left out where it has no answer. Whether it had one.
+pub fn compare(name: &str, asked: &Request, of_crate: &Request) -> bool {
     let ours = answers::answer::<Ours>(asked);
     let mut others = vec![("plain C", answers::answer::<Plain>(asked)), ("model", model::answer(asked))];
     others.extend(crate_oracle::oracle::answer(of_crate).map(|answer| ("crate", answer)));
-    for (other, answer) in others {
-        if answer != ours {
+    for (other, answer) in &others {
+        if *answer != ours {
             let bytes: String = asked.parts[0].iter().take(80).map(|byte| format!("{byte:02X}")).collect();
             panic!("{name}: ours and {other} differ on op {} settings {} {bytes}", asked.op, asked.settings);
         }
     }
+    others.len() == 3
 }
 
 /// Compares a request to be timed. The crate has one reading without Add-Path, that with the guess: it is what is
-/// timed, so it must come to the same here.
-fn compare_timed(name: &str, asked: &Request) {
+/// timed, so it must come to the same here. Whether the crate answered.
+fn compare_timed(name: &str, asked: &Request) -> bool {
     let list = matches!(asked.op, 2 | 3 | 10 | 11) && !asked.has(ADD_PATH);
     let settings = asked.settings | if list { GUESS } else { 0 };
-    compare(name, asked, &Request { settings, ..asked.clone() });
+    compare(name, asked, &Request { settings, ..asked.clone() })
 }
 
 impl<'a> Cases<'a> {
@@ -106,7 +110,8 @@ impl<'a> Cases<'a> {
     fn add(&mut self, name: &str, kind: Kind, requests: &[Request]) {
         if self.wants(name) {
             for asked in requests {
-                compare_timed(name, asked);
+                let by_crate = compare_timed(name, asked);
+                assert!(by_crate || matches!(kind, Kind::WithoutCrate), "{name}: the crate has no answer");
             }
             let calls = Calls::new(&often_enough(requests), Lending::Same);
             self.cases.push(Case { name: name.to_string(), kind, calls });
@@ -141,40 +146,40 @@ impl<'a> Cases<'a> {
     }
 
     fn lists(&mut self) {
-        let kinds: [(&str, Lengths, bool, u8, bool); 11] = [
-            ("/24s", Lengths::All24, false, 0, true),
-            ("mixed lengths", Lengths::Table4, false, 0, true),
-            ("lengths 1 to 32 alike", Lengths::Alike4, false, 0, false),
-            ("IPv6", Lengths::Table6, false, 0, true),
-            ("Add-Path /24s", Lengths::All24, true, ADD_PATH, true),
-            ("Add-Path IPv6", Lengths::Table6, true, ADD_PATH, true),
-            ("guess, /24s", Lengths::All24, false, GUESS, false),
-            ("guess, /24s with ids", Lengths::All24, true, GUESS, false),
-            ("guess, mixed lengths and defaults", Lengths::Defaults4, false, GUESS, false),
-            ("guess, IPv6", Lengths::Table6, false, GUESS, false),
-            ("guess, IPv6 with ids", Lengths::Table6, true, GUESS, false),
+        let kinds: [ListKind; 11] = [
+            ("/24s", Lengths::All24, false, 0),
+            ("mixed lengths", Lengths::Table4, false, 0),
+            ("lengths 1 to 32 alike", Lengths::Alike4, false, 0),
+            ("IPv6", Lengths::Table6, false, 0),
+            ("Add-Path /24s", Lengths::All24, true, ADD_PATH),
+            ("Add-Path IPv6", Lengths::Table6, true, ADD_PATH),
+            ("guess, /24s", Lengths::All24, false, GUESS),
+            ("guess, /24s with ids", Lengths::All24, true, GUESS),
+            ("guess, mixed lengths and defaults", Lengths::Defaults4, false, GUESS),
+            ("guess, IPv6", Lengths::Table6, false, GUESS),
+            ("guess, IPv6 with ids", Lengths::Table6, true, GUESS),
         ];
-        for (seed, (what, lengths, with_id, list_settings, write)) in kinds.into_iter().enumerate() {
+        for (seed, (what, lengths, with_id, list_settings)) in kinds.into_iter().enumerate() {
             let mut rng = Rng::new(seed as u64);
             let settings = inputs::settings(lengths, list_settings);
             let tenths: Vec<Vec<u8>> = (0..10).map(|_| lengths.tenth(&mut rng, with_id)).collect();
             let reads = both_sizes(&tenths, |list| inputs::read_list(list, settings));
-            self.sizes(what, Kind::Read, write, reads);
+            self.sizes(what, Kind::Read, list_settings != GUESS, reads);
         }
     }
 
     /// Lists of ten prefixes.
     fn ten(&mut self) {
-        let kinds: [(&str, Lengths, bool, u8, bool); 7] = [
-            ("/24s", Lengths::All24, false, 0, true),
-            ("mixed lengths", Lengths::Table4, false, 0, true),
-            ("IPv6", Lengths::Table6, false, 0, true),
-            ("Add-Path mixed lengths", Lengths::Table4, true, ADD_PATH, true),
-            ("Add-Path IPv6", Lengths::Table6, true, ADD_PATH, true),
-            ("guess, mixed lengths", Lengths::Table4, false, GUESS, false),
-            ("guess, mixed lengths with ids", Lengths::Table4, true, GUESS, false),
+        let kinds: [ListKind; 7] = [
+            ("/24s", Lengths::All24, false, 0),
+            ("mixed lengths", Lengths::Table4, false, 0),
+            ("IPv6", Lengths::Table6, false, 0),
+            ("Add-Path mixed lengths", Lengths::Table4, true, ADD_PATH),
+            ("Add-Path IPv6", Lengths::Table6, true, ADD_PATH),
+            ("guess, mixed lengths", Lengths::Table4, false, GUESS),
+            ("guess, mixed lengths with ids", Lengths::Table4, true, GUESS),
         ];
-        for (seed, (what, lengths, with_id, list_settings, write)) in kinds.into_iter().enumerate() {
+        for (seed, (what, lengths, with_id, list_settings)) in kinds.into_iter().enumerate() {
             let mut rng = Rng::new(100 + seed as u64);
             let settings = inputs::settings(lengths, list_settings);
             let lists = ten_lists(&mut rng, lengths, with_id);
@@ -182,7 +187,7 @@ impl<'a> Cases<'a> {
             self.add(&format!("read list: ten {what}"), Kind::ReadTen, &reads);
             let counts: Vec<Request> = reads.iter().map(inputs::counting).collect();
             self.add(&format!("count list: ten {what}"), Kind::Count, &counts);
-            if write {
+            if list_settings != GUESS {
                 let writes: Vec<Request> = reads.iter().map(inputs::write_back).collect();
                 self.add(&format!("write list: ten {what}"), Kind::Write, &writes);
             }
