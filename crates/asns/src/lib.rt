@@ -77,8 +77,8 @@ pub fn put_number(out: &mut [u8], to: usize, asn: u32, width: AsnLength)
         return;
     }
     match width {
-        AsnLength::Bits16 => wire::put_u16(out, to, asn as u16),
-        AsnLength::Bits32 => wire::put_octets(out, to, asn, 4),
+        AsnLength::Bits16 => outputs::put_u16(out, to, asn as u16),
+        AsnLength::Bits32 => outputs::put_octets(out, to, asn, 4),
     }
 }
 
@@ -135,7 +135,7 @@ fn encode_in(asn: u32, identifier: u32, width: AsnLength, out: &mut [u8]) -> Wri
         return WriteAnswer::Refused(refusal::NO_ROOM);
     }
     put_number(out, 0, asn, width);
-    wire::put_octets(out, w, identifier, 4);
+    outputs::put_octets(out, w, identifier, 4);
     WriteAnswer::Written(w + 4)
 }
 

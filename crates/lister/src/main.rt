@@ -46,14 +46,14 @@ fn add_line(out: &mut [u8], put: usize, nth: u64, slot: &[u8], mode: AddPath) ->
     requires { ⌜ put ≤ length (now out) ⌝ }
     ensures { λ r. ⌜ r ≤ length (now (out .entry)) ⌝ }
 {
-    put + slots::put_line(nth, slot, mode, &mut out[put..])
+    put + slot_table::put_line(nth, slot, mode, &mut out[put..])
 }
 
 fn add_stop(out: &mut [u8], put: usize, nth: u64) -> usize
     requires { ⌜ put ≤ length (now out) ⌝ }
     ensures { λ r. ⌜ r ≤ length (now (out .entry)) ⌝ }
 {
-    put + slots::put_stop(nth, &mut out[put..])
+    put + slot_table::put_stop(nth, &mut out[put..])
 }
 
 // The lines of the records in hand, as many as the output has room for. No input has 2^64 records, so that their number does not wrap.
@@ -64,7 +64,7 @@ fn lines(bytes: &[u8], last: bool, first: u64, out: &mut [u8]) -> Block
     let mut used: usize = 0;
     let mut put: usize = 0;
     let mut nth = first;
-    while slots::LINE_ROOM <= out.len() - put {
+    while slot_table::LINE_ROOM <= out.len() - put {
         match slots::next_slot(&bytes[used..], last) {
             SlotAnswer::Slot { kept, mode } => {
                 let start = used + slots::RECORD_SIZE;
@@ -127,7 +127,7 @@ fn list(input: &mut [u8], out: &mut [u8]) {
     let mut last = false;
     let mut nth: u64 = 1;
     let mut turns: u64 = 18446744073709551615;
-    let heading = slots::put_heading(out);
+    let heading = slot_table::put_heading(out);
     if !write(out, heading) {
         return;
     }

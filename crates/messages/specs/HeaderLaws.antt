@@ -7,13 +7,15 @@ use mathlib.Core.Bool.{Bool, true, false, not}
 use native.Mathlib.Nat.{le-min, min-le-right}
 use native.Mathlib.Omega.{arith}
 use borrow.Author.Tests.{eq-eqb, ne-eqb, le-ltb, ltb-false, not-false}
+use denote.Ref.{RefT}
 use lib.ListN.{length, getD, drop}
 use lib.Dec.{eqb, ltb}
 use Rattle.wire.specs.Choice.{pick, pick-any, pick-eqb, pick-unless}
+use Rattle.wire.specs.Extent.{PartOf}
 use Rattle.wire.specs.Number.{be, padded, Bytes}
 use Rattle.wire.specs.NumberLaws.{padded-cells, padded-add, padded-take}
 use Rattle.wire.specs.Refusal.{truncated, messageLength, messageType, shortBody, badMarker}
-use Rattle.messages.specs.Header.{openKind, updateKind, notificationKind, keepaliveKind, routeRefreshKind, messageLimit, extendedLimit, markerSize, allFF, isOutside, isUnknown, headerSize, crateLimit, leastLength, mostLength, messageOf, strictWithin, markerOf, claimedOf, kindOf, takenOf, accepted, whole, Fits}
+use Rattle.messages.specs.Header.{openKind, updateKind, notificationKind, keepaliveKind, routeRefreshKind, messageLimit, extendedLimit, markerSize, allFF, isOutside, isUnknown, headerSize, crateLimit, leastLength, mostLength, messageOf, strictWithin, markerOf, claimedOf, kindOf, takenOf, accepted, whole, bodyAt, Fits}
 use Rattle.messages.specs.declared.MessageAnswer.{MessageAnswer}
 use Rattle.messages.specs.declared.MessageAnswer.the-variants.{Refused}
 
@@ -207,3 +209,7 @@ message-fits s =
 
 pub strict-fits : (limit : ℕ) (s : List ℕ) → Fits (strictWithin limit s) (length s)
 strict-fits limit s = strict-cases s (λ a. Fits a (length s)) (λ n. omega arith) limit (λ h. (h .claims, h .there))
+
+-- the body of an answer that a reading gave is the body of that reading
+pub body-by : (reading : MessageAnswer) (found : MessageAnswer) (s r : RefT (List ℕ)) → found ≡ reading → PartOf s (bodyAt found) r → PartOf s (bodyAt reading) r
+body-by reading found s r e h = rw (sym e) h

@@ -269,7 +269,7 @@ pub fn message_body(s: &[u8]) -> &[u8]
 pub fn message_body_strict(s: &[u8]) -> &[u8]
     ensures { λ r. ⌜ PartOf (s .entry) (bodyAt (strictOf (now (s .entry)))) r ⌝ }
 {
-    body_part(s, parse_bgp_message_strict(s))
+    body_part(s, parse_within(s, MESSAGE_LIMIT))
 }
 
 // A header of an all-FF marker, at the front of the output.
@@ -277,11 +277,11 @@ fn put_header(out: &mut [u8], total: usize, kind: u8)
     requires { ⌜ (total ≤ extendedLimit) × (headerSize ≤ length (now out)) ⌝ }
     ensures { λ _. ⌜ now (out .exit) ≡ laid (now (out .entry)) 0 (header total kind) ⌝ }
 {
-    wire::put_octets(out, 0, ALL_ONES, 4);
-    wire::put_octets(out, 4, ALL_ONES, 4);
-    wire::put_octets(out, 8, ALL_ONES, 4);
-    wire::put_octets(out, 12, ALL_ONES, 4);
-    wire::put_octets(
+    outputs::put_octets(out, 0, ALL_ONES, 4);
+    outputs::put_octets(out, 4, ALL_ONES, 4);
+    outputs::put_octets(out, 8, ALL_ONES, 4);
+    outputs::put_octets(out, 12, ALL_ONES, 4);
+    outputs::put_octets(
         out,
         LENGTH_AT,
         (total as u32) * 65536 + (kind as u32) * 256,
@@ -308,6 +308,6 @@ pub fn encode_bgp_message(kind: u8, body: &[u8], out: &mut [u8]) -> WriteAnswer
         return WriteAnswer::Refused(refusal::NO_ROOM);
     }
     put_header(out, total, kind);
-    wire::copy_at(out, HEADER_SIZE, body);
+    outputs::copy_at(out, HEADER_SIZE, body);
     WriteAnswer::Bytes(total)
 }

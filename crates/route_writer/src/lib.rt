@@ -143,13 +143,13 @@ fn put_address(out: &mut [u8], to: usize, n: usize, max: u8, w0: u32, w1: u32, w
     requires { ⌜ (to + n ≤ length (now out)) × (n ≤ octets max) ⌝ }
     ensures { λ _. ⌜ now (out .exit) ≡ laid (now (out .entry)) to (take n (fourWords w0 w1 w2 w3)) ⌝ }
 {
-    wire::put_octets(out, to, w0, n);
+    outputs::put_octets(out, to, w0, n);
     if max <= 32 {
         return;
     }
-    wire::put_octets(out, to + 4, w1, left(n, 4));
-    wire::put_octets(out, to + 8, w2, left(n, 8));
-    wire::put_octets(out, to + 12, w3, left(n, 12));
+    outputs::put_octets(out, to + 4, w1, left(n, 4));
+    outputs::put_octets(out, to + 8, w2, left(n, 8));
+    outputs::put_octets(out, to + 12, w3, left(n, 12));
 }
 
 // The bytes of the row at the front, at a place of the output.
@@ -163,7 +163,7 @@ fn put_row(ws: &[u32], max: u8, form: Form, out: &mut [u8], to: usize) -> usize
     let len = (ws[0] - families::mark_of(form)) as u8;
     let n = families::octet_count(len);
     let k = families::id_size(form);
-    wire::put_octets(out, to, ws[1], k);
+    outputs::put_octets(out, to, ws[1], k);
     let at = to + k;
     out[at] = len;
     put_address(out, at + 1, n, max, ws[2], ws[3], ws[4], ws[5]);

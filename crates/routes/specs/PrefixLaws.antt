@@ -13,7 +13,7 @@ use Rattle.wire.specs.NumberLaws.{padded-take}
 use Rattle.wire.specs.Parts.{drop-take}
 use Rattle.wire.specs.Refusal.{truncated, prefixLength}
 use Rattle.families.specs.Family.{idSize, markOf, octets}
-use Rattle.routes.specs.Prefix.{itemEnd, rowOf, itemRow, prefixOf}
+use Rattle.routes.specs.Prefix.{wordAt, itemEnd, rowOf, itemRow, prefixOf}
 use Rattle.families.specs.declared.Form.{Form}
 use Rattle.routes.specs.declared.Row.{Row}
 use Rattle.routes.specs.declared.PrefixAnswer.{PrefixAnswer}

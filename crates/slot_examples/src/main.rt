@@ -53,16 +53,16 @@ fn lines(out: &mut [u8]) {
     text(b"places ");
     number(out.len());
     text(b"\n");
-    let heading = slots::put_heading(out);
+    let heading = slot_table::put_heading(out);
     shown(out, heading);
-    let line = slots::put_line(
+    let line = slot_table::put_line(
         18446744073709551615,
         b"\xFF\xFF\xFF\xFF\xFF\xFF\xFF\xFF\xFF\xFF\xFF\xFF\xFF\xFF\xFF\xFF\x00\x13\x04",
         AddPath::Off,
         out,
     );
     shown(out, line);
-    let stop = slots::put_stop(18446744073709551615, out);
+    let stop = slot_table::put_stop(18446744073709551615, out);
     shown(out, stop);
 }
 

@@ -1,7 +1,4 @@
 pub mod Slot
 pub mod SlotLaws
-pub mod Line
-pub mod Growth
-pub mod LineLaws
 pub mod Theorems
 pub mod Tight

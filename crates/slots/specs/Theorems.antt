@@ -1,11 +1,9 @@
--- What the definitions say, apart from the code: a record is found again, however the input is cut into blocks, and a line's numbers are
--- those that it was made of.
+-- What the definitions say, apart from the code: a record is found again, however the input is cut into blocks.
 -- Assumes nothing.
-use Prim.Native.Nat.{ℕ, zero, suc, _+_, _-_, _*_, _^_, _/_, _%_, _≤_, _<_}
+use Prim.Native.Nat.{ℕ, _+_, _≤_, _<_}
 use mathlib.Core.Path.{_≡_, refl, sym, ap, ap₂, _∙_}
 use mathlib.Core.List.{List, [], _∷_, _++_}
 use mathlib.Core.Bool.{Bool, true, false}
-use native.Mathlib.Nat.{pow-succ'}
 use native.Mathlib.Omega.{arith}
 use borrow.Author.Tests.{lt-leb, le-ltb, ltb-false, ne-eqb, eqb-false}
 use lib.ListN.{length, getD, take, drop, length-append, List·getD-append}
@@ -15,7 +13,6 @@ use Rattle.wire.specs.Choice.{pick, pick-any, pick-leb}
 use Rattle.wire.specs.Number.{be, beAt, toBe}
 use Rattle.wire.specs.NumberLaws.{be-toBe, padded-cells}
 use Rattle.slots.specs.Slot.{markFirst, markSecond, recordSize, settingsLimit, found, differs, overSettings, modeOf, keptOf, slotOf}
-use Rattle.slots.specs.Line.{digits}
 use Rattle.slots.specs.declared.SlotAnswer.{SlotAnswer}
 use Rattle.slots.specs.declared.SlotAnswer.the-variants.{Slot, More, Stop, End}
 
@@ -131,25 +128,3 @@ module _ (settings : ℕ) (kept : List ℕ) (s : settings ≤ settingsLimit) (k 
 
   pub record-rest : (rest : List ℕ) → drop (recordSize + length kept) (recordOf settings kept ++ rest) ≡ rest
   record-rest rest = drop-at (recordOf settings kept) rest (recordSize + length kept) long
-
--- ---- numbers
-
--- the number that digits stand for, after one that was read before them
-abbrev pub numeral : ℕ → List ℕ → ℕ
-numeral n [] = n
-numeral n (d ∷ ds) = numeral (n * 10 + (d - 48)) ds
-
-digits-value : (f n : ℕ) (acc : List ℕ) → n < 10 ^ f → numeral 0 (digits f n acc) ≡ numeral n acc
-unfolding digits
-digits-value zero n acc h = let z : n ≡ 0 = omega arith in ap (λ (m : ℕ). numeral m acc) (sym z)
-digits-value (suc f) n acc h =
-    let less : n < 10 * 10 ^ f = rw pow-succ' at h in
-    let one : 0 * 10 + (48 + n - 48) ≡ n = omega arith in
-    let last : n / 10 * 10 + (48 + n % 10 - 48) ≡ n = omega arith in
-    pick-both (λ (l : List ℕ). numeral 0 l ≡ numeral n acc) (ltb n 10) _ _
-    (λ _. ap (λ (m : ℕ). numeral m acc) one)
-    (λ _. digits-value f (n / 10) ((48 + n % 10) ∷ acc) (omega arith) ∙ ap (λ (m : ℕ). numeral m acc) last)
-
--- a number of 64 bits is what its digits stand for, so that no two have the same
-pub number-value : (n : ℕ) → n < 2 ^ 64 → numeral 0 (digits 20 n []) ≡ n
-number-value n h = digits-value 20 n [] (omega arith)

@@ -35,9 +35,9 @@ pub fn encode_bgp_update_message(
     ) {
         ListsAnswer::Lists { first, second } => {
             let at = LENGTH_SIZE + first;
-            wire::put_u16(out, 0, first as u16);
-            wire::put_u16(out, at, attributes.len() as u16);
-            wire::copy_at(out, at + LENGTH_SIZE, attributes);
+            outputs::put_u16(out, 0, first as u16);
+            outputs::put_u16(out, at, attributes.len() as u16);
+            outputs::copy_at(out, at + LENGTH_SIZE, attributes);
             WriteAnswer::Bytes(at + LENGTH_SIZE + attributes.len() + second)
         }
         ListsAnswer::Refused(n) => WriteAnswer::Refused(n),

@@ -1,15 +1,16 @@
 -- Laws of the sections of a body.
 -- Assumes nothing.
-use Prim.Native.Nat.{ℕ, _+_, _-_, _≤_}
-use mathlib.Core.Path.{_≡_, sym, _∙_}
+use Prim.Native.Nat.{ℕ, _+_, _-_, _≤_, _<_}
+use mathlib.Core.Path.{_≡_, refl, sym, ap, ap₂, _∙_}
 use mathlib.Core.List.{List}
 use native.Mathlib.Omega.{arith}
-use borrow.Author.Tests.{le-ltb, ltb-false}
+use borrow.Author.Tests.{le-ltb, lt-ltb, ltb-false}
 use lib.ListN.{length}
 use lib.Dec.{ltb}
 use denote.Ref.{RefT}
-use Rattle.wire.specs.Choice.{pick-unless}
+use Rattle.wire.specs.Choice.{pick-any, pick-unless}
 use Rattle.wire.specs.Extent.{Extent, PartOf, clipped, clipped-fits}
+use Rattle.wire.specs.Number.{beAt}
 use Rattle.wire.specs.Refusal.{tooLong, truncated, bodyLimit}
 use Rattle.updates.specs.Body.{lengthSize, withdrawnSize, withdrawnEnd, attributesSize, attributesEnd, partsOf, withdrawnAt, announcedAt, withdrawnOf, announcedOf}
 use Rattle.updates.specs.declared.PartsAnswer.{PartsAnswer}
@@ -38,6 +39,33 @@ parts-by b small there =
       le-ltb (length b) (withdrawnEnd b + lengthSize) (omega arith),
       le-ltb (length b) (attributesEnd b) there,
     )
+
+-- one that ends before they do is refused
+pub parts-short : (b : List ℕ) → length b ≤ bodyLimit → length b < attributesEnd b → Refused truncated ≡ partsOf b
+unfolding partsOf
+parts-short b small short =
+    let P : PartsAnswer → Type 0 = λ p. Refused truncated ≡ p in
+    rw (le-ltb bodyLimit (length b) small)
+    (pick-any P (ltb (length b) lengthSize) _ _ refl
+    (pick-any P (ltb (length b) (withdrawnEnd b)) _ _ refl
+    (pick-any P (ltb (length b) (withdrawnEnd b + lengthSize)) _ _ refl
+    (rw (lt-ltb (length b) (attributesEnd b) short)))))
+
+-- where the attributes end, from the two lengths as they were read
+pub attributes-end : (b : List ℕ) (w a : ℕ) → w ≡ beAt b 0 lengthSize → a ≡ beAt b (lengthSize + w) lengthSize → lengthSize + w + lengthSize + a ≡ attributesEnd b
+attributes-end b w a e f =
+    let g : a ≡ attributesSize b = f ∙ ap (λ (n : ℕ). beAt b (lengthSize + n) lengthSize) e in
+    ap₂ (λ (m n : ℕ). lengthSize + m + lengthSize + n) e g
+
+-- and the answer from them
+pub parts-read : (b : List ℕ) (w a : ℕ) → w ≡ beAt b 0 lengthSize → a ≡ beAt b (lengthSize + w) lengthSize → length b ≤ bodyLimit → lengthSize + w + lengthSize + a ≤ length b
+    → Parts w a (length b - (lengthSize + w + lengthSize + a)) ≡ partsOf b
+parts-read b w a e f small there =
+    let end = attributes-end b w a e f in
+    let g : a ≡ attributesSize b = f ∙ ap (λ (n : ℕ). beAt b (lengthSize + n) lengthSize) e in
+    ap₂ (λ (m n : ℕ). Parts m n (length b - (lengthSize + w + lengthSize + a))) e g
+    ∙ ap (λ (n : ℕ). Parts (withdrawnSize b) (attributesSize b) (length b - n)) end
+    ∙ sym (parts-by b small (omega (arith, end)))
 
 -- the three lengths and the four length bytes add up to the body
 pub parts-add-up : (b : List ℕ) (w a n : ℕ) → partsOf b ≡ Parts w a n → (w + a + n + (lengthSize + lengthSize) ≡ length b) × (length b ≤ bodyLimit)

@@ -2,13 +2,7 @@
 -- Assumes nothing.
 use Prim.Native.Nat.{ℕ}
 use mathlib.Core.Path.{_≡_, sym, _∙_}
-use mathlib.Core.List.{List}
-use Rattle.wire.specs.Store.{placed}
 
 -- calls that answer a number, whatever the number that each names
 pub tight-number : (n a b : ℕ) → a ≡ n → b ≡ n → a ≡ b
 tight-number n a b e f = e ∙ sym f
-
--- calls that put values at a place of an output: every place of it
-pub tight-put : (out : List ℕ) (to : ℕ) (vs a b : List ℕ) → a ≡ placed out to vs → b ≡ placed out to vs → a ≡ b
-tight-put out to vs a b e f = e ∙ sym f

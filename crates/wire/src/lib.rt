@@ -1,10 +1,9 @@
-// Numbers as bytes at a place of a slice: reads that take every place, and writes that change nothing where there is no room.
+// Numbers as bytes at a place of a slice, and parts of a slice: reads that take every place.
 ghost use mathlib.Core.Path.{_≡_};
-ghost use Prim.Native.Nat.{_+_, _≤_, _<_, min, max};
+ghost use Prim.Native.Nat.{min, max};
 ghost use mathlib.Core.List.{[], _∷_};
-ghost use lib.ListN.{length, getD, take};
-ghost use Rattle.wire.specs.Number.{be, toBe, beAt};
-ghost use Rattle.wire.specs.Store.{placed};
+ghost use lib.ListN.{length, getD};
+ghost use Rattle.wire.specs.Number.{be, beAt};
 ghost use Rattle.wire.specs.Extent.{extent, clipped, PartOf};
 
 pub mod refusal;
@@ -81,79 +80,6 @@ pub fn u32_at(s: &[u8], at: usize) -> u32
         octet(s, at + 2),
         octet(s, at + 3),
     )
-}
-
-// The two bytes of a number, at a place of the output.
-pub fn put_u16(out: &mut [u8], to: usize, v: u16)
-    ensures { λ _. ⌜ now (out .exit) ≡ placed (now (out .entry)) to (toBe 2 v) ⌝ }
-{
-    if out.len() < to {
-        return;
-    }
-    if out.len() - to < 2 {
-        return;
-    }
-    out[to] = (v / 256) as u8;
-    out[to + 1] = (v % 256) as u8;
-}
-
-// The four bytes of a number, at a place of the output that is there.
-fn put4(out: &mut [u8], to: usize, v: u32)
-    requires { ⌜ to ≤ length (now out) ⌝ }
-    ensures { λ _. ⌜ now (out .exit) ≡ placed (now (out .entry)) to (toBe 4 v) ⌝ }
-{
-    if out.len() - to < 4 {
-        return;
-    }
-    out[to] = (v / 16777216) as u8;
-    out[to + 1] = (v / 65536 % 256) as u8;
-    out[to + 2] = (v / 256 % 256) as u8;
-    out[to + 3] = (v % 256) as u8;
-}
-
-// The first m of the four bytes of a number, at a place of the output.
-pub fn put_octets(out: &mut [u8], to: usize, v: u32, m: usize)
-    ensures { λ _. ⌜ now (out .exit) ≡ placed (now (out .entry)) to (take m (toBe 4 v)) ⌝ }
-{
-    if m == 0 {
-        return;
-    }
-    if out.len() < to {
-        return;
-    }
-    if 4 <= m {
-        put4(out, to, v);
-        return;
-    }
-    if out.len() - to < m {
-        return;
-    }
-    out[to] = (v / 16777216) as u8;
-    if m == 1 {
-        return;
-    }
-    out[to + 1] = (v / 65536 % 256) as u8;
-    if m == 2 {
-        return;
-    }
-    out[to + 2] = (v / 256 % 256) as u8;
-}
-
-// All of src, at a place of the output.
-pub fn copy_at(out: &mut [u8], to: usize, src: &[u8])
-    ensures { λ _. ⌜ now (out .exit) ≡ placed (now (out .entry)) to (now (src .entry)) ⌝ }
-{
-    if out.len() < to {
-        return;
-    }
-    if out.len() - to < src.len() {
-        return;
-    }
-    let mut i: usize = 0;
-    while i < src.len() {
-        out[to + i] = src[i];
-        i = i + 1;
-    }
 }
 
 // So many bytes from a place on, as a part of s; nothing where they are not all there.

@@ -20,7 +20,7 @@ differs-requires c κs = search needs
 returns-2 : tie.Need-returns-2
 returns-2 c =
     let a = c .before .before .before .before .before .before .args in
-    in-parts (a .value .now) (a .width) Bits32 _ _ _ (c .before .before .u32-at .ensures) (c .before .u32-at2 .ensures) (c .differs .ensures)
+    in-parts (a .value .now) (a .width) Bits32 _ _ _ (c .before .before .number-at .ensures) (c .before .u32-at .ensures) (c .differs .ensures)
     ∙ sym (of-eight (a .value .now) (a .width) (c .before .before .before .before .if1 .left) (c .before .before .before .if2 .taken))
 
 number-at-requires-2 : tie.Need-number-at-requires-2
@@ -35,7 +35,7 @@ differs-requires-2 c κs = search needs
 returns-3 : tie.Need-returns-3
 returns-3 c =
     let a = c .before .before .before .before .before .before .before .args in
-    in-parts (a .value .now) (a .width) Bits16 _ _ _ (c .before .before .u16-at .ensures) (c .before .u32-at3 .ensures) (c .differs2 .ensures)
+    in-parts (a .value .now) (a .width) Bits16 _ _ _ (c .before .before .number-at2 .ensures) (c .before .u32-at2 .ensures) (c .differs2 .ensures)
     ∙ sym (of-six (a .value .now) (a .width) (c .before .before .before .before .before .if1 .left) (c .before .before .before .before .if2 .left) (c .before .before .before .if3 .taken))
 
 returns-4 : tie.Need-returns-4

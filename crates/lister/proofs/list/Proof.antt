@@ -3,8 +3,8 @@ use mathlib.Core.Path.{_≡_}
 use native.Mathlib.Omega.{arith}
 use borrow.Author.Needs.{needs}
 use lib.ListN.{length}
-use Rattle.slots.specs.Line.{headingText}
-use Rattle.slots.specs.LineLaws.{put-within, heading-few}
+use Rattle.slot_table.specs.Line.{headingText}
+use Rattle.slot_table.specs.LineLaws.{put-within, heading-few}
 use Rattle.lister.proofs.list.Statement.{statement}
 use Rattle.lister.proofs.list.Tie as tie
 

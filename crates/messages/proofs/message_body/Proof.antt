@@ -1,4 +1,5 @@
-use Rattle.messages.specs.HeaderLaws.{message-fits}
+use Rattle.messages.specs.Header.{messageOf}
+use Rattle.messages.specs.HeaderLaws.{message-fits, body-by}
 use borrow.Author.Needs.{needs}
 use Rattle.messages.proofs.message_body.Statement.{statement}
 use Rattle.messages.proofs.message_body.Tie as tie
@@ -10,7 +11,7 @@ body-part-requires : tie.Need-body-part-requires
 body-part-requires c κs = rw (c .parse-bgp-message .ensures) (message-fits (c .before .before .args .s .now))
 
 returns : tie.Need-returns
-returns c = rw (← c .before .parse-bgp-message .ensures) (c .body-part .ensures)
+returns c = body-by (messageOf (c .before .before .before .args .s .now)) _ _ _ (c .before .parse-bgp-message .ensures) (c .body-part .ensures)
 
 pub message-body-spec : {M : Type 1} → statement M
 message-body-spec = tie.close (tie.spec parse-bgp-message-requires body-part-requires returns)

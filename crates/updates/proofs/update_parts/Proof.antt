@@ -1,16 +1,17 @@
-use borrow.Author.Tests.{lt-ltb, le-ltb}
+use native.Mathlib.Omega.{arith}
+use borrow.Author.Tests.{lt-ltb}
 use Rattle.updates.specs.Body.{partsOf}
+use Rattle.updates.specs.BodyLaws.{parts-short, attributes-end, parts-read}
 use borrow.Author.Needs.{needs}
 use Rattle.updates.proofs.update_parts.Statement.{statement}
 use Rattle.updates.proofs.update_parts.Tie as tie
 
 returns : tie.Need-returns
 unfolding partsOf
-returns c = simp (lt-ltb _ _ (c .if1 .taken))
+returns c = rw (lt-ltb _ _ (c .if1 .taken))
 
 returns-2 : tie.Need-returns-2
-unfolding partsOf
-returns-2 c = simp (le-ltb _ _ (c .before .if1 .left), lt-ltb _ _ (c .if2 .taken))
+returns-2 c = parts-short _ (c .before .if1 .left) (omega arith)
 
 u16-at-requires : tie.Need-u16-at-requires
 u16-at-requires c κs = search needs
@@ -22,17 +23,13 @@ add-at : tie.Need-add-at
 add-at c = search needs
 
 returns-3 : tie.Need-returns-3
-unfolding partsOf
-returns-3 c = rw (← c .before .u16-at .ensures) (simp (le-ltb _ _ (c .before .before .before .if1 .left), le-ltb _ _ (c .before .before .if2 .left), lt-ltb _ _ (c .if3 .taken)))
+returns-3 c = parts-short _ (c .before .before .before .if1 .left) (omega (arith, c .before .u16-at .ensures))
 
 add-if4 : tie.Need-add-if4
 add-if4 c = search needs
 
 returns-4 : tie.Need-returns-4
-unfolding partsOf
-returns-4 c =
-    let w = c .before .before in
-    rw (← w .u16-at .ensures) (simp (le-ltb _ _ (w .before .before .if1 .left), le-ltb _ _ (w .before .if2 .left), le-ltb _ _ (c .before .if3 .left), lt-ltb _ _ (c .if4 .taken)))
+returns-4 c = parts-short _ (c .before .before .before .before .if1 .left) (omega (arith, c .before .before .u16-at .ensures))
 
 u16-at-requires-2 : tie.Need-u16-at-requires-2
 u16-at-requires-2 c κs = search needs
@@ -47,18 +44,14 @@ add-end-2 : tie.Need-add-end-2
 add-end-2 c = search needs
 
 returns-5 : tie.Need-returns-5
-unfolding partsOf
 returns-5 c =
     let w = c .before .before .before .before in
-    rw (← w .u16-at .ensures, ← c .before .u16-at2 .ensures)
-    (simp (le-ltb _ _ (w .before .before .if1 .left), le-ltb _ _ (w .before .if2 .left), le-ltb _ _ (c .before .before .before .if3 .left), le-ltb _ _ (c .before .before .if4 .left), lt-ltb _ _ (c .if5 .taken)))
+    parts-short _ (w .before .before .if1 .left) (omega (arith, attributes-end _ _ _ (w .u16-at .ensures) (c .before .u16-at2 .ensures)))
 
 returns-6 : tie.Need-returns-6
-unfolding partsOf
 returns-6 c =
     let w = c .before .before .before .before in
-    rw (← w .u16-at .ensures, ← c .before .u16-at2 .ensures)
-    (simp (le-ltb _ _ (w .before .before .if1 .left), le-ltb _ _ (w .before .if2 .left), le-ltb _ _ (c .before .before .before .if3 .left), le-ltb _ _ (c .before .before .if4 .left), le-ltb _ _ (c .if5 .left)))
+    parts-read _ _ _ (w .u16-at .ensures) (c .before .u16-at2 .ensures) (w .before .before .if1 .left) (c .if5 .left)
 
 pub update-parts-spec : {M : Type 1} → statement M
 update-parts-spec =

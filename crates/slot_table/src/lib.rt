@@ -1,0 +1,274 @@
+// The table that is printed of slot records: the line of a record, by the crate's reading of its message and its routes counted.
+ghost use mathlib.Core.Path.{_≡_};
+ghost use mathlib.Core.List.{[], _∷_, _++_};
+ghost use Prim.Native.Nat.{_+_, _≤_};
+ghost use lib.ListN.{length, drop};
+ghost use Rattle.updates.specs.Update.{countUpdate, rowsIn, verdictIn};
+ghost use Rattle.slot_table.specs.Line.{numberRoom, stateRoom, fieldsRoom, sectionRoom, entryRoom, number, stateOf, space, lineEnd, refusedText, stateText, fieldsText, sectionText, updateEntry, entryOf, entryText, lineOf, headingText, stopText, putCount, putOut};
+ghost use Rattle.slot_table.specs.Growth.{Grown};
+use families::AddPath;
+use messages::MessageAnswer;
+use routes::ListAnswer;
+use updates::UpdateAnswer;
+
+// The most bytes of a line: an output to put one into has this many places.
+pub const LINE_ROOM: usize = 192;
+
+// The most bytes of a number of 64 bits and the byte after it.
+const NUMBER_ROOM: usize = 21;
+
+const SPACE: u8 = 0x20;
+
+const LINE_END: u8 = 0x0A;
+
+const SLASH: u8 = 0x2F;
+
+// Whether a message is all there and ends with the slot, claims more bytes than the slot has, or fewer.
+enum State {
+    Whole,
+    Cut,
+    Trailing,
+}
+
+// What a line says of a slot: a refusal number; an UPDATE with its two sections; or a message of another type.
+enum Entry {
+    Refused(u8),
+    Other {
+        kind: u8,
+        claimed: usize,
+        state: State,
+    },
+    Update {
+        claimed: usize,
+        state: State,
+        withdrawn: ListAnswer,
+        announced: ListAnswer,
+    },
+}
+
+// Puts the digits of n before the last byte of text, and answers where they start. 48 is the digit 0.
+fn spell(text: &mut [u8], n: u64) -> usize
+    requires { ⌜ length (now text) ≡ numberRoom ⌝ }
+    ensures { λ r. ⌜ (drop r (now (text .exit)) ≡ number n (drop 20 (now (text .entry)))) × (r ≤ numberRoom) ⌝ }
+{
+    let mut at: usize = 19;
+    let mut left = n;
+    while 10 <= left {
+        text[at] = 48 + (left % 10) as u8;
+        left = left / 10;
+        at = at - 1;
+    }
+    text[at] = 48 + left as u8;
+    at
+}
+
+// All of text, at a place of the output. Answers the place after it.
+fn put_text(out: &mut [u8], at: usize, text: &[u8]) -> usize
+    requires { ⌜ at + length (now text) ≤ length (now out) ⌝ }
+    ensures { λ r. ⌜ Grown (now (out .entry)) at (now (text .entry)) (now (out .exit)) r ⌝ }
+{
+    outputs::copy_at(out, at, text);
+    at + text.len()
+}
+
+// A number and the byte after it.
+fn put_number(out: &mut [u8], at: usize, n: u64, end: u8) -> usize
+    requires { ⌜ at + numberRoom ≤ length (now out) ⌝ }
+    ensures { λ r. ⌜ Grown (now (out .entry)) at (number n (end ∷ [])) (now (out .exit)) r ⌝ }
+{
+    let mut text = [end; NUMBER_ROOM];
+    let from = spell(&mut text, n);
+    put_text(out, at, &text[from..])
+}
+
+// The state's name and the space after it.
+fn put_state(out: &mut [u8], at: usize, state: State) -> usize
+    requires { ⌜ at + stateRoom ≤ length (now out) ⌝ }
+    ensures { λ r. ⌜ Grown (now (out .entry)) at (stateText state) (now (out .exit)) r ⌝ }
+{
+    match state {
+        State::Whole => put_text(out, at, b"whole "),
+        State::Cut => put_text(out, at, b"cut "),
+        State::Trailing => put_text(out, at, b"trailing "),
+    }
+}
+
+// Type, claimed length, kept bytes and state.
+fn put_fields(
+    out: &mut [u8],
+    at: usize,
+    kind: u8,
+    claimed: usize,
+    kept: usize,
+    state: State,
+) -> usize
+    requires { ⌜ at + fieldsRoom ≤ length (now out) ⌝ }
+    ensures { λ r. ⌜ Grown (now (out .entry)) at (fieldsText kind claimed kept state) (now (out .exit)) r ⌝ }
+{
+    let a = put_number(out, at, kind as u64, SPACE);
+    let b = put_number(out, a, claimed as u64, SPACE);
+    let c = put_number(out, b, kept as u64, SPACE);
+    put_state(out, c, state)
+}
+
+fn rows_in(a: ListAnswer) -> usize
+    ensures { λ r. ⌜ r ≡ rowsIn a ⌝ }
+{
+    match a {
+        ListAnswer::Rows(n) => n,
+        ListAnswer::Refused(_) => 0,
+    }
+}
+
+fn verdict_in(a: ListAnswer) -> u8
+    ensures { λ r. ⌜ r ≡ verdictIn a ⌝ }
+{
+    match a {
+        ListAnswer::Rows(_) => 0,
+        ListAnswer::Refused(n) => n,
+    }
+}
+
+// Rows and verdict of a section, and the byte after them.
+fn put_section(out: &mut [u8], at: usize, a: ListAnswer, end: u8) -> usize
+    requires { ⌜ at + sectionRoom ≤ length (now out) ⌝ }
+    ensures { λ r. ⌜ Grown (now (out .entry)) at (sectionText a end) (now (out .exit)) r ⌝ }
+{
+    let verdict = put_number(out, at, rows_in(a) as u64, SLASH);
+    put_number(out, verdict, verdict_in(a) as u64, end)
+}
+
+fn state_of(cut: bool, trailing: bool) -> State
+    ensures { λ r. ⌜ r ≡ stateOf cut trailing ⌝ }
+{
+    if cut {
+        return State::Cut;
+    }
+    if trailing {
+        return State::Trailing;
+    }
+    State::Whole
+}
+
+// What a line says of an UPDATE with that body.
+fn update_entry(body: &[u8], mode: AddPath, claimed: usize, state: State) -> Entry
+    ensures { λ r. ⌜ r ≡ updateEntry (countUpdate (now (body .entry)) mode) claimed state ⌝ }
+{
+    match updates::count_bgp_update_message(body, mode) {
+        UpdateAnswer::Update {
+            withdrawn,
+            announced,
+        } => Entry::Update {
+            claimed,
+            state,
+            withdrawn,
+            announced,
+        },
+        UpdateAnswer::Refused(n) => Entry::Refused(n),
+    }
+}
+
+// What a line says of a slot.
+fn entry_of(slot: &[u8], mode: AddPath) -> Entry
+    ensures { λ r. ⌜ r ≡ entryOf (now (slot .entry)) mode ⌝ }
+{
+    match messages::parse_bgp_message(slot) {
+        MessageAnswer::Message {
+            kind,
+            claimed,
+            taken: _,
+            marker: _,
+            cut,
+            trailing,
+        } => {
+            let state = state_of(cut, trailing);
+            if kind == messages::kind::UPDATE {
+                return update_entry(messages::message_body(slot), mode, claimed, state);
+            }
+            Entry::Other {
+                kind,
+                claimed,
+                state,
+            }
+        }
+        MessageAnswer::Refused(n) => Entry::Refused(n),
+    }
+}
+
+fn put_refused(out: &mut [u8], at: usize, n: u8) -> usize
+    requires { ⌜ at + entryRoom ≤ length (now out) ⌝ }
+    ensures { λ r. ⌜ Grown (now (out .entry)) at (refusedText ++ number n (lineEnd ∷ [])) (now (out .exit)) r ⌝ }
+{
+    let to = put_text(out, at, b"refused ");
+    put_number(out, to, n as u64, LINE_END)
+}
+
+fn put_sections(out: &mut [u8], at: usize, withdrawn: ListAnswer, announced: ListAnswer) -> usize
+    requires { ⌜ at + (sectionRoom + sectionRoom) ≤ length (now out) ⌝ }
+    ensures { λ r. ⌜ Grown (now (out .entry)) at (sectionText withdrawn space ++ sectionText announced lineEnd) (now (out .exit)) r ⌝ }
+{
+    let to = put_section(out, at, withdrawn, SPACE);
+    put_section(out, to, announced, LINE_END)
+}
+
+// A line after its record's number.
+fn put_entry(out: &mut [u8], at: usize, kept: usize, entry: Entry) -> usize
+    requires { ⌜ at + entryRoom ≤ length (now out) ⌝ }
+    ensures { λ r. ⌜ Grown (now (out .entry)) at (entryText kept entry) (now (out .exit)) r ⌝ }
+{
+    match entry {
+        Entry::Refused(n) => put_refused(out, at, n),
+        Entry::Other {
+            kind,
+            claimed,
+            state,
+        } => {
+            let to = put_fields(out, at, kind, claimed, kept, state);
+            put_text(out, to, b"- -\n")
+        }
+        Entry::Update {
+            claimed,
+            state,
+            withdrawn,
+            announced,
+        } => {
+            let to = put_fields(out, at, messages::kind::UPDATE, claimed, kept, state);
+            put_sections(out, to, withdrawn, announced)
+        }
+    }
+}
+
+// The line of a record, at the front of the output. Answers its length, and 0 where the output has fewer than LINE_ROOM places.
+pub fn put_line(nth: u64, slot: &[u8], mode: AddPath, out: &mut [u8]) -> usize
+    ensures answer { λ r. ⌜ r ≡ putCount (lineOf nth (now (slot .entry)) mode) (length (now (out .entry))) ⌝ }
+    ensures output { λ _. ⌜ now (out .exit) ≡ putOut (lineOf nth (now (slot .entry)) mode) (now (out .entry)) ⌝ }
+{
+    if out.len() < LINE_ROOM {
+        return 0;
+    }
+    let at = put_number(out, 0, nth, SPACE);
+    put_entry(out, at, slot.len(), entry_of(slot, mode))
+}
+
+// The line that ends a table early, likewise.
+pub fn put_stop(nth: u64, out: &mut [u8]) -> usize
+    ensures answer { λ r. ⌜ r ≡ putCount (stopText nth) (length (now (out .entry))) ⌝ }
+    ensures output { λ _. ⌜ now (out .exit) ≡ putOut (stopText nth) (now (out .entry)) ⌝ }
+{
+    if out.len() < LINE_ROOM {
+        return 0;
+    }
+    let at = put_text(out, 0, b"stop ");
+    put_number(out, at, nth, LINE_END)
+}
+
+// The heading of a table, likewise.
+pub fn put_heading(out: &mut [u8]) -> usize
+    ensures answer { λ r. ⌜ r ≡ putCount headingText (length (now (out .entry))) ⌝ }
+    ensures output { λ _. ⌜ now (out .exit) ≡ putOut headingText (now (out .entry)) ⌝ }
+{
+    if out.len() < LINE_ROOM {
+        return 0;
+    }
+    put_text(out, 0, b"no type claimed kept state withdrawn announced\n")
+}
