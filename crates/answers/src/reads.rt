@@ -48,8 +48,8 @@ fn plain(op: u8, settings: u8, s: &[u8]) -> Numbers {
 fn stored(op: u8, settings: u8, s: &[u8], a: &mut [u32], b: &mut [u32]) -> Numbers {
     let mode = request::mode(settings);
     match op {
-        2 => numbers::of_list(routes::parse_nlri_list(s, request::afi(settings), mode, a)),
-        4 => numbers::of_list(routes::read_nlri(s, Afi::Ipv4, mode, a)),
+        2 => numbers::of_list(route_reader::parse_nlri_list(s, request::afi(settings), mode, a)),
+        4 => numbers::of_list(route_reader::read_nlri(s, Afi::Ipv4, mode, a)),
         6 => numbers::of_path(paths::parse_as_path(s, request::width(settings), a, b)),
         _ => numbers::of_update(updates::parse_bgp_update_message(s, mode, a, b)),
     }

@@ -91,14 +91,14 @@ pub fn parse_aggregator(value: &[u8], width: AsnLength) -> AggregatorAnswer
     }
     if value.len() == 8 {
         return AggregatorAnswer::Aggregator {
-            asn: wire::u32_at(value, 0),
+            asn: number_at(value, 0, AsnLength::Bits32),
             identifier: wire::u32_at(value, 4),
             differs: differs(AsnLength::Bits32, width),
         };
     }
     if value.len() == 6 {
         return AggregatorAnswer::Aggregator {
-            asn: wire::u16_at(value, 0),
+            asn: number_at(value, 0, AsnLength::Bits16),
             identifier: wire::u32_at(value, 2),
             differs: differs(AsnLength::Bits16, width),
         };
@@ -123,7 +123,7 @@ fn differs(found: AsnLength, width: AsnLength) -> bool
 }
 
 // An AGGREGATOR of the width.
-pub fn encode_aggregator(asn: u32, identifier: u32, width: AsnLength, out: &mut [u8]) -> WriteAnswer
+fn encode_in(asn: u32, identifier: u32, width: AsnLength, out: &mut [u8]) -> WriteAnswer
     ensures answer { λ r. ⌜ r ≡ aggregatorWritten asn identifier width (length (now (out .entry))) ⌝ }
     ensures out { λ _. ⌜ now (out .exit) ≡ aggregatorLeft asn identifier width (now (out .entry)) ⌝ }
 {
@@ -137,4 +137,15 @@ pub fn encode_aggregator(asn: u32, identifier: u32, width: AsnLength, out: &mut 
     put_number(out, 0, asn, width);
     outputs::put_octets(out, w, identifier, 4);
     WriteAnswer::Written(w + 4)
+}
+
+// An AGGREGATOR of the width: a call for each, so that the width is known where it is compiled.
+pub fn encode_aggregator(asn: u32, identifier: u32, width: AsnLength, out: &mut [u8]) -> WriteAnswer
+    ensures answer { λ r. ⌜ r ≡ aggregatorWritten asn identifier width (length (now (out .entry))) ⌝ }
+    ensures out { λ _. ⌜ now (out .exit) ≡ aggregatorLeft asn identifier width (now (out .entry)) ⌝ }
+{
+    match width {
+        AsnLength::Bits16 => encode_in(asn, identifier, AsnLength::Bits16, out),
+        AsnLength::Bits32 => encode_in(asn, identifier, AsnLength::Bits32, out),
+    }
 }

@@ -10,13 +10,12 @@ use borrow.Author.Tests.{eq-eqb, ne-eqb, le-ltb, ltb-false, not-false}
 use denote.Ref.{RefT}
 use lib.ListN.{length, getD, drop}
 use lib.Dec.{eqb, ltb}
-use lib.Seq.{drop-drop}
-use Rattle.wire.specs.Choice.{pick, pick-eqb, pick-unless}
+use Rattle.wire.specs.Choice.{pick, pick-any, pick-eqb, pick-unless}
 use Rattle.wire.specs.Extent.{PartOf}
-use Rattle.wire.specs.Number.{be, beAt, padded, Bytes}
+use Rattle.wire.specs.Number.{be, padded, Bytes}
 use Rattle.wire.specs.NumberLaws.{padded-cells, padded-add, padded-take}
 use Rattle.wire.specs.Refusal.{truncated, messageLength, messageType, shortBody, badMarker}
-use Rattle.messages.specs.Header.{allOnes, markerSize, allFF, isOutside, isUnknown, headerSize, crateLimit, leastLength, mostLength, messageOf, strictWithin, markerOf, claimedOf, kindOf, takenOf, accepted, whole, bodyAt, Fits}
+use Rattle.messages.specs.Header.{openKind, updateKind, notificationKind, keepaliveKind, routeRefreshKind, messageLimit, extendedLimit, markerSize, allFF, isOutside, isUnknown, headerSize, crateLimit, leastLength, mostLength, messageOf, strictWithin, markerOf, claimedOf, kindOf, takenOf, accepted, whole, bodyAt, Fits}
 use Rattle.messages.specs.declared.MessageAnswer.{MessageAnswer}
 use Rattle.messages.specs.declared.MessageAnswer.the-variants.{Refused}
 
@@ -31,49 +30,81 @@ unfolding allFF
 allFF-append [] t = refl
 allFF-append (b ∷ s) t = allFF-byte (eqb b 255) s t (allFF-append s t)
 
--- four bytes are all FF where their number is the greatest of four bytes
-ones-four : (a b c d : ℕ) → a < 256 → b < 256 → c < 256 → d < 256 → eqb (be (a ∷ b ∷ c ∷ d ∷ [])) allOnes ≡ allFF (a ∷ b ∷ c ∷ d ∷ [])
-unfolding allFF
-ones-four a b c d ha hb hc hd =
-    let n : ℕ = be (a ∷ b ∷ c ∷ d ∷ []) in
-    let P : Bool → Type 0 = λ t. eqb n allOnes ≡ t in
-    pick-eqb P a 255 _ false
-    (λ ea. pick-eqb P b 255 _ false
-    (λ eb. pick-eqb P c 255 _ false
-    (λ ec. pick-eqb P d 255 true false
-    (λ ed. eq-eqb n allOnes (omega arith))
-    (λ no. ne-eqb n allOnes (λ e. no (omega arith))))
-    (λ no. ne-eqb n allOnes (λ e. no (omega arith))))
-    (λ no. ne-eqb n allOnes (λ e. no (omega arith))))
-    (λ no. ne-eqb n allOnes (λ e. no (omega arith)))
+-- eight octets of ones, as a number
+abbrev pub eightOnes : ℕ
+eightOnes = 18446744073709551615
 
-pub ones-word : (s : List ℕ) (at : ℕ) → Bytes s → eqb (beAt s at 4) allOnes ≡ allFF (padded 4 (drop at s))
-unfolding beAt
+-- eight bytes are all FF where their number, last byte first, is the greatest of eight bytes
+ones-eight : (a b c d e f g h : ℕ) → a < 256 → b < 256 → c < 256 → d < 256 → e < 256 → f < 256 → g < 256 → h < 256
+    → eqb (be (h ∷ g ∷ f ∷ e ∷ d ∷ c ∷ b ∷ a ∷ [])) eightOnes ≡ allFF (a ∷ b ∷ c ∷ d ∷ e ∷ f ∷ g ∷ h ∷ [])
+unfolding allFF
+ones-eight a b c d e f g h ha hb hc hd he hf hg hh =
+    let n : ℕ = be (h ∷ g ∷ f ∷ e ∷ d ∷ c ∷ b ∷ a ∷ []) in
+    let P : Bool → Type 0 = λ t. eqb n eightOnes ≡ t in
+    pick-eqb P a 255 _ false (λ ea.
+    pick-eqb P b 255 _ false (λ eb.
+    pick-eqb P c 255 _ false (λ ec.
+    pick-eqb P d 255 _ false (λ ed.
+    pick-eqb P e 255 _ false (λ ee.
+    pick-eqb P f 255 _ false (λ ef.
+    pick-eqb P g 255 _ false (λ eg.
+    pick-eqb P h 255 true false (λ eh. eq-eqb n eightOnes (omega arith))
+    (λ no. ne-eqb n eightOnes (λ q. no (omega arith))))
+    (λ no. ne-eqb n eightOnes (λ q. no (omega arith))))
+    (λ no. ne-eqb n eightOnes (λ q. no (omega arith))))
+    (λ no. ne-eqb n eightOnes (λ q. no (omega arith))))
+    (λ no. ne-eqb n eightOnes (λ q. no (omega arith))))
+    (λ no. ne-eqb n eightOnes (λ q. no (omega arith))))
+    (λ no. ne-eqb n eightOnes (λ q. no (omega arith))))
+    (λ no. ne-eqb n eightOnes (λ q. no (omega arith)))
+
+pub ones-word : (s : List ℕ) (at : ℕ) → Bytes s
+    → eqb (be (getD s (at + 7) 0 ∷ getD s (at + 6) 0 ∷ getD s (at + 5) 0 ∷ getD s (at + 4) 0 ∷ getD s (at + 3) 0 ∷ getD s (at + 2) 0 ∷ getD s (at + 1) 0 ∷ getD s at 0 ∷ [])) eightOnes
+    ≡ allFF (padded 8 (drop at s))
 ones-word s at h =
-    rw (padded-cells s at 4) (ones-four (getD s at 0) (getD s (at + 1) 0) (getD s (at + 2) 0) (getD s (at + 3) 0) (h at) (h (at + 1)) (h (at + 2)) (h (at + 3)))
+    rw (padded-cells s at 8)
+    (ones-eight (getD s at 0) (getD s (at + 1) 0) (getD s (at + 2) 0) (getD s (at + 3) 0) (getD s (at + 4) 0) (getD s (at + 5) 0) (getD s (at + 6) 0) (getD s (at + 7) 0)
+    (h at) (h (at + 1)) (h (at + 2)) (h (at + 3)) (h (at + 4)) (h (at + 5)) (h (at + 6)) (h (at + 7)))
 
 -- the marker, word by word
-module _ (s : List ℕ) (long : markerSize ≤ length s) where
-  word : ℕ → List ℕ
-  word at = padded 4 (drop at s)
+pub marker-words : (s : List ℕ) → markerSize ≤ length s → allFF (markerOf s) ≡ pick (allFF (padded 8 (drop 0 s))) (allFF (padded 8 (drop 8 s))) false
+marker-words s long = ap allFF (sym (padded-take markerSize s long) ∙ sym (padded-add 8 8 s)) ∙ allFF-append (padded 8 s) (padded 8 (drop 8 s))
 
-  words : markerOf s ≡ word 0 ++ (word 4 ++ (word 8 ++ word 12))
-  unfolding word
-  words =
-      sym (padded-take markerSize s long)
-      ∙ sym (padded-add 4 12 s)
-      ∙ ap (λ (l : List ℕ). padded 4 s ++ l) (sym (padded-add 4 8 (drop 4 s)))
-      ∙ ap (λ (l : List ℕ). padded 4 s ++ (padded 4 (drop 4 s) ++ l))
-      (ap (padded 8) (drop-drop 4 4 s) ∙ sym (padded-add 4 4 (drop 8 s)) ∙ ap (λ (l : List ℕ). padded 4 (drop 8 s) ++ padded 4 l) (drop-drop 4 8 s))
+-- ---- lengths of a type
 
-  pub marker-words : allFF (markerOf s)
-      ≡ pick (allFF (padded 4 (drop 0 s))) (pick (allFF (padded 4 (drop 4 s))) (pick (allFF (padded 4 (drop 8 s))) (allFF (padded 4 (drop 12 s))) false) false) false
-  unfolding word
-  marker-words =
-      ap allFF words
-      ∙ allFF-append (word 0) (word 4 ++ (word 8 ++ word 12))
-      ∙ ap (λ (x : Bool). pick (allFF (word 0)) x false)
-      (allFF-append (word 4) (word 8 ++ word 12) ∙ ap (λ (x : Bool). pick (allFF (word 4)) x false) (allFF-append (word 8) (word 12)))
+-- no type has a limit under that of RFC 4271, or a least length over an OPEN's
+pub limit-least : (kind : ℕ) → messageLimit ≤ crateLimit kind
+unfolding crateLimit
+limit-least kind =
+    let P : ℕ → Type 0 = λ n. messageLimit ≤ n in
+    pick-any P (eqb kind openKind) messageLimit _ (omega arith) (pick-any P (eqb kind keepaliveKind) messageLimit extendedLimit (omega arith) (omega arith))
+
+pub least-most : (kind : ℕ) → leastLength kind ≤ 29
+unfolding leastLength
+least-most kind =
+    let P : ℕ → Type 0 = λ n. n ≤ 29 in
+    pick-any P (eqb kind openKind) 29 _ (omega arith)
+    (pick-any P (eqb kind updateKind) 23 _ (omega arith)
+    (pick-any P (eqb kind notificationKind) 21 _ (omega arith)
+    (pick-any P (eqb kind routeRefreshKind) 23 headerSize (omega arith) (omega arith))))
+
+-- all types but a KEEPALIVE are held to the crate's limit
+pub most-limit : (kind : ℕ) → eqb kind keepaliveKind ≡ false → mostLength kind ≡ crateLimit kind
+unfolding mostLength
+most-limit kind e = rw e
+
+-- of two bounds, the one that can be passed tells
+pub outside-high : (lo hi n : ℕ) → lo ≤ n → isOutside lo hi n ≡ ltb hi n
+unfolding isOutside
+outside-high lo hi n h = rw (le-ltb n lo h)
+
+pub outside-low : (lo hi n : ℕ) → n ≤ hi → isOutside lo hi n ≡ ltb n lo
+unfolding isOutside
+outside-low lo hi n h = rw (le-ltb hi n h) (by-test (ltb n lo))
+  where
+    by-test : (t : Bool) → pick t true false ≡ t
+    by-test true = refl
+    by-test false = refl
 
 -- ---- the checks
 

@@ -1,9 +1,11 @@
 // Messages by their header (RFC 4271 section 4.1): the crate's reading of messages.rs, the strict one of the RFC, and the writer.
 ghost use mathlib.Core.Path.{_≡_};
-ghost use Prim.Native.Nat.{_≤_};
+ghost use Prim.Native.Nat.{_+_, _≤_};
+ghost use mathlib.Core.List.{[], _∷_};
 ghost use lib.ListN.{length, drop};
+ghost use lib.Dec.{ltb};
 ghost use Rattle.wire.specs.Extent.{PartOf};
-ghost use Rattle.wire.specs.Number.{padded};
+ghost use Rattle.wire.specs.Number.{be, padded};
 ghost use Rattle.wire.specs.Store.{laid};
 ghost use Rattle.messages.specs.Header.{markerSize, headerSize, extendedLimit, markerOf, allFF, isOutside, isUnknown, leastLength, mostLength, crateLimit, messageOf, strictWithin, strictOf, bodyAt, Fits};
 ghost use Rattle.messages.specs.Written.{header, writeAnswer, outAfter};
@@ -18,8 +20,13 @@ const LENGTH_AT: usize = 16;
 
 const KIND_AT: usize = 18;
 
-// Four marker bytes as a number.
+// Four marker bytes as a number, and eight.
 const ALL_ONES: u32 = 4294967295;
+
+const EIGHT_ONES: u64 = 18446744073709551615;
+
+// No type has a least length over this.
+const LEAST_OF_ALL: usize = 29;
 
 // The most bytes of a message (RFC 4271 section 4.1), and of one where both ends agreed on long ones (RFC 8654 section 4).
 pub const MESSAGE_LIMIT: usize = 4096;
@@ -99,21 +106,57 @@ fn least_length(kind: u8) -> usize
     HEADER_SIZE
 }
 
-// The most bytes of a type: a KEEPALIVE is a header.
-fn most_length(kind: u8) -> usize
-    ensures { λ r. ⌜ r ≡ mostLength kind ⌝ }
+// Whether a message of a type is longer than the crate takes: no type has a limit under that of RFC 4271.
+fn over_limit(kind: u8, n: usize) -> bool
+    ensures { λ r. ⌜ r ≡ ltb (crateLimit kind) n ⌝ }
 {
-    if kind == kind::KEEPALIVE {
-        return HEADER_SIZE;
+    if n <= MESSAGE_LIMIT {
+        return false;
     }
-    crate_limit(kind)
+    crate_limit(kind) < n
 }
 
-// Whether the four bytes at a place are all FF.
-fn ones_at(s: &[u8], at: usize) -> bool
-    ensures { λ r. ⌜ r ≡ allFF (padded 4 (drop at (now (s .entry)))) ⌝ }
+// Whether a type has no messages of that length: a KEEPALIVE is a header, and short messages are held to what their body always has.
+fn misfit(kind: u8, n: usize) -> bool
+    ensures { λ r. ⌜ r ≡ isOutside (leastLength kind) (mostLength kind) n ⌝ }
 {
-    wire::u32_at(s, at) == ALL_ONES
+    if kind == kind::KEEPALIVE {
+        return outside(HEADER_SIZE, HEADER_SIZE, n);
+    }
+    if LEAST_OF_ALL <= n {
+        return over_limit(kind, n);
+    }
+    n < least_length(kind)
+}
+
+// Eight bytes as one number.
+fn join8(a: u8, b: u8, c: u8, d: u8, e: u8, f: u8, g: u8, h: u8) -> u64
+    ensures { λ r. ⌜ r ≡ be (a ∷ b ∷ c ∷ d ∷ e ∷ f ∷ g ∷ h ∷ []) ⌝ }
+{
+    ((((((a as u64 * 256 + b as u64) * 256 + c as u64) * 256 + d as u64) * 256 + e as u64) * 256
+        + f as u64)
+        * 256
+        + g as u64)
+        * 256
+        + h as u64
+}
+
+// Whether the eight bytes at a place are all FF. They are joined last byte first, so that the machine need not turn them.
+fn ones_at(s: &[u8], at: usize) -> bool
+    requires { ⌜ at + 8 ≤ length (now s) ⌝ }
+    ensures { λ r. ⌜ r ≡ allFF (padded 8 (drop at (now (s .entry)))) ⌝ }
+{
+    join8(
+        s[at + 7],
+        s[at + 6],
+        s[at + 5],
+        s[at + 4],
+        s[at + 3],
+        s[at + 2],
+        s[at + 1],
+        s[at],
+    )
+        == EIGHT_ONES
 }
 
 // Whether the sixteen marker bytes are all FF.
@@ -124,13 +167,7 @@ fn marked(s: &[u8]) -> bool
     if !ones_at(s, 0) {
         return false;
     }
-    if !ones_at(s, 4) {
-        return false;
-    }
-    if !ones_at(s, 8) {
-        return false;
-    }
-    ones_at(s, 12)
+    ones_at(s, 8)
 }
 
 // The crate's reading: a message may be cut short, or followed by other bytes, and may have any marker.
@@ -149,11 +186,8 @@ pub fn parse_bgp_message(s: &[u8]) -> MessageAnswer
         return MessageAnswer::Refused(refusal::MESSAGE_TYPE);
     }
     let taken = wire::least(claimed, s.len());
-    if crate_limit(kind) < claimed {
+    if over_limit(kind, claimed) {
         return MessageAnswer::Refused(refusal::MESSAGE_LENGTH);
-    }
-    if s.len() - HEADER_SIZE < taken - HEADER_SIZE {
-        return MessageAnswer::Refused(refusal::SHORT_BODY);
     }
     MessageAnswer::Message {
         kind,
@@ -183,7 +217,7 @@ fn parse_within(s: &[u8], limit: usize) -> MessageAnswer
     if unknown(kind) {
         return MessageAnswer::Refused(refusal::MESSAGE_TYPE);
     }
-    if outside(least_length(kind), most_length(kind), claimed) {
+    if misfit(kind, claimed) {
         return MessageAnswer::Refused(refusal::MESSAGE_LENGTH);
     }
     if s.len() < claimed {
@@ -267,7 +301,7 @@ pub fn encode_bgp_message(kind: u8, body: &[u8], out: &mut [u8]) -> WriteAnswer
         return WriteAnswer::Refused(refusal::MESSAGE_LENGTH);
     }
     let total = HEADER_SIZE + body.len();
-    if outside(least_length(kind), most_length(kind), total) {
+    if misfit(kind, total) {
         return WriteAnswer::Refused(refusal::MESSAGE_LENGTH);
     }
     if out.len() < total {

@@ -1,6 +1,7 @@
 pub mod Write
 pub mod Promises
 pub mod WriteLaws
+pub mod NumberPut
 pub mod WriteTurn
 pub mod Lent
 pub mod PromiseLaws

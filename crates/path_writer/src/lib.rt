@@ -10,7 +10,7 @@ ghost use Rattle.wire.specs.Store.{laid};
 ghost use Rattle.wire.specs.Walk.{flat};
 ghost use Rattle.asns.specs.Asn.{widthOf};
 ghost use Rattle.paths.specs.Segment.{knownType};
-ghost use Rattle.path_writer.specs.Write.{addsUp, allFit, writeFault, lentPath};
+ghost use Rattle.path_writer.specs.Write.{addsUp, allFit, mostNumbers, writeFault, lentPath};
 ghost use Rattle.path_writer.specs.Promises.{bytesOf, encodeAnswer, encodeLeft};
 use asns::AsnLength;
 use asns::WriteAnswer;
@@ -39,21 +39,33 @@ fn adds_up(pairs: &[u32], n: usize) -> bool
     left == 0
 }
 
-// Whether the width holds each of n numbers from a place on.
-fn all_fit(numbers: &[u32], from: usize, n: usize, width: AsnLength) -> bool
+// Whether two bytes hold each of n numbers from a place on: what they have past two bytes adds up to 0.
+fn all_narrow(numbers: &[u32], from: usize, n: usize) -> bool
     requires { ⌜ from + n ≤ length (now numbers) ⌝ }
-    ensures { λ r. ⌜ r ≡ allFit (widthOf width) (take n (drop from (now (numbers .entry)))) ⌝ }
+    requires { ⌜ n ≤ mostNumbers ⌝ }
+    ensures { λ r. ⌜ r ≡ allFit 2 (take n (drop from (now (numbers .entry)))) ⌝ }
 {
+    let mut over: u32 = 0;
     let mut at = from;
     let mut left = n;
     while 0 < left {
-        if !asns::fits_width(numbers[at], width) {
-            return false;
-        }
+        over = over + numbers[at] / 65536;
         at = at + 1;
         left = left - 1;
     }
-    true
+    over == 0
+}
+
+// Whether the width holds each of n numbers from a place on. Four bytes hold all.
+fn all_fit(numbers: &[u32], from: usize, n: usize, width: AsnLength) -> bool
+    requires { ⌜ from + n ≤ length (now numbers) ⌝ }
+    requires { ⌜ n ≤ mostNumbers ⌝ }
+    ensures { λ r. ⌜ r ≡ allFit (widthOf width) (take n (drop from (now (numbers .entry)))) ⌝ }
+{
+    match width {
+        AsnLength::Bits16 => all_narrow(numbers, from, n),
+        AsnLength::Bits32 => true,
+    }
 }
 
 // What stands against writing a segment whose numbers start at a place, 0 where nothing does.
@@ -103,6 +115,67 @@ fn put_head(out: &mut [u8], to: usize, kind: u32, count: u32)
     out[to + 1] = count as u8;
 }
 
+// The two bytes of a number, at a place of the output.
+fn put_two(out: &mut [u8], to: usize, v: u32)
+    requires { ⌜ to + 2 ≤ length (now out) ⌝ }
+    requires { ⌜ v < 65536 ⌝ }
+    ensures { λ _. ⌜ now (out .exit) ≡ laid (now (out .entry)) to (toBe 2 v) ⌝ }
+{
+    out[to] = (v / 256) as u8;
+    out[to + 1] = (v % 256) as u8;
+}
+
+// The four bytes of a number, at a place of the output.
+fn put_four(out: &mut [u8], to: usize, v: u32)
+    requires { ⌜ to + 4 ≤ length (now out) ⌝ }
+    ensures { λ _. ⌜ now (out .exit) ≡ laid (now (out .entry)) to (toBe 4 v) ⌝ }
+{
+    out[to] = (v / 16777216) as u8;
+    out[to + 1] = (v / 65536 % 256) as u8;
+    out[to + 2] = (v / 256 % 256) as u8;
+    out[to + 3] = (v % 256) as u8;
+}
+
+// n numbers from a place on that fit two bytes, two in a turn, to a place of the output.
+fn put_narrow(numbers: &[u32], from: usize, n: usize, out: &mut [u8], start: usize)
+    requires { ⌜ from + n ≤ length (now numbers) ⌝ }
+    requires { ⌜ allFit 2 (take n (drop from (now numbers))) ≡ true ⌝ }
+    requires { ⌜ start + length (flat (toBe 2) (take n (drop from (now numbers)))) ≤ length (now out) ⌝ }
+    ensures { λ _. ⌜ now (out .exit) ≡ laid (now (out .entry)) start (flat (toBe 2) (take n (drop from (now (numbers .entry))))) ⌝ }
+{
+    let mut at = from;
+    let mut to = start;
+    let mut left = n;
+    while 1 < left {
+        put_two(out, to, numbers[at]);
+        put_two(out, to + 2, numbers[at + 1]);
+        at = at + 2;
+        to = to + 4;
+        left = left - 2;
+    }
+    if left == 1 {
+        put_two(out, to, numbers[at]);
+    }
+}
+
+// n numbers from a place on, in four bytes each, to a place of the output.
+fn put_full(numbers: &[u32], from: usize, n: usize, out: &mut [u8], start: usize)
+    requires { ⌜ from + n ≤ length (now numbers) ⌝ }
+    requires { ⌜ allFit 4 (take n (drop from (now numbers))) ≡ true ⌝ }
+    requires { ⌜ start + length (flat (toBe 4) (take n (drop from (now numbers)))) ≤ length (now out) ⌝ }
+    ensures { λ _. ⌜ now (out .exit) ≡ laid (now (out .entry)) start (flat (toBe 4) (take n (drop from (now (numbers .entry))))) ⌝ }
+{
+    let mut at = from;
+    let mut to = start;
+    let mut left = n;
+    while 0 < left {
+        put_four(out, to, numbers[at]);
+        at = at + 1;
+        to = to + 4;
+        left = left - 1;
+    }
+}
+
 // n numbers from a place on that fit the width, to a place of the output.
 fn put_numbers(
     numbers: &[u32],
@@ -117,15 +190,9 @@ fn put_numbers(
     requires { ⌜ start + length (flat (toBe (widthOf width)) (take n (drop from (now numbers)))) ≤ length (now out) ⌝ }
     ensures { λ _. ⌜ now (out .exit) ≡ laid (now (out .entry)) start (flat (toBe (widthOf width)) (take n (drop from (now (numbers .entry))))) ⌝ }
 {
-    let w = asns::asn_bytes(width);
-    let mut at = from;
-    let mut to = start;
-    let mut left = n;
-    while 0 < left {
-        asns::put_number(out, to, numbers[at], width);
-        at = at + 1;
-        to = to + w;
-        left = left - 1;
+    match width {
+        AsnLength::Bits16 => put_narrow(numbers, from, n, out, start),
+        AsnLength::Bits32 => put_full(numbers, from, n, out, start),
     }
 }
 

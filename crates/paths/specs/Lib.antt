@@ -1,6 +1,7 @@
 pub mod Segment
 pub mod Size
 pub mod SegmentLaws
+pub mod NumberTurn
 pub mod Promises
 pub mod PromiseLaws
 pub mod PathTurn

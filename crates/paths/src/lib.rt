@@ -4,6 +4,7 @@ ghost use mathlib.Core.Path.{_≡_};
 ghost use Prim.Native.Nat.{_+_, _≤_, _<_};
 ghost use mathlib.Core.List.{[], _∷_};
 ghost use lib.ListN.{length, drop};
+ghost use Rattle.wire.specs.Number.{beAt};
 ghost use Rattle.wire.specs.Store.{laid};
 ghost use Rattle.wire.specs.Walk.{flat};
 ghost use Rattle.asns.specs.Asn.{widthOf, span};
@@ -96,21 +97,69 @@ fn put_pair(pairs: &mut [u32], to: usize, kind: u32, count: u32)
     pairs[to + 1] = count;
 }
 
+// The number of the two bytes at a place.
+fn two_at(s: &[u8], at: usize) -> u32
+    requires { ⌜ at + 2 ≤ length (now s) ⌝ }
+    ensures { λ r. ⌜ r ≡ beAt (now (s .entry)) at 2 ⌝ }
+{
+    s[at] as u32 * 256 + s[at + 1] as u32
+}
+
+// The number of the four bytes at a place.
+fn four_at(s: &[u8], at: usize) -> u32
+    requires { ⌜ at + 4 ≤ length (now s) ⌝ }
+    ensures { λ r. ⌜ r ≡ beAt (now (s .entry)) at 4 ⌝ }
+{
+    ((s[at] as u32 * 256 + s[at + 1] as u32) * 256 + s[at + 2] as u32) * 256 + s[at + 3] as u32
+}
+
+// The n numbers of two bytes at a place of the bytes, two in a turn, to a place of the store.
+fn put_narrow(s: &[u8], from: usize, n: usize, numbers: &mut [u32], start: usize)
+    requires { ⌜ from + span 2 n ≤ length (now s) ⌝ }
+    requires { ⌜ start + n ≤ length (now numbers) ⌝ }
+    ensures { λ _. ⌜ now (numbers .exit) ≡ laid (now (numbers .entry)) start (numbersOf 2 n (drop from (now (s .entry)))) ⌝ }
+{
+    let mut at = from;
+    let mut to = start;
+    let mut left = n;
+    while 1 < left {
+        numbers[to] = two_at(s, at);
+        numbers[to + 1] = two_at(s, at + 2);
+        at = at + 4;
+        to = to + 2;
+        left = left - 2;
+    }
+    if left == 1 {
+        numbers[to] = two_at(s, at);
+    }
+}
+
+// The n numbers of four bytes at a place of the bytes, to a place of the store.
+fn put_full(s: &[u8], from: usize, n: usize, numbers: &mut [u32], start: usize)
+    requires { ⌜ from + span 4 n ≤ length (now s) ⌝ }
+    requires { ⌜ start + n ≤ length (now numbers) ⌝ }
+    ensures { λ _. ⌜ now (numbers .exit) ≡ laid (now (numbers .entry)) start (numbersOf 4 n (drop from (now (s .entry)))) ⌝ }
+{
+    let mut at = from;
+    let mut to = start;
+    let mut left = n;
+    while 0 < left {
+        numbers[to] = four_at(s, at);
+        at = at + 4;
+        to = to + 1;
+        left = left - 1;
+    }
+}
+
 // The n numbers at a place of the bytes, to a place of the store.
 fn put_numbers(s: &[u8], from: usize, n: usize, width: AsnLength, numbers: &mut [u32], start: usize)
     requires { ⌜ from + span (widthOf width) n ≤ length (now s) ⌝ }
     requires { ⌜ start + n ≤ length (now numbers) ⌝ }
     ensures { λ _. ⌜ now (numbers .exit) ≡ laid (now (numbers .entry)) start (numbersOf (widthOf width) n (drop from (now (s .entry)))) ⌝ }
 {
-    let w = asns::asn_bytes(width);
-    let mut at = from;
-    let mut to = start;
-    let mut left = n;
-    while 0 < left {
-        numbers[to] = asns::number_at(s, at, width);
-        at = at + w;
-        to = to + 1;
-        left = left - 1;
+    match width {
+        AsnLength::Bits16 => put_narrow(s, from, n, numbers, start),
+        AsnLength::Bits32 => put_full(s, from, n, numbers, start),
     }
 }
 

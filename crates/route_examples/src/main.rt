@@ -183,7 +183,7 @@ fn list(s: &[u8], afi: Afi, mode: AddPath) {
     text(b"  count ");
     show_list(routes::count_nlri_list(s, afi, mode), &store[..0], afi);
     text(b"  read ");
-    let answer = routes::parse_nlri_list(s, afi, mode, &mut store);
+    let answer = route_reader::parse_nlri_list(s, afi, mode, &mut store);
     show_list(answer, &store, afi);
     write_read(answer, &store, afi, mode, s);
 }
@@ -200,7 +200,7 @@ fn section(s: &[u8], mode: AddPath) {
         Afi::Ipv4,
     );
     text(b"  read ");
-    let answer = routes::read_nlri(s, Afi::Ipv4, mode, &mut store);
+    let answer = route_reader::read_nlri(s, Afi::Ipv4, mode, &mut store);
     show_list(answer, &store, Afi::Ipv4);
 }
 

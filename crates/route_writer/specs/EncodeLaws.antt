@@ -4,18 +4,18 @@ use Prim.Native.Nat.{ℕ, zero, suc, _+_, _-_, _*_, _/_, _%_, _^_, _≤_, _<_}
 use mathlib.Core.Path.{_≡_, refl, sym, ap, ap₂, _∙_}
 use mathlib.Core.List.{List, [], _∷_, _++_, append-nil, append-assoc}
 use mathlib.Core.Bool.{Bool, true, false, _&&_}
-use native.Mathlib.Nat.{lt-of-not-le, mod-lt, not-suc-le-zero, zero-mul, suc-mul, sub-zero, suc-sub-suc, mod-eq-of-lt, add-sub-of-le}
+use native.Mathlib.Nat.{lt-of-not-le, mod-lt, not-suc-le-zero, zero-mul, suc-mul, sub-zero, suc-sub-suc, mod-eq-of-lt, add-sub-of-le, pow-succ', mul-mod-left}
 use native.Mathlib.Decide.{decLe}
 use native.Mathlib.Omega.{arith}
-use borrow.Author.Tests.{le-leb, lt-leb, leb-true, ne-eqb}
+use borrow.Author.Tests.{le-leb, lt-leb, leb-true, eq-eqb, ne-eqb}
 use lib.ListN.{length, getD, take, drop, set, length-append, length-take, drop-of-length-le}
 use lib.Seq.{length-take-le, take-all, take-append-le}
 use lib.Dec.{leb, eqb}
 use lib.Arith.{mod-mul, digits-mod}
-use lib.Pow.{pow-add}
+use lib.Pow.{pow-add, pow-pos, mod-pow-add, shl-shr}
 use Rattle.wire.specs.Choice.{pick}
 use Rattle.wire.specs.Number.{be, toBe}
-use Rattle.wire.specs.NumberLaws.{length-toBe, be-toBe, pow-pos256}
+use Rattle.wire.specs.NumberLaws.{length-toBe, be-toBe, pow-pos256, toBe-append}
 use Rattle.wire.specs.Parts.{take-append, drop-append}
 use Rattle.wire.specs.Refusal.{notWritable}
 use Rattle.wire.specs.Store.{placed, placed-fits, placed-nil, length-placed, laid, laid-laid, length-laid, puts-laid}
@@ -35,26 +35,18 @@ and-assoc : (a b c : Bool) → (a && b) && c ≡ a && (b && c)
 and-assoc true b c = refl
 and-assoc false b c = refl
 
+and-yes : (a : Bool) → a && true ≡ a
+and-yes true = refl
+and-yes false = refl
+
+pub no-and : (a : Bool) → a && false ≡ false
+no-and true = refl
+no-and false = refl
+
 zero-append : (s t : List ℕ) → allZero (s ++ t) ≡ allZero s && allZero t
 unfolding allZero
 zero-append [] t = refl
 zero-append (b ∷ s) t = ap (λ (r : Bool). eqb b 0 && r) (zero-append s t) ∙ sym (and-assoc (eqb b 0) (allZero s) (allZero t))
-
--- the octets past n of a word and of what follows
-pub zero-word : (n w : ℕ) (s : List ℕ) → allZero (drop n (toBe 4 w ++ s)) ≡ allZero (drop n (toBe 4 w)) && allZero (drop (n - 4) s)
-zero-word n w s = ap allZero (drop-append n (toBe 4 w) s) ∙ zero-append (drop n (toBe 4 w)) (drop (n - 4) s)
-
-pub zero-past : (n a b c d : ℕ) → allZero (drop n (fourWords a b c d))
-    ≡ allZero (drop n (toBe 4 a)) && (allZero (drop (n - 4) (toBe 4 b)) && (allZero (drop (n - 8) (toBe 4 c)) && allZero (drop (n - 12) (toBe 4 d))))
-unfolding fourWords
-zero-past n a b c d =
-    let e : n - 4 - 4 ≡ n - 8 = omega arith in
-    let f : n - 8 - 4 ≡ n - 12 = omega arith in
-    let last : allZero (drop (n - 8) (toBe 4 c ++ toBe 4 d)) ≡ allZero (drop (n - 8) (toBe 4 c)) && allZero (drop (n - 12) (toBe 4 d)) =
-    zero-word (n - 8) c (toBe 4 d) ∙ ap (λ (k : ℕ). allZero (drop (n - 8) (toBe 4 c)) && allZero (drop k (toBe 4 d))) f in
-    zero-word n a (toBe 4 b ++ (toBe 4 c ++ toBe 4 d))
-    ∙ ap (λ (t : Bool). allZero (drop n (toBe 4 a)) && t) (zero-word (n - 4) b (toBe 4 c ++ toBe 4 d)
-    ∙ ap (λ (t : Bool). allZero (drop (n - 4) (toBe 4 b)) && t) (ap (λ (k : ℕ). allZero (drop k (toBe 4 c ++ toBe 4 d))) e ∙ last))
 
 -- a digit and the rest are 0 where the number is
 digit-zero : (b r c : ℕ) → 0 < c → eqb b 0 && eqb r 0 ≡ eqb (b * c + r) 0
@@ -65,6 +57,12 @@ zero-be : (s : List ℕ) → allZero s ≡ eqb (be s) 0
 unfolding allZero
 zero-be [] = refl
 zero-be (b ∷ s) = ap (λ (t : Bool). eqb b 0 && t) (zero-be s) ∙ digit-zero b (be s) (256 ^ length s) (pow-pos256 (length s))
+
+pow-256 : (n : ℕ) → 256 ^ n ≡ 2 ^ (8 * n)
+pow-256 zero = refl
+pow-256 (suc n) =
+    let e : 8 * suc n ≡ 8 + 8 * n = omega arith in
+    pow-succ' 256 n ∙ ap (λ (x : ℕ). 256 * x) (pow-256 n) ∙ sym (ap (λ (j : ℕ). 2 ^ j) e ∙ pow-add 2 8 (8 * n))
 
 -- the bytes of a number past the first m are those of its remainder
 drop-toBe : (n m v : ℕ) → m ≤ n → v < 256 ^ n → drop m (toBe n v) ≡ toBe (n - m) (v % 256 ^ (n - m))
@@ -80,29 +78,58 @@ drop-toBe (suc n) (suc m) v h k =
     ∙ digits-mod (v / 256 ^ (n - m) % 256 ^ m) (mod-lt v (pow-pos256 (n - m))) in
     rw suc-sub-suc (drop-toBe n m (v % 256 ^ n) le (mod-lt v (pow-pos256 n)) ∙ ap (toBe (n - m)) same)
 
-zero-mod-is : (m v : ℕ) → m ≤ 4 → v < 256 ^ 4 → allZero (drop m (toBe 4 v)) ≡ eqb (v % 256 ^ (4 - m)) 0
-zero-mod-is m v h k =
-    ap allZero (drop-toBe 4 m v h k) ∙ zero-be (toBe (4 - m) (v % 256 ^ (4 - m)))
-    ∙ ap (λ (x : ℕ). eqb x 0) (be-toBe (4 - m) (v % 256 ^ (4 - m)) (mod-lt v (pow-pos256 (4 - m))))
+-- the octets past the first m of eight, as a shift by m octets leaves them
+pub half-past : (m v : ℕ) → m < 8 → v < 256 ^ 8 → allZero (drop m (toBe 8 v)) ≡ eqb (v * 2 ^ (8 * m) % 18446744073709551616) 0
+half-past m v h k =
+    let r : ℕ = v % 256 ^ (8 - m) in
+    let c : ℕ = 2 ^ (8 * m) in
+    let up : 8 * (8 - m) + 8 * m ≡ 64 = omega arith in
+    let low : v * c % c ≡ 0 = mul-mod-left v c in
+    let shift : v * c % 18446744073709551616 ≡ r * c + 0 =
+    ap (λ (j : ℕ). v * c % 2 ^ j) (sym up)
+    ∙ mod-pow-add (v * c) (8 * (8 - m)) (8 * m)
+    ∙ ap₂ (λ (x y : ℕ). x % 2 ^ (8 * (8 - m)) * c + y) (shl-shr v (8 * m)) low
+    ∙ ap (λ (x : ℕ). v % x * c + 0) (sym (pow-256 (8 - m))) in
+    ap allZero (drop-toBe 8 m v (omega arith) k)
+    ∙ zero-be (toBe (8 - m) r)
+    ∙ ap (λ (x : ℕ). eqb x 0) (be-toBe (8 - m) r (mod-lt v (pow-pos256 (8 - m))))
+    ∙ sym (and-yes (eqb r 0))
+    ∙ digit-zero r 0 c (pow-pos (8 * m))
+    ∙ ap (λ (x : ℕ). eqb x 0) (sym shift)
 
--- a word's octets past the first m, as code tests them
-pub word-full : (m v : ℕ) → 4 ≤ m → allZero (drop m (toBe 4 v)) ≡ true
-unfolding allZero
-word-full m v h = ap allZero (drop-of-length-le (toBe 4 v) {i = m} (omega (arith, length-toBe 4 v)))
+-- the octets of four words are those of two halves
+pub halves : (a b c d : ℕ) → a < 256 ^ 4 → b < 256 ^ 4 → c < 256 ^ 4 → d < 256 ^ 4
+    → fourWords a b c d ≡ toBe 8 (a * 4294967296 + b) ++ toBe 8 (c * 4294967296 + d)
+unfolding fourWords
+halves a b c d ha hb hc hd =
+    sym (append-assoc (toBe 4 a) (toBe 4 b) (toBe 4 c ++ toBe 4 d)) ∙ ap₂ _++_ (toBe-append 4 4 a b ha hb) (toBe-append 4 4 c d hc hd)
 
-pub word-zero : (m v : ℕ) → v < 256 ^ 4 → m ≡ 0 → allZero (drop m (toBe 4 v)) ≡ eqb v 0
-word-zero m v k e = ap (λ (j : ℕ). allZero (drop j (toBe 4 v))) e ∙ zero-mod-is 0 v (omega arith) k ∙ ap (λ (x : ℕ). eqb x 0) (mod-eq-of-lt {n = v} {m = 256 ^ 4} k)
+module _ (n x y : ℕ) where
+  zero-halves : allZero (drop n (toBe 8 x ++ toBe 8 y)) ≡ allZero (drop n (toBe 8 x)) && allZero (drop (n - 8) (toBe 8 y))
+  zero-halves = ap allZero (drop-append n (toBe 8 x) (toBe 8 y)) ∙ zero-append (drop n (toBe 8 x)) (drop (n - 8) (toBe 8 y))
 
--- a bit shifted to where the octets past the first m begin
-pub shifted : (m : ℕ) → 0 < m → m < 4 → 1 * 2 ^ (8 * (4 - m)) % 4294967296 ≡ 256 ^ (4 - m)
-shifted zero h k = absurd (not-suc-le-zero h)
-shifted (suc zero) h k = refl
-shifted (suc (suc zero)) h k = refl
-shifted (suc (suc (suc zero))) h k = refl
-shifted (suc (suc (suc (suc m)))) h k = omega arith
+  -- with n in the first
+  zero-early : n < 8 → y < 256 ^ 8 → allZero (drop n (toBe 8 x ++ toBe 8 y)) ≡ allZero (drop n (toBe 8 x)) && eqb y 0
+  zero-early h k =
+      let z : n - 8 ≡ 0 = omega arith in
+      let whole : allZero (drop (n - 8) (toBe 8 y)) ≡ eqb y 0 = ap (λ (j : ℕ). allZero (drop j (toBe 8 y))) z ∙ zero-be (toBe 8 y) ∙ ap (λ (v : ℕ). eqb v 0) (be-toBe 8 y k) in
+      zero-halves ∙ ap (λ (t : Bool). allZero (drop n (toBe 8 x)) && t) whole
 
-pub word-some : (m v : ℕ) → v < 256 ^ 4 → 0 < m → m < 4 → allZero (drop m (toBe 4 v)) ≡ eqb (v % (1 * 2 ^ (8 * (4 - m)) % 4294967296)) 0
-word-some m v k p h = zero-mod-is m v (omega arith) k ∙ ap (λ (c : ℕ). eqb (v % c) 0) (sym (shifted m p h))
+  pub early-set : n < 8 → y < 256 ^ 8 → (y ≡ 0 → ⊥) → allZero (drop n (toBe 8 x ++ toBe 8 y)) ≡ false
+  early-set h k e = zero-early h k ∙ ap (λ (t : Bool). allZero (drop n (toBe 8 x)) && t) (ne-eqb y 0 e) ∙ no-and (allZero (drop n (toBe 8 x)))
+
+  pub early-clear : n < 8 → y < 256 ^ 8 → y ≡ 0 → allZero (drop n (toBe 8 x ++ toBe 8 y)) ≡ allZero (drop n (toBe 8 x))
+  early-clear h k e = zero-early h k ∙ ap (λ (t : Bool). allZero (drop n (toBe 8 x)) && t) (eq-eqb y 0 e) ∙ and-yes (allZero (drop n (toBe 8 x)))
+
+  -- in the second
+  pub zero-late : 8 ≤ n → allZero (drop n (toBe 8 x ++ toBe 8 y)) ≡ allZero (drop (n - 8) (toBe 8 y))
+  unfolding allZero
+  zero-late h = zero-halves ∙ ap (λ (l : List ℕ). allZero l && allZero (drop (n - 8) (toBe 8 y))) (drop-of-length-le (toBe 8 x) {i = n} (omega (arith, length-toBe 8 x)))
+
+  -- and past it
+  pub zero-none : n ≡ 16 → allZero (drop n (toBe 8 x ++ toBe 8 y)) ≡ true
+  unfolding allZero
+  zero-none e = zero-late (omega arith) ∙ ap (λ (k : ℕ). allZero (drop (k - 8) (toBe 8 y))) e
 
 -- ---- octets of words, one word after another in a store
 
@@ -274,10 +301,6 @@ module _ (max : ℕ) (form : Form) where
       omega (arith, t .size, t .good .fits)
 
 -- ---- the row at the front, by its words
-
-pub no-and : (a : Bool) → a && false ≡ false
-no-and true = refl
-no-and false = refl
 
 module _ (ws : List ℕ) (max : ℕ) (form : Form) where
   -- what makes it one that cannot be written

@@ -1,5 +1,8 @@
 pub mod Encode
 pub mod EncodeLaws
+pub mod Ahead
 pub mod Promises
 pub mod PromiseLaws
+pub mod Pair
+pub mod PairLaws
 pub mod Tight

@@ -1,13 +1,17 @@
 // The route list writer (RFC 4271 section 4.3, RFC 7911 section 3): rows of six words as the bytes of a list, the writing of encode_nlri_prefixes in utils.rs.
 ghost use mathlib.Core.Path.{_≡_};
 ghost use mathlib.Core.Bool.{true};
-ghost use Prim.Native.Nat.{_+_, _-_, _≤_};
-ghost use lib.ListN.{length, take, drop};
+ghost use mathlib.Core.List.{_++_};
+ghost use Prim.Native.Nat.{_+_, _-_, _*_, _≤_, _<_};
+ghost use lib.ListN.{length, getD, take, drop};
 ghost use Rattle.wire.specs.Number.{toBe};
 ghost use Rattle.wire.specs.Store.{laid};
-ghost use Rattle.families.specs.Family.{maxOf, octets};
-ghost use Rattle.route_writer.specs.Encode.{fourWords, rowBytes, allZero, idFits, writable, frontRow, writeStep, writing, bytesOf};
+ghost use Rattle.families.specs.Family.{maxOf, idSize, markOf, octets};
+ghost use Rattle.route_writer.specs.Encode.{fourWords, address, lengthOf, rowBytes, allZero, idFits, writable, frontRow, writeStep, bytesOf};
+ghost use Rattle.route_writer.specs.Ahead.{rowAt, headBytes, Fillable, Ahead};
 ghost use Rattle.route_writer.specs.Promises.{sizeBy, measured, writeAnswer, outAfter};
+ghost use Rattle.route_writer.specs.Pair.{pairSized, pairAnswer, pairAfter};
+ghost use Rattle.route_writer.specs.declared.WriteAnswer.the-variants.{Bytes};
 use families::Afi;
 use families::Form;
 use wire::refusal;
@@ -15,6 +19,12 @@ use wire::refusal;
 // The bytes that were written or would be, or a refusal number.
 pub enum WriteAnswer {
     Bytes(usize),
+    Refused(u8),
+}
+
+// The bytes of two lists that were written, or a refusal number.
+pub enum ListsAnswer {
+    Lists { first: usize, second: usize },
     Refused(u8),
 }
 
@@ -28,41 +38,49 @@ fn id_fits(id: u32, form: Form) -> bool
     }
 }
 
-// What is left of n after i.
-fn left(n: usize, i: usize) -> usize
-    ensures { λ r. ⌜ r ≡ n - i ⌝ }
+// Two words as one number.
+fn joined(a: u32, b: u32) -> u64
+    ensures { λ r. ⌜ r ≡ a * 4294967296 + b ⌝ }
 {
-    if n <= i { 0 } else { n - i }
+    a as u64 * 4294967296 + b as u64
 }
 
-// Whether the octets of a word past the first m are 0.
-fn clear(w: u32, m: usize) -> bool
-    ensures { λ r. ⌜ r ≡ allZero (drop m (toBe 4 w)) ⌝ }
+// Whether the octets past the first m of eight are 0: a shift by m octets leaves only those.
+fn clear_half(x: u64, m: usize) -> bool
+    requires { ⌜ m < 8 ⌝ }
+    ensures { λ r. ⌜ r ≡ allZero (drop m (toBe 8 x)) ⌝ }
 {
-    if 4 <= m {
-        return true;
-    }
-    if m == 0 {
-        return w == 0;
-    }
-    let one: u32 = 1;
-    w % (one << (8 * (4 - m)) as u32) == 0
+    x << (8 * m) as u32 == 0
 }
 
-// Whether the octets of four words past the first n are 0.
-fn clear_past(n: usize, w0: u32, w1: u32, w2: u32, w3: u32) -> bool
+// Whether the octets past the first n of two halves are 0, with n in the first.
+fn clear_early(n: usize, x: u64, y: u64) -> bool
+    requires { ⌜ n < 8 ⌝ }
+    ensures { λ r. ⌜ r ≡ allZero (drop n (toBe 8 x ++ toBe 8 y)) ⌝ }
+{
+    if y != 0 {
+        return false;
+    }
+    clear_half(x, n)
+}
+
+// Whether the octets past the first n of four words are 0. A maximum length of 32 at most keeps n in the first half.
+fn clear_past(n: usize, max: u8, w0: u32, w1: u32, w2: u32, w3: u32) -> bool
+    requires { ⌜ (max ≤ 128) × (n ≤ octets max) ⌝ }
     ensures { λ r. ⌜ r ≡ allZero (drop n (fourWords w0 w1 w2 w3)) ⌝ }
 {
-    if !clear(w0, n) {
-        return false;
+    let x = joined(w0, w1);
+    let y = joined(w2, w3);
+    if max <= 32 {
+        return clear_early(n, x, y);
     }
-    if !clear(w1, left(n, 4)) {
-        return false;
+    if n < 8 {
+        return clear_early(n, x, y);
     }
-    if !clear(w2, left(n, 8)) {
-        return false;
+    if n == 16 {
+        return true;
     }
-    clear(w3, left(n, 12))
+    clear_half(y, n - 8)
 }
 
 // How many bytes the row at the front takes.
@@ -86,7 +104,7 @@ fn row_size(ws: &[u32], max: u8, form: Form) -> WriteAnswer
         return WriteAnswer::Refused(refusal::NOT_WRITABLE);
     }
     let n = families::octet_count(len as u8);
-    if !clear_past(n, ws[2], ws[3], ws[4], ws[5]) {
+    if !clear_past(n, max, ws[2], ws[3], ws[4], ws[5]) {
         return WriteAnswer::Refused(refusal::NOT_WRITABLE);
     }
     WriteAnswer::Bytes(families::id_size(form) + 1 + n)
@@ -111,6 +129,13 @@ fn size_within(rows: &[u32], max: u8, form: Form) -> WriteAnswer
         }
     }
     WriteAnswer::Bytes(total)
+}
+
+// What is left of n after i.
+fn left(n: usize, i: usize) -> usize
+    ensures { λ r. ⌜ r ≡ n - i ⌝ }
+{
+    if n <= i { 0 } else { n - i }
 }
 
 // The first n octets of four words, at a place of the output; where the maximum length is 32 at most they are in the first word.
@@ -145,14 +170,117 @@ fn put_row(ws: &[u32], max: u8, form: Form, out: &mut [u8], to: usize) -> usize
     k + 1 + n
 }
 
-// The bytes of rows that can be written, in an output that has room.
-fn fill(rows: &[u32], max: u8, form: Form, out: &mut [u8])
-    requires { ⌜ (max ≤ 128) × (writing (now rows) max form .verdict ≡ 0) ⌝ }
-    requires { ⌜ length (bytesOf (now rows) max form) ≤ length (now out) ⌝ }
-    ensures { λ _. ⌜ now (out .exit) ≡ laid (now (out .entry)) 0 (bytesOf (now (rows .entry)) max form) ⌝ }
+// The four bytes of a word, at a place of the output.
+fn put_word(out: &mut [u8], to: usize, w: u32)
+    requires { ⌜ to + 4 ≤ length (now out) ⌝ }
+    ensures { λ _. ⌜ now (out .exit) ≡ laid (now (out .entry)) to (toBe 4 w) ⌝ }
 {
+    out[to] = (w / 16777216) as u8;
+    out[to + 1] = (w / 65536 % 256) as u8;
+    out[to + 2] = (w / 256 % 256) as u8;
+    out[to + 3] = (w % 256) as u8;
+}
+
+// The sixteen address octets of the row at a place, at a place of the output. Each word is read just before it is put: its four bytes
+// become one store only so.
+fn put_words(rows: &[u32], at: usize, out: &mut [u8], to: usize)
+    requires { ⌜ (at + 6 ≤ length (now rows)) × (to + 16 ≤ length (now out)) ⌝ }
+    ensures { λ _. ⌜ now (out .exit) ≡ laid (now (out .entry)) to (address (rowAt (now (rows .entry)) at)) ⌝ }
+{
+    put_word(out, to, rows[at + 2]);
+    put_word(out, to + 4, rows[at + 3]);
+    put_word(out, to + 8, rows[at + 4]);
+    put_word(out, to + 12, rows[at + 5]);
+}
+
+// The id where the form has one, at a place of the output.
+fn put_id(out: &mut [u8], to: usize, id: u32, form: Form)
+    requires { ⌜ to + idSize form ≤ length (now out) ⌝ }
+    ensures { λ _. ⌜ now (out .exit) ≡ laid (now (out .entry)) to (toBe (idSize form) id) ⌝ }
+{
+    match form {
+        Form::Plain => {}
+        Form::Tagged => {
+            put_word(out, to, id);
+        }
+    }
+}
+
+// What stands before the address of the row at a place, at a place of the output; its length. The length byte is put first, for the
+// same reason.
+fn put_head(rows: &[u32], at: usize, form: Form, out: &mut [u8], to: usize) -> u8
+    requires { ⌜ (at + 6 ≤ length (now rows)) × (to + idSize form + 1 ≤ length (now out)) ⌝ }
+    requires { ⌜ (markOf form ≤ getD (now rows) at 0) × (lengthOf form (rowAt (now rows) at) ≤ 128) ⌝ }
+    ensures length { λ r. ⌜ r ≡ lengthOf form (rowAt (now (rows .entry)) at) ⌝ }
+    ensures out { λ _. ⌜ now (out .exit) ≡ laid (now (out .entry)) to (headBytes form (rowAt (now (rows .entry)) at)) ⌝ }
+{
+    let len = (rows[at] - families::mark_of(form)) as u8;
+    let seam = to + families::id_size(form);
+    out[seam] = len;
+    put_id(out, to, rows[at + 1], form);
+    len
+}
+
+// The next row, and the place of its bytes.
+struct Reached {
+    at: usize,
+    to: usize,
+}
+
+// IPv4 rows while the longest still fits below `total`: each address is put whole, and later rows overwrite what is past its prefix.
+fn fill_short(rows: &[u32], form: Form, out: &mut [u8], total: usize) -> Reached
+    requires { ⌜ Fillable (now rows) 32 form (now out) total ⌝ }
+    ensures { λ r. ⌜ Ahead 32 form (now (rows .entry)) (now (out .entry)) (r .at) (r .to) (now (out .exit)) ⌝ }
+{
+    let k = families::id_size(form);
     let mut at: usize = 0;
     let mut to: usize = 0;
+    while to + (k + 5) <= total {
+        let len = put_head(rows, at, form, out, to);
+        put_word(out, to + k + 1, rows[at + 2]);
+        at = at + 6;
+        to = to + (k + 1 + families::octet_count(len));
+    }
+    Reached { at, to }
+}
+
+// IPv6 rows in the same way.
+fn fill_long(rows: &[u32], form: Form, out: &mut [u8], total: usize) -> Reached
+    requires { ⌜ Fillable (now rows) 128 form (now out) total ⌝ }
+    ensures { λ r. ⌜ Ahead 128 form (now (rows .entry)) (now (out .entry)) (r .at) (r .to) (now (out .exit)) ⌝ }
+{
+    let k = families::id_size(form);
+    let mut at: usize = 0;
+    let mut to: usize = 0;
+    while to + (k + 17) <= total {
+        let len = put_head(rows, at, form, out, to);
+        put_words(rows, at, out, to + k + 1);
+        at = at + 6;
+        to = to + (k + 1 + families::octet_count(len));
+    }
+    Reached { at, to }
+}
+
+// The rows of a family while the longest still fits.
+fn fill_ahead(rows: &[u32], afi: Afi, form: Form, out: &mut [u8], total: usize) -> Reached
+    requires { ⌜ Fillable (now rows) (maxOf afi) form (now out) total ⌝ }
+    ensures { λ r. ⌜ Ahead (maxOf afi) form (now (rows .entry)) (now (out .entry)) (r .at) (r .to) (now (out .exit)) ⌝ }
+{
+    match afi {
+        Afi::Ipv4 => fill_short(rows, form, out, total),
+        Afi::Ipv6 => fill_long(rows, form, out, total),
+    }
+}
+
+// The bytes of rows that can be written, `total` in all, in an output that has room; of the last rows just their bytes.
+fn fill(rows: &[u32], afi: Afi, form: Form, out: &mut [u8], total: usize)
+    requires { ⌜ Fillable (now rows) (maxOf afi) form (now out) total ⌝ }
+    ensures { λ _. ⌜ now (out .exit) ≡ laid (now (out .entry)) 0 (bytesOf (now (rows .entry)) (maxOf afi) form) ⌝ }
+{
+    let r = fill_ahead(rows, afi, form, out, total);
+    let max = families::max_len(afi);
+    let mut at: usize = r.at;
+    let mut to: usize = r.to;
     while at < rows.len() {
         let n = put_row(&rows[at..], max, form, out, to);
         at = at + 6;
@@ -180,9 +308,102 @@ pub fn encode_nlri_prefixes(rows: &[u32], afi: Afi, form: Form, out: &mut [u8]) 
             if out.len() < n {
                 return WriteAnswer::Refused(refusal::NO_ROOM);
             }
-            fill(rows, families::max_len(afi), form, out);
+            fill(rows, afi, form, out, n);
             WriteAnswer::Bytes(n)
         }
         WriteAnswer::Refused(n) => WriteAnswer::Refused(n),
+    }
+}
+
+// Two lists of these sizes, if they fit below `most` and into so many places; no sum is made before it is known to be small.
+fn pair_size(
+    first: usize,
+    second: usize,
+    start: usize,
+    between: usize,
+    most: usize,
+    places: usize,
+) -> ListsAnswer
+    ensures { λ r. ⌜ r ≡ pairSized start between most places first second ⌝ }
+{
+    if wire::LIST_LIMIT < first {
+        return ListsAnswer::Refused(refusal::TOO_LONG);
+    }
+    if wire::LIST_LIMIT < second {
+        return ListsAnswer::Refused(refusal::TOO_LONG);
+    }
+    if most < start {
+        return ListsAnswer::Refused(refusal::TOO_LONG);
+    }
+    if most - start < between {
+        return ListsAnswer::Refused(refusal::TOO_LONG);
+    }
+    if most - start - between < first + second {
+        return ListsAnswer::Refused(refusal::TOO_LONG);
+    }
+    if places < start + first + between + second {
+        return ListsAnswer::Refused(refusal::NO_ROOM);
+    }
+    ListsAnswer::Lists { first, second }
+}
+
+// The sizes of two lists of rows, if they can be written and fit.
+fn measure_pair(
+    first: &[u32],
+    second: &[u32],
+    afi: Afi,
+    form: Form,
+    start: usize,
+    between: usize,
+    most: usize,
+    places: usize,
+) -> ListsAnswer
+    ensures { λ r. ⌜ r ≡ pairAnswer (now (first .entry)) (now (second .entry)) (maxOf afi) form start between most places ⌝ }
+{
+    match measure_nlri_prefixes(first, afi, form) {
+        WriteAnswer::Bytes(a) => match measure_nlri_prefixes(second, afi, form) {
+            WriteAnswer::Bytes(b) => pair_size(a, b, start, between, most, places),
+            WriteAnswer::Refused(n) => ListsAnswer::Refused(n),
+        },
+        WriteAnswer::Refused(n) => ListsAnswer::Refused(n),
+    }
+}
+
+// Rows that were measured, as a list at a place of an output that has room.
+fn put_list(rows: &[u32], afi: Afi, form: Form, size: usize, out: &mut [u8], to: usize)
+    requires { ⌜ (measured (now rows) (maxOf afi) form ≡ Bytes size) × (to + size ≤ length (now out)) ⌝ }
+    ensures { λ _. ⌜ now (out .exit) ≡ laid (now (out .entry)) to (bytesOf (now (rows .entry)) (maxOf afi) form) ⌝ }
+{
+    fill(rows, afi, form, &mut out[to..], size);
+}
+
+// Two lists, both or neither: the first at `start`, the second `between` bytes after its end, all within `most` bytes. What stands
+// before and between them is left as it is.
+pub fn encode_nlri_pair(
+    first: &[u32],
+    second: &[u32],
+    afi: Afi,
+    form: Form,
+    start: usize,
+    between: usize,
+    most: usize,
+    out: &mut [u8],
+) -> ListsAnswer
+    ensures answer { λ r. ⌜ r ≡ pairAnswer (now (first .entry)) (now (second .entry)) (maxOf afi) form start between most (length (now (out .entry))) ⌝ }
+    ensures out { λ r. ⌜ now (out .exit) ≡ pairAfter r start between (bytesOf (now (first .entry)) (maxOf afi) form) (bytesOf (now (second .entry)) (maxOf afi) form) (now (out .entry)) ⌝ }
+{
+    match measure_pair(first, second, afi, form, start, between, most, out.len()) {
+        ListsAnswer::Lists {
+            first: a,
+            second: b,
+        } => {
+            put_list(first, afi, form, a, out, start);
+            put_list(second, afi, form, b, out, start + a + between);
+            ListsAnswer::Lists {
+                first: a,
+                second: b,
+            }
+        }
+        ListsAnswer::Refused(n) => ListsAnswer::Refused(n),
     }
 }

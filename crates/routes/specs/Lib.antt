@@ -1,9 +1,7 @@
 pub mod Prefix
 pub mod List
 pub mod Promises
-pub mod Pair
 pub mod Size
 pub mod PrefixLaws
 pub mod ListLaws
-pub mod PairLaws
 pub mod Tight

@@ -1,8 +1,8 @@
 -- A list of routes: items to the end of the bytes, under each Add-Path setting; and a section of an UPDATE.
-use Prim.Native.Nat.{ℕ, _+_}
+use Prim.Native.Nat.{ℕ}
 use mathlib.Core.List.{List, [], _∷_}
-use mathlib.Core.Bool.{Bool, true, false, not}
-use lib.ListN.{length, getD}
+use mathlib.Core.Bool.{Bool, false, not}
+use lib.ListN.{getD}
 use lib.Dec.{eqb}
 use Rattle.wire.specs.Choice.{pick}
 use Rattle.wire.specs.Refusal.{oneByteSection}

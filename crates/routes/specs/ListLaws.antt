@@ -12,12 +12,11 @@ use lib.ListN.{length, getD, take, drop}
 use Rattle.wire.specs.Choice.{pick-leb}
 use Rattle.wire.specs.Refusal.{tooLong, oneByteSection, noRoom, listLimit}
 use Rattle.wire.specs.Store.{laid}
-use Rattle.wire.specs.Turn.{rest, Light, Counted, turn-fits, count-step, count-stop, Filled, fill-fits, fill-step, fill-takes}
+use Rattle.wire.specs.Turn.{rest, Light, Counted, turn-fits, count-step, count-stop}
 use Rattle.wire.specs.Walk.{readAll, Step, took, stop, Reading, refused, tally, flat}
 use Rattle.wire.specs.WalkLaws.{Sound, tally-one, flat-length, all-blind}
-use Rattle.families.specs.Family.{idSize}
-use Rattle.routes.specs.Prefix.{itemEnd, itemRow, words, prefixOf}
-use Rattle.routes.specs.PrefixLaws.{Placeable, Took, prefix-took, prefix-names}
+use Rattle.routes.specs.Prefix.{itemRow, words, prefixOf}
+use Rattle.routes.specs.PrefixLaws.{Took, prefix-took, prefix-names}
 use Rattle.routes.specs.List.{asStep, inForm, plainHere, tried, guessForm, formBy, fixed, stepOf, listOf, strange, sectionOf}
 use Rattle.routes.specs.Promises.{answerBy, countAnswer, readAnswer, filled, storeAfter}
 use Rattle.routes.specs.Size.{sizeOf, sized, kept}
@@ -239,43 +238,6 @@ module _ (s : List ℕ) (at max : ℕ) (mode : AddPath) (st : Form) (r : StepAns
         let step = turn-refused n f in
         count-bad s (readAll (stepOf max mode) st₀ s) n small (count-stop (stepOf max mode) (sound max mode) (λ _. 1) 1 (light max mode) st₀ s st at count h n lt step)
         (sound max mode .names st (drop at s) n step)
-
--- ---- a turn of a loop that fills, where nothing is refused any more: the item in the form that the setting chooses is there
-
-module _ (max : ℕ) (mode : AddPath) (st₀ : Form) (s d₀ : List ℕ) (st : Form) (at to : ℕ) (d : List ℕ) (h : Filled (stepOf max mode) words st₀ s d₀ st at to d) (lt : at < length s)
-    (form : Form) (chosen : form ≡ formBy max mode st (take (length s - at) (drop at s))) where
-  -- as a step of the walk
-  item-step : stepOf max mode st (drop at s) ≡ took (itemEnd form (drop at s)) (itemRow form (take (itemEnd form (drop at s)) (drop at s))) form
-  item-step =
-      let x = fill-takes (stepOf max mode) (sound max mode) words st₀ s d₀ st at to d h lt in
-      let e = x .3 in
-      let same : x .2 ≡ form = sym (step-form max mode st (x .2) (drop at s) (x .0) (x .1) e) ∙ sym (rw rest at chosen) in
-      let t : Took (drop at s) max form (x .0) (x .1) = rw same at (step-took max mode st (x .2) (drop at s) (x .0) (x .1) e) in
-      e ∙ ap (took (x .0) (x .1)) same
-      ∙ ap₂ (λ (used : ℕ) (row : Row). took used row form) (t .size) (t .is ∙ ap (λ (used : ℕ). itemRow form (take used (drop at s))) (t .size))
-
-  item-took : Took (drop at s) max form (itemEnd form (drop at s)) (itemRow form (take (itemEnd form (drop at s)) (drop at s)))
-  item-took = step-took max mode st form (drop at s) _ _ item-step
-
-  pub filled-there : idSize form < length (take (length s - at) (drop at s))
-  filled-there = rw rest (item-took .there)
-
-  -- it can be put
-  pub filled-item : (used : ℕ) → used ≡ itemEnd form (take (length s - at) (drop at s))
-      → Placeable max form used (take (length s - at) (drop at s)) × (at + used ≤ length s) × (to + 6 ≤ length d)
-  filled-item used e =
-      let size : used ≡ itemEnd form (drop at s) = rw rest at e in
-      let t = item-took in
-      let fits = fill-fits (stepOf max mode) (sound max mode) words st₀ s d₀ st at to d h form _ _ item-step in
-      (record { front = omega (arith, size); end = omega (arith, size, t .fits); within = rw rest (omega (arith, size, t .room)) }, omega (arith, size, fits .1), fits .2)
-
-  -- and when it is put, the turn is done
-  pub filled-next : (used : ℕ) (d′ : List ℕ) → used ≡ itemEnd form (take (length s - at) (drop at s))
-      → d′ ≡ laid d to (words (itemRow form (take used (take (length s - at) (drop at s)))))
-      → Filled (stepOf max mode) words st₀ s d₀ form (at + used) (to + 6) d′
-  filled-next used d′ e put =
-      let size : used ≡ itemEnd form (drop at s) = rw rest at e in
-      rw (put, rest, size) (fill-step (stepOf max mode) (sound max mode) words st₀ s d₀ st at to d h form _ _ item-step)
 
 -- ---- a section
 

@@ -1,21 +1,19 @@
 -- Laws of one item.
 -- Assumes nothing.
-use Prim.Native.Nat.{ℕ, zero, suc, _+_, _-_, _*_, _^_, _/_, _≤_, _<_}
+use Prim.Native.Nat.{ℕ, suc, _+_, _-_, _≤_, _<_}
 use mathlib.Core.Path.{_≡_, refl, sym, ap, ap₂, _∙_}
-use mathlib.Core.List.{List, _++_}
-use native.Mathlib.Nat.{div-one, mul-one}
+use mathlib.Core.List.{List}
 use native.Mathlib.Omega.{arith}
 use borrow.Author.Tests.{le-leb, lt-leb, lt-ltb, le-ltb}
-use lib.ListN.{length, getD, take, drop, replicate, drop-of-length-le}
+use lib.ListN.{length, getD, take, drop}
 use lib.Seq.{getD-take, take-take}
 use Rattle.wire.specs.Choice.{pick-leb}
-use Rattle.wire.specs.Number.{be, beAt, padded, Bytes}
-use Rattle.wire.specs.NumberLaws.{be-cut, bytes-drop, bytes-padded, length-padded, padded-of-take, padded-of-more, padded-take}
+use Rattle.wire.specs.Number.{be, beAt, padded}
+use Rattle.wire.specs.NumberLaws.{padded-take}
 use Rattle.wire.specs.Parts.{drop-take}
 use Rattle.wire.specs.Refusal.{truncated, prefixLength}
-use Rattle.wire.specs.Turn.{rest}
 use Rattle.families.specs.Family.{idSize, markOf, octets}
-use Rattle.routes.specs.Prefix.{itemEnd, wordAt, rowOf, itemRow, prefixOf}
+use Rattle.routes.specs.Prefix.{wordAt, itemEnd, rowOf, itemRow, prefixOf}
 use Rattle.families.specs.declared.Form.{Form}
 use Rattle.routes.specs.declared.Row.{Row}
 use Rattle.routes.specs.declared.PrefixAnswer.{PrefixAnswer}
@@ -32,10 +30,9 @@ pub record Took (s : List ℕ) (max : ℕ) (form : Form) (used : ℕ) (row : Row
   pub room : used ≤ length s
   pub is : row ≡ itemRow form (take used s)
 
--- that the first `used` bytes of s can be put as a row: what putting asks
-pub record Placeable (max : ℕ) (form : Form) (used : ℕ) (s : List ℕ) : Type 0 where
+-- that the first `used` bytes of s hold an item's id and length byte
+pub record Bounded (form : Form) (used : ℕ) (s : List ℕ) : Type 0 where
   pub front : idSize form + 1 ≤ used
-  pub end : used ≤ idSize form + 1 + octets max
   pub within : used ≤ length s
 
 -- what holds of each answer where it is given holds of the answer
@@ -107,34 +104,6 @@ prefix-names s max form n =
     (λ e. let same : prefixLength ≡ n = cc in omega arith)
     (λ u r t e. let z : _≡_ {A = ℕ} 0 1 = cc in absurd (zero-ne-one z))
 
--- ---- address words
-
--- a word of n octets is the word of what stands there with the bits past the n octets cleared
-word-cut : (t : List ℕ) (m k : ℕ) → Bytes t → m + k ≡ 4 → beAt t 0 4 / 256 ^ k * 256 ^ k ≡ beAt (take m t) 0 4
-unfolding beAt
-word-cut t m k h e =
-    be-cut m k (padded 4 t) (bytes-padded 4 t h) (length-padded 4 t ∙ sym e)
-    ∙ ap be (sym (ap (λ (n : ℕ). padded n (take m t)) (sym e) ∙ padded-of-take m k t ∙ ap (λ (n : ℕ). take m (padded n t) ++ replicate k 0) e))
-
-word-bits : (t : List ℕ) (m : ℕ) → Bytes t → beAt t 0 4 / 2 ^ (32 - 8 * m) * 2 ^ (32 - 8 * m) ≡ beAt (take m t) 0 4
-unfolding beAt
-word-bits t zero h = word-cut t 0 4 h refl
-word-bits t (suc zero) h = word-cut t 1 3 h refl
-word-bits t (suc (suc zero)) h = word-cut t 2 2 h refl
-word-bits t (suc (suc (suc zero))) h = word-cut t 3 1 h refl
-word-bits t (suc (suc (suc (suc m)))) h =
-    let none : 32 - 8 * (suc (suc (suc (suc m)))) ≡ 0 = omega arith in
-    rw none (mul-one (be (padded 4 t) / 1) ∙ div-one (be (padded 4 t)) ∙ ap be (sym (padded-of-more 4 (suc (suc (suc (suc m)))) t (omega arith))))
-
-pub word-at : (t : List ℕ) (i n : ℕ) → Bytes t → beAt t i 4 / 2 ^ (32 - 8 * (n - i)) * 2 ^ (32 - 8 * (n - i)) ≡ wordAt (take n t) i
-unfolding wordAt beAt
-word-at t i n h = word-bits (drop i t) (n - i) (bytes-drop i t h) ∙ ap (λ (o : List ℕ). be (padded 4 o)) (sym (drop-take i n t))
-
--- a word past the octets is 0
-pub word-past : (o : List ℕ) (i : ℕ) → length o ≤ i → wordAt o i ≡ 0
-unfolding wordAt beAt
-word-past o i h = rw (drop-of-length-le o h)
-
 -- ---- the row of an item, from where its parts stand
 
 pub row-parts : (o : List ℕ) (first id w0 w1 w2 w3 : ℕ) → w0 ≡ wordAt o 0 → w1 ≡ wordAt o 4 → w2 ≡ wordAt o 8 → w3 ≡ wordAt o 12
@@ -143,15 +112,13 @@ unfolding rowOf
 row-parts o first id w0 w1 w2 w3 e0 e4 e8 e12 = cc
 
 pub item-row : (s : List ℕ) (form : Form) (e k first id : ℕ) → k ≡ idSize form → first ≡ getD s k 0 + markOf form → id ≡ beAt s 0 (idSize form) → k + 1 ≤ e → e ≤ length s
-    → rowOf (take (e - (k + 1)) (take (length s - (k + 1)) (drop (k + 1) s))) first id ≡ itemRow form (take e s)
+    → rowOf (take (e - (k + 1)) (drop (k + 1) s)) first id ≡ itemRow form (take e s)
 unfolding itemRow beAt
 item-row s form e k first id k-is first-is id-is low high =
-    let octs : drop (k + 1) (take e s) ≡ take (e - (k + 1)) (take (length s - (k + 1)) (drop (k + 1) s)) =
-    drop-take (k + 1) e s ∙ ap (take (e - (k + 1))) (sym (rest s (k + 1))) in
     let len : getD (take e s) k 0 ≡ getD s k 0 = getD-take e s k 0 (omega arith) in
     let ids : be (take k (take e s)) ≡ be (padded k s) = ap be (take-take k e s (omega arith) ∙ sym (padded-take k s (omega arith))) in
     let here : rowOf (drop (k + 1) (take e s)) (getD (take e s) k 0 + markOf form) (be (take k (take e s))) ≡ itemRow form (take e s) =
     ap (λ (j : ℕ). rowOf (drop (j + 1) (take e s)) (getD (take e s) j 0 + markOf form) (be (take j (take e s)))) k-is in
     ap₂ (rowOf _) (first-is ∙ ap (λ (l : ℕ). l + markOf form) (sym len)) (id-is ∙ ap (λ (j : ℕ). be (padded j s)) (sym k-is) ∙ sym ids)
-    ∙ ap (λ (o : List ℕ). rowOf o (getD (take e s) k 0 + markOf form) (be (take k (take e s)))) (sym octs)
+    ∙ ap (λ (o : List ℕ). rowOf o (getD (take e s) k 0 + markOf form) (be (take k (take e s)))) (sym (drop-take (k + 1) e s))
     ∙ here

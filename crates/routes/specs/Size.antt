@@ -1,5 +1,4 @@
 -- What a step says of sizes alone: the parts of an answer that counting needs.
-use Prim.Native.Nat.{ℕ}
 use Rattle.wire.specs.Walk.{Step, took, stop}
 use Rattle.families.specs.declared.Form.{Form}
 use Rattle.routes.specs.declared.Row.{Row}

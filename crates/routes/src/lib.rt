@@ -1,20 +1,15 @@
 // Routes: one, and a list of them (RFC 4271 section 4.3, RFC 7911 section 3). The reading of utils.rs and of read_nlri in messages.rs.
 ghost use mathlib.Core.Path.{_≡_};
-ghost use Prim.Native.Nat.{_+_, _-_, _*_, _/_, _^_, _≤_, _<_};
-ghost use mathlib.Core.List.{[], _∷_};
+ghost use Prim.Native.Nat.{_+_, _≤_, _<_};
 ghost use lib.ListN.{length, getD, take};
 ghost use Rattle.wire.specs.Number.{beAt};
 ghost use Rattle.wire.specs.Refusal.{listLimit};
-ghost use Rattle.wire.specs.Store.{laid};
-ghost use Rattle.wire.specs.Walk.{flat};
-ghost use Rattle.families.specs.Family.{maxOf, idSize, octets};
-ghost use Rattle.routes.specs.Prefix.{itemEnd, wordAt, rowOf, itemRow, words, prefixOf};
-ghost use Rattle.routes.specs.PrefixLaws.{Placeable};
-ghost use Rattle.routes.specs.List.{plainHere, guessForm, formBy, fixed, stepOf, listOf, sectionOf, strange};
+ghost use Rattle.families.specs.Family.{maxOf, idSize};
+ghost use Rattle.routes.specs.Prefix.{itemRow, prefixOf};
+ghost use Rattle.routes.specs.PrefixLaws.{Bounded};
+ghost use Rattle.routes.specs.List.{plainHere, fixed, stepOf, listOf, sectionOf, strange};
 ghost use Rattle.routes.specs.Size.{sizeOf, sized, kept};
-ghost use Rattle.routes.specs.Promises.{countAnswer, readAnswer, filled, storeAfter, Fitting};
-ghost use Rattle.routes.specs.Pair.{hasRoom, pairAnswer, firstAfter, secondAfter};
-ghost use mathlib.Core.Bool.{true};
+ghost use Rattle.routes.specs.Promises.{countAnswer};
 use families::AddPath;
 use families::Afi;
 use families::Form;
@@ -49,7 +44,7 @@ enum SizeAnswer {
 }
 
 // A step of a list: the bytes its item takes and the form it stands in, or why it is refused.
-enum StepAnswer {
+pub enum StepAnswer {
     Item { used: usize, form: Form },
     Refused(u8),
 }
@@ -73,71 +68,6 @@ fn item_size(s: &[u8], max: u8, form: Form) -> SizeAnswer
     SizeAnswer::Size(e)
 }
 
-// x with its last k bits cleared.
-fn cut(x: u32, k: u32) -> u32
-    requires { ⌜ k ≤ 32 ⌝ }
-    ensures { λ r. ⌜ r ≡ x / 2 ^ k * 2 ^ k ⌝ }
-{
-    let y = (x as u64 >> k) << k;
-    y as u32
-}
-
-// How many of the 32 bits of the word at octet i lie past n octets.
-fn past(i: usize, n: usize) -> u32
-    requires { ⌜ i ≤ 12 ⌝ }
-    ensures { λ r. ⌜ r ≡ 32 - 8 * (n - i) ⌝ }
-{
-    let end = wire::least(wire::most(n, i), i + 4);
-    (32 - 8 * (end - i)) as u32
-}
-
-// The address word at octet i of n octets, which stand at the front of t.
-fn word_of(t: &[u8], i: usize, n: usize) -> u32
-    requires { ⌜ i ≤ 12 ⌝ }
-    ensures { λ r. ⌜ r ≡ wordAt (take n (now (t .entry))) i ⌝ }
-{
-    cut(wire::u32_at(t, i), past(i, n))
-}
-
-// The first address word of at most four octets.
-fn front_word(t: &[u8], n: usize) -> u32
-    requires { ⌜ n ≤ 4 ⌝ }
-    ensures { λ r. ⌜ r ≡ wordAt (take n (now (t .entry))) 0 ⌝ }
-{
-    cut(wire::u32_at(t, 0), (32 - 8 * n) as u32)
-}
-
-// Six words at a place of a store.
-fn put_words(store: &mut [u32], to: usize, first: u32, id: u32, w0: u32, w1: u32, w2: u32, w3: u32)
-    requires { ⌜ to + 6 ≤ length (now store) ⌝ }
-    ensures { λ _. ⌜ now (store .exit) ≡ laid (now (store .entry)) to (first ∷ id ∷ w0 ∷ w1 ∷ w2 ∷ w3 ∷ []) ⌝ }
-{
-    store[to] = first;
-    store[to + 1] = id;
-    store[to + 2] = w0;
-    store[to + 3] = w1;
-    store[to + 4] = w2;
-    store[to + 5] = w3;
-}
-
-// The row of n octets at the front of t, at a place of a store. A family of at most 32 bits has one address word. The last word
-// is read first: where its four bytes are there, so are those of the others.
-fn put_row(store: &mut [u32], to: usize, t: &[u8], n: usize, max: u8, first: u32, id: u32)
-    requires { ⌜ to + 6 ≤ length (now store) ⌝ }
-    requires { ⌜ n ≤ octets max ⌝ }
-    ensures { λ _. ⌜ now (store .exit) ≡ laid (now (store .entry)) to (words (rowOf (take n (now (t .entry))) first id)) ⌝ }
-{
-    if max <= 32 {
-        put_words(store, to, first, id, front_word(t, n), 0, 0, 0);
-        return;
-    }
-    let w3 = word_of(t, 12, n);
-    let w2 = word_of(t, 8, n);
-    let w1 = word_of(t, 4, n);
-    let w0 = word_of(t, 0, n);
-    put_words(store, to, first, id, w0, w1, w2, w3);
-}
-
 // The id of the item at the front of s, 0 where the form has none.
 fn id_of(s: &[u8], form: Form) -> u32
     ensures { λ r. ⌜ r ≡ beAt (now (s .entry)) 0 (idSize form) ⌝ }
@@ -148,34 +78,21 @@ fn id_of(s: &[u8], form: Form) -> u32
     }
 }
 
-// The row of the item of e bytes at the front of s, at a place of a store.
-fn put_item(store: &mut [u32], to: usize, s: &[u8], e: usize, max: u8, form: Form)
-    requires { ⌜ to + 6 ≤ length (now store) ⌝ }
-    requires { ⌜ Placeable max form e (now s) ⌝ }
-    ensures { λ _. ⌜ now (store .exit) ≡ laid (now (store .entry)) to (words (itemRow form (take e (now (s .entry))))) ⌝ }
-{
-    let k = families::id_size(form);
-    let b = k + 1;
-    let first = wire::wide(s[k]) + families::mark_of(form);
-    put_row(store, to, &s[b..], e - b, max, first, id_of(s, form));
-}
-
 // The row of the item of e bytes at the front of s.
-fn row_of(s: &[u8], e: usize, max: u8, form: Form) -> Row
-    requires { ⌜ Placeable max form e (now s) ⌝ }
+fn row_of(s: &[u8], e: usize, form: Form) -> Row
+    requires { ⌜ Bounded form e (now s) ⌝ }
     ensures { λ r. ⌜ r ≡ itemRow form (take e (now (s .entry))) ⌝ }
 {
     let k = families::id_size(form);
     let b = k + 1;
-    let t = &s[b..];
-    let n = e - b;
+    let t = &s[b..e];
     Row {
         first: wire::wide(s[k]) + families::mark_of(form),
         id: id_of(s, form),
-        w0: word_of(t, 0, n),
-        w1: word_of(t, 4, n),
-        w2: word_of(t, 8, n),
-        w3: word_of(t, 12, n),
+        w0: wire::u32_at(t, 0),
+        w1: wire::u32_at(t, 4),
+        w2: wire::u32_at(t, 8),
+        w3: wire::u32_at(t, 12),
     }
 }
 
@@ -187,7 +104,7 @@ pub fn try_parse_prefix(s: &[u8], afi: Afi, form: Form) -> PrefixAnswer
     match item_size(s, max, form) {
         SizeAnswer::Size(used) => PrefixAnswer::Prefix {
             used,
-            row: row_of(s, used, max, form),
+            row: row_of(s, used, form),
         },
         SizeAnswer::Refused(n) => PrefixAnswer::Refused(n),
     }
@@ -234,6 +151,17 @@ fn form_size(s: &[u8], max: u8, form: Form) -> StepAnswer
     ensures { λ r. ⌜ r ≡ sized (stepOf max (fixed form) form (now (s .entry))) ⌝ }
 {
     keep_size(item_size(s, max, form), form)
+}
+
+// A step under a setting.
+pub fn item_step(s: &[u8], max: u8, mode: AddPath, form: Form) -> StepAnswer
+    ensures { λ r. ⌜ r ≡ sized (stepOf max mode form (now (s .entry))) ⌝ }
+{
+    match mode {
+        AddPath::On => form_size(s, max, Form::Tagged),
+        AddPath::Off => form_size(s, max, Form::Plain),
+        AddPath::Guess => guess_size(s, max, form),
+    }
 }
 
 // How many rows a list has whose items all stand in one form.
@@ -294,74 +222,6 @@ fn count_rows(s: &[u8], max: u8, mode: AddPath) -> ListAnswer
     }
 }
 
-// The bytes of the item at the front of a list that is known to be good.
-fn item_end(s: &[u8], form: Form) -> usize
-    requires { ⌜ idSize form < length (now s) ⌝ }
-    ensures { λ r. ⌜ r ≡ itemEnd form (now (s .entry)) ⌝ }
-{
-    let k = families::id_size(form);
-    k + 1 + families::octet_count(s[k])
-}
-
-// The form in which the guess reads the item at the front.
-fn guess_form(s: &[u8], max: u8, form: Form) -> Form
-    ensures { λ r. ⌜ r ≡ guessForm max form (now (s .entry)) ⌝ }
-{
-    if plain_here(s, form) {
-        return Form::Plain;
-    }
-    match item_size(s, max, Form::Tagged) {
-        SizeAnswer::Size(_) => Form::Tagged,
-        SizeAnswer::Refused(_) => Form::Plain,
-    }
-}
-
-// The form in which a setting reads the item at the front.
-fn form_by(s: &[u8], max: u8, mode: AddPath, form: Form) -> Form
-    ensures { λ r. ⌜ r ≡ formBy max mode form (now (s .entry)) ⌝ }
-{
-    match mode {
-        AddPath::On => Form::Tagged,
-        AddPath::Off => Form::Plain,
-        AddPath::Guess => guess_form(s, max, form),
-    }
-}
-
-// The rows of a good list that has room, from the front of a store.
-fn fill_rows(s: &[u8], max: u8, mode: AddPath, store: &mut [u32])
-    requires { ⌜ Fitting (listOf (now s) max mode) (now store) ⌝ }
-    ensures { λ _. ⌜ now (store .exit) ≡ laid (now (store .entry)) 0 (flat words (listOf (now (s .entry)) max mode .rows)) ⌝ }
-{
-    let mut at: usize = 0;
-    let mut to: usize = 0;
-    let mut form = Form::Plain;
-    while at < s.len() {
-        let next = form_by(&s[at..], max, mode, form);
-        let used = item_end(&s[at..], next);
-        put_item(store, to, &s[at..], used, max, next);
-        at = at + used;
-        to = to + 6;
-        form = next;
-    }
-}
-
-// A list under a setting, into a lent store.
-fn read_rows(s: &[u8], max: u8, mode: AddPath, store: &mut [u32]) -> ListAnswer
-    ensures answer { λ r. ⌜ r ≡ readAnswer (now (s .entry)) (listOf (now (s .entry)) max mode) (length (now (store .entry))) ⌝ }
-    ensures store { λ _. ⌜ now (store .exit) ≡ storeAfter (now (s .entry)) (listOf (now (s .entry)) max mode) (now (store .entry)) ⌝ }
-{
-    match count_rows(s, max, mode) {
-        ListAnswer::Rows(n) => {
-            if store.len() / 6 < n {
-                return ListAnswer::Refused(refusal::NO_ROOM);
-            }
-            fill_rows(s, max, mode, store);
-            ListAnswer::Rows(n)
-        }
-        ListAnswer::Refused(n) => ListAnswer::Refused(n),
-    }
-}
-
 // How many rows a list has, with no store.
 pub fn count_nlri_list(s: &[u8], afi: Afi, mode: AddPath) -> ListAnswer
     ensures answer { λ r. ⌜ r ≡ countAnswer (now (s .entry)) (listOf (now (s .entry)) (maxOf afi) mode) ⌝ }
@@ -369,16 +229,8 @@ pub fn count_nlri_list(s: &[u8], afi: Afi, mode: AddPath) -> ListAnswer
     count_rows(s, families::max_len(afi), mode)
 }
 
-// A list into a lent store, six words a row.
-pub fn parse_nlri_list(s: &[u8], afi: Afi, mode: AddPath, store: &mut [u32]) -> ListAnswer
-    ensures answer { λ r. ⌜ r ≡ readAnswer (now (s .entry)) (listOf (now (s .entry)) (maxOf afi) mode) (length (now (store .entry))) ⌝ }
-    ensures store { λ _. ⌜ now (store .exit) ≡ storeAfter (now (s .entry)) (listOf (now (s .entry)) (maxOf afi) mode) (now (store .entry)) ⌝ }
-{
-    read_rows(s, families::max_len(afi), mode, store)
-}
-
 // Whether a section is one byte, and not 0.
-fn is_strange(s: &[u8]) -> bool
+pub fn is_strange(s: &[u8]) -> bool
     ensures { λ r. ⌜ r ≡ strange (now (s .entry)) ⌝ }
 {
     if s.len() != 1 {
@@ -395,77 +247,4 @@ pub fn count_nlri(s: &[u8], afi: Afi, mode: AddPath) -> ListAnswer
         return ListAnswer::Refused(refusal::ONE_BYTE_SECTION);
     }
     count_nlri_list(s, afi, mode)
-}
-
-// A section of an UPDATE into a lent store, six words a row.
-pub fn read_nlri(s: &[u8], afi: Afi, mode: AddPath, store: &mut [u32]) -> ListAnswer
-    ensures answer { λ r. ⌜ r ≡ readAnswer (now (s .entry)) (sectionOf (now (s .entry)) (maxOf afi) mode) (length (now (store .entry))) ⌝ }
-    ensures store { λ _. ⌜ now (store .exit) ≡ storeAfter (now (s .entry)) (sectionOf (now (s .entry)) (maxOf afi) mode) (now (store .entry)) ⌝ }
-{
-    if is_strange(s) {
-        return ListAnswer::Refused(refusal::ONE_BYTE_SECTION);
-    }
-    parse_nlri_list(s, afi, mode, store)
-}
-
-// Two sections, each with its rows or its own refusal number; or a refusal of both.
-pub enum PairAnswer {
-    Sections {
-        first: ListAnswer,
-        second: ListAnswer,
-    },
-    Refused(u8),
-}
-
-// Whether a store of so many places has room for what was counted.
-fn has_room(counted: ListAnswer, places: usize) -> bool
-    ensures { λ r. ⌜ r ≡ hasRoom counted places ⌝ }
-{
-    match counted {
-        ListAnswer::Rows(n) => n <= places / 6,
-        ListAnswer::Refused(_) => true,
-    }
-}
-
-// The rows of a section that was counted, into a store that has room; nothing of one that was refused.
-fn fill_counted(s: &[u8], afi: Afi, mode: AddPath, counted: ListAnswer, store: &mut [u32])
-    requires { ⌜ counted ≡ countAnswer (now s) (sectionOf (now s) (maxOf afi) mode) ⌝ }
-    requires { ⌜ hasRoom counted (length (now store)) ≡ true ⌝ }
-    ensures { λ _. ⌜ now (store .exit) ≡ filled counted (sectionOf (now (s .entry)) (maxOf afi) mode .rows) (now (store .entry)) ⌝ }
-{
-    match counted {
-        ListAnswer::Rows(_) => {
-            fill_rows(s, families::max_len(afi), mode, store);
-        }
-        ListAnswer::Refused(_) => {}
-    }
-}
-
-// Two sections of an UPDATE into two lent stores: where either has rows and no room for them, neither store is touched.
-pub fn read_nlri_pair(
-    s: &[u8],
-    t: &[u8],
-    afi: Afi,
-    mode: AddPath,
-    first: &mut [u32],
-    second: &mut [u32],
-) -> PairAnswer
-    ensures answer { λ r. ⌜ r ≡ pairAnswer (now (s .entry)) (now (t .entry)) (maxOf afi) mode (length (now (first .entry))) (length (now (second .entry))) ⌝ }
-    ensures first { λ r. ⌜ now (first .exit) ≡ firstAfter r (sectionOf (now (s .entry)) (maxOf afi) mode) (now (first .entry)) ⌝ }
-    ensures second { λ r. ⌜ now (second .exit) ≡ secondAfter r (sectionOf (now (t .entry)) (maxOf afi) mode) (now (second .entry)) ⌝ }
-{
-    let a = count_nlri(s, afi, mode);
-    let b = count_nlri(t, afi, mode);
-    if !has_room(a, first.len()) {
-        return PairAnswer::Refused(refusal::NO_ROOM);
-    }
-    if !has_room(b, second.len()) {
-        return PairAnswer::Refused(refusal::NO_ROOM);
-    }
-    fill_counted(s, afi, mode, a, first);
-    fill_counted(t, afi, mode, b, second);
-    PairAnswer::Sections {
-        first: a,
-        second: b,
-    }
 }

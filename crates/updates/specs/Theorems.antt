@@ -17,9 +17,9 @@ use Rattle.routes.specs.PrefixLaws.{prefix-cases}
 use Rattle.routes.specs.List.{asStep, inForm, formBy, stepOf, listOf, strange, sectionOf}
 use Rattle.routes.specs.ListLaws.{sound}
 use Rattle.routes.specs.Promises.{answerBy, countAnswer}
-use Rattle.routes.specs.Pair.{hasRoom, pairBy, pairAnswer}
-use Rattle.routes.specs.declared.PairAnswer.{PairAnswer}
-use Rattle.routes.specs.declared.PairAnswer.the-variants as Q
+use Rattle.route_reader.specs.Pair.{hasRoom, pairBy, pairAnswer}
+use Rattle.route_reader.specs.declared.PairAnswer.{PairAnswer}
+use Rattle.route_reader.specs.declared.PairAnswer.the-variants as Q
 use Rattle.families.specs.declared.Afi.the-variants.{Ipv4}
 use Rattle.families.specs.declared.Form.{Form}
 use Rattle.families.specs.declared.Form.the-variants.{Plain}

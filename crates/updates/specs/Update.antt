@@ -5,14 +5,14 @@ use mathlib.Core.List.{List}
 use Rattle.families.specs.Family.{maxOf}
 use Rattle.routes.specs.List.{sectionOf}
 use Rattle.routes.specs.Promises.{countAnswer, filled}
-use Rattle.routes.specs.Pair.{pairAnswer}
+use Rattle.route_reader.specs.Pair.{pairAnswer}
 use Rattle.families.specs.declared.Afi.the-variants.{Ipv4}
 use Rattle.families.specs.declared.AddPath.{AddPath}
 use Rattle.routes.specs.declared.Row.{Row}
 use Rattle.routes.specs.declared.ListAnswer.{ListAnswer}
 use Rattle.routes.specs.declared.ListAnswer.the-variants as L
-use Rattle.routes.specs.declared.PairAnswer.{PairAnswer}
-use Rattle.routes.specs.declared.PairAnswer.the-variants as P
+use Rattle.route_reader.specs.declared.PairAnswer.{PairAnswer}
+use Rattle.route_reader.specs.declared.PairAnswer.the-variants as P
 use Rattle.updates.specs.Body.{partsOf, withdrawnOf, announcedOf}
 use Rattle.updates.specs.declared.PartsAnswer.{PartsAnswer}
 use Rattle.updates.specs.declared.PartsAnswer.the-variants as S

@@ -5,14 +5,14 @@ ghost use lib.ListN.{length};
 ghost use Rattle.wire.specs.Extent.{PartOf};
 ghost use Rattle.families.specs.Family.{maxOf};
 ghost use Rattle.routes.specs.List.{sectionOf};
-ghost use Rattle.routes.specs.Pair.{pairAnswer};
+ghost use Rattle.route_reader.specs.Pair.{pairAnswer};
 ghost use Rattle.families.specs.declared.Afi.the-variants.{Ipv4};
 ghost use Rattle.updates.specs.Body.{partsOf, withdrawnAt, attributesAt, announcedAt};
 ghost use Rattle.updates.specs.Update.{countUpdate, readUpdate, asUpdate, withdrawnFilled, announcedFilled, withdrawnAfter, announcedAfter};
 use families::AddPath;
 use families::Afi;
+use route_reader::PairAnswer;
 use routes::ListAnswer;
-use routes::PairAnswer;
 use wire::refusal;
 
 // The bytes of a section's length.
@@ -143,7 +143,7 @@ fn both_sections(
     ensures withdrawn { λ r. ⌜ now (withdrawn .exit) ≡ withdrawnFilled r (sectionOf (now (s .entry)) (maxOf Ipv4) mode .rows) (now (withdrawn .entry)) ⌝ }
     ensures announced { λ r. ⌜ now (announced .exit) ≡ announcedFilled r (sectionOf (now (t .entry)) (maxOf Ipv4) mode .rows) (now (announced .entry)) ⌝ }
 {
-    match routes::read_nlri_pair(s, t, Afi::Ipv4, mode, withdrawn, announced) {
+    match route_reader::read_nlri_pair(s, t, Afi::Ipv4, mode, withdrawn, announced) {
         PairAnswer::Sections { first, second } => UpdateAnswer::Update {
             withdrawn: first,
             announced: second,

@@ -1,6 +1,6 @@
 -- Laws of numbers as bytes, each once over the size.
 -- Assumes nothing.
-use Prim.Native.Nat.{ℕ, zero, suc, _+_, _-_, _*_, _^_, _/_, _%_, _≤_, _<_}
+use Prim.Native.Nat.{ℕ, zero, suc, _+_, _*_, _^_, _/_, _%_, _≤_, _<_}
 use mathlib.Core.Path.{_≡_, refl, sym, ap, ap₂, _∙_}
 use mathlib.Core.List.{List, [], _∷_, _++_}
 use native.Mathlib.Nat.{div-add-mod', mod-lt, add-zero, add-suc, div-lt-iff-lt-mul, one-le-pow, pow-succ', not-suc-le-zero, mul-assoc, zero-mul, add-mul, add-assoc}
@@ -174,11 +174,22 @@ padded-cells s at n = ap (λ (j : ℕ). padded n (drop j s)) (sym (add-zero at))
 
 -- ---- a number with its last bytes cleared
 
-be-append : (s t : List ℕ) → be (s ++ t) ≡ be s * 256 ^ length t + be t
+pub be-append : (s t : List ℕ) → be (s ++ t) ≡ be s * 256 ^ length t + be t
 be-append [] t = rw (zero-mul (256 ^ length t)) (omega arith)
 be-append (b ∷ s) t =
     rw (length-append s t, pow-add 256 (length s) (length t), be-append s t, add-mul (b * 256 ^ length s) (be s) (256 ^ length t), mul-assoc b (256 ^ length s) (256 ^ length t))
     (sym (add-assoc (b * (256 ^ length s * 256 ^ length t)) (be s * 256 ^ length t) (be t)))
+
+-- two numbers one after the other are one
+pub toBe-append : (m n a b : ℕ) → a < 256 ^ m → b < 256 ^ n → toBe m a ++ toBe n b ≡ toBe (m + n) (a * 256 ^ n + b)
+toBe-append m n a b h k =
+    let s : List ℕ = toBe m a ++ toBe n b in
+    let size : length s ≡ m + n = length-append (toBe m a) (toBe n b) ∙ ap₂ _+_ (length-toBe m a) (length-toBe n b) in
+    let number : be s ≡ a * 256 ^ n + b =
+    be-append (toBe m a) (toBe n b)
+    ∙ ap₂ (λ (x j : ℕ). x * 256 ^ j + be (toBe n b)) (be-toBe m a h) (length-toBe n b)
+    ∙ ap (λ (x : ℕ). a * 256 ^ n + x) (be-toBe n b k) in
+    sym (toBe-be s (bytes-append (toBe m a) (toBe n b) (bytes-toBe m a h) (bytes-toBe n b k))) ∙ ap₂ toBe size number
 
 be-zeros : (k : ℕ) → be (replicate k 0) ≡ 0
 be-zeros zero = refl

@@ -7,10 +7,11 @@ use native.Mathlib.Nat.{add-zero, zero-add, add-suc, add-assoc}
 use native.Mathlib.Omega.{arith}
 use borrow.Author.Tests.{le-leb, lt-leb}
 use lib.ListN.{length, take, drop, set, length-append, length-drop, drop-of-length-le, take-append-drop}
-use lib.Seq.{sets, sets-eq, take-at, drop-at, length-take-le, drop-drop, paste, take-length, take-all}
+use lib.Seq.{sets, sets-eq, take-at, drop-at, take-append-le, drop-append-le, take-take, length-take-le, drop-drop, paste, take-length, take-all}
 use lib.Dec.{leb}
 use Rattle.wire.specs.Choice.{pick, pick-leb}
 use Rattle.wire.specs.NumberLaws.{off, off-add}
+use Rattle.wire.specs.Parts.{drop-take, take-append}
 
 -- vs from place at on; the rest is d
 abbrev pub laid : List ℕ → ℕ → List ℕ → List ℕ
@@ -82,6 +83,51 @@ laid-laid d at vs ws h =
     ap₂ (λ (l r : List ℕ). l ++ (ws ++ r)) (take-laid d at vs fits) more
     ∙ append-assoc (take at d) vs (ws ++ drop (at + length (vs ++ ws)) d)
     ∙ ap (λ (r : List ℕ). take at d ++ r) (sym (append-assoc vs ws (drop (at + length (vs ++ ws)) d)))
+
+-- the first of the values that are laid
+pub take-laid-front : (d : List ℕ) (at : ℕ) (vs ws : List ℕ) → at + length (vs ++ ws) ≤ length d → take (at + length vs) (laid d at (vs ++ ws)) ≡ take at d ++ vs
+take-laid-front d at vs ws h =
+    let n : length (vs ++ ws) ≡ length vs + length ws = length-append vs ws in
+    let first : at + length vs ≤ length d = omega arith in
+    let m : ℕ = at + length vs in
+    let size : length (take m (laid d at vs)) ≡ m = length-take-le m (laid d at vs) (omega (arith, length-laid d at vs first)) in
+    ap (take m) (sym (laid-laid d at vs ws (omega arith)))
+    ∙ take-at (take m (laid d at vs)) (ws ++ drop (m + length ws) (laid d at vs)) m size
+    ∙ take-laid d at vs first
+
+-- what stands past them
+pub drop-laid-past : (d : List ℕ) (at : ℕ) (vs : List ℕ) (n : ℕ) → at + length vs ≤ n → at + length vs ≤ length d → drop n (laid d at vs) ≡ drop n d
+drop-laid-past d at vs n le h =
+    let m : ℕ = at + length vs in
+    let e : m + (n - m) ≡ n = omega arith in
+    ap (λ (k : ℕ). drop k (laid d at vs)) (sym e)
+    ∙ sym (drop-drop (n - m) m (laid d at vs))
+    ∙ ap (drop (n - m)) (drop-laid d at vs h)
+    ∙ drop-drop (n - m) m d
+    ∙ ap (λ (k : ℕ). drop k d) e
+
+-- values that do not touch may be laid in either order
+pub laid-swap : (d : List ℕ) (at : ℕ) (vs : List ℕ) (to : ℕ) (ws : List ℕ) → at + length vs ≤ to → to + length ws ≤ length d
+    → laid (laid d to ws) at vs ≡ laid (laid d at vs) to ws
+laid-swap d at vs to ws apart h =
+    let m : ℕ = at + length vs in
+    let t : List ℕ = ws ++ drop (to + length ws) d in
+    let low : length (take to d) ≡ to = length-take-le to d (omega arith) in
+    let front : take at (laid d to ws) ≡ take at d = take-append-le at (take to d) t (omega arith) ∙ take-take at to d (omega arith) in
+    let middle : drop m (laid d to ws) ≡ take (to - m) (drop m d) ++ t = drop-append-le m (take to d) t (omega arith) ∙ ap (λ (l : List ℕ). l ++ t) (drop-take m to d) in
+    let size : length (take at d ++ vs) ≡ m = head-length d at vs (omega arith) in
+    let upto : take to (laid d at vs) ≡ (take at d ++ vs) ++ take (to - m) (drop m d) =
+    ap (take to) (sym (append-assoc (take at d) vs (drop m d)))
+    ∙ take-append to (take at d ++ vs) (drop m d)
+    ∙ ap₂ (λ (l : List ℕ) (k : ℕ). l ++ take (to - k) (drop m d)) (take-all to (take at d ++ vs) (omega arith)) size in
+    ap₂ (λ (l r : List ℕ). l ++ (vs ++ r)) front middle
+    ∙ sym (append-assoc (take at d) vs (take (to - m) (drop m d) ++ t))
+    ∙ sym (append-assoc (take at d ++ vs) (take (to - m) (drop m d)) t)
+    ∙ sym (ap₂ (λ (l r : List ℕ). l ++ (ws ++ r)) upto (drop-laid-past d at vs (to + length ws) (omega arith) (omega arith)))
+
+-- values before values
+pub laid-before : (d : List ℕ) (at : ℕ) (vs ws : List ℕ) → at + length vs + length ws ≤ length d → laid (laid d (at + length vs) ws) at vs ≡ laid d at (vs ++ ws)
+laid-before d at vs ws h = laid-swap d at vs (at + length vs) ws (omega arith) h ∙ laid-laid d at vs ws h
 
 -- values placed after those at the front
 pub placed-next : (d vs : List ℕ) (at : ℕ) (ws : List ℕ) → at ≡ length vs → at + length ws ≤ length d → placed (laid d 0 vs) at ws ≡ laid d 0 (vs ++ ws)

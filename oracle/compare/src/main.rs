@@ -5,17 +5,11 @@
 //!
 //! CAPTURES names the file of captured messages; without it there are none.
 
-mod inputs;
-mod programs;
-mod report;
-mod rng;
-mod sample;
-mod stops;
-
-use inputs::captures::{self, Capture};
-use inputs::Inputs;
-use programs::Program;
-use report::{Given, Report};
+use compare::inputs::captures::{self, Capture};
+use compare::inputs::Inputs;
+use compare::programs::Program;
+use compare::report::{Given, Report};
+use compare::{sample, stops};
 use std::env;
 use std::io;
 use std::path::{Path, PathBuf};

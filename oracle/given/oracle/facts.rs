@@ -1,5 +1,6 @@
 //! Where the crate and document 01 part on purpose, each with its smallest input, as docs/DIFFERENCES.md lists them.
 
+use super::private::{Inside, PrivateCalls};
 use super::warnings;
 use crate::error::{EncodingError, ParserError};
 use crate::models::*;
@@ -7,6 +8,7 @@ use crate::parser::bgp::attributes::parse_attributes;
 use crate::parser::bgp::messages::{parse_bgp_message, parse_bgp_update_message};
 use crate::parser::utils::{encode_nlri_prefixes, parse_nlri_list, ReadUtils};
 use bytes::{Buf, Bytes, BytesMut};
+use std::net::IpAddr;
 use std::str::FromStr;
 use std::sync::Once;
 
@@ -39,15 +41,11 @@ pub const ALL: &[(&str, fn())] = &[
         "an_attribute_that_the_crate_refuses_does_not_refuse_the_update",
         an_attribute_that_the_crate_refuses_does_not_refuse_the_update,
     ),
-    ("an_aggregator_with_a_16_byte_address_is_written_and_then_refused", SixteenBytes::hold),
+    (
+        "an_aggregator_with_a_16_byte_address_is_written_and_then_refused",
+        an_aggregator_with_a_16_byte_address_is_written_and_then_refused,
+    ),
 ];
-
-/// A fact about functions that only a neighbour of their module can call; the stub attr_35_otc.rs is one.
-pub trait PrivateFact {
-    fn hold();
-}
-
-pub struct SixteenBytes;
 
 /// A message with an all-FF marker.
 fn message(claimed: u16, kind: u8, body: &[u8]) -> Bytes {
@@ -186,4 +184,13 @@ fn an_attribute_that_the_crate_refuses_does_not_refuse_the_update() {
     let section = Bytes::from_static(&[0x40, 2, 1, 2]);
     let attributes = parse_attributes(section, &AsnLength::Bits16, false, None, None, None).unwrap();
     assert!(attributes.as_path().is_none() && attributes.has_validation_warnings());
+}
+
+fn an_aggregator_with_a_16_byte_address_is_written_and_then_refused() {
+    let address: IpAddr = "::1".parse().expect("an address");
+    for (width, length) in [(AsnLength::Bits16, 18), (AsnLength::Bits32, 20)] {
+        let written = Inside::encode_aggregator(&Asn::new_32bit(1), &address, width).expect("a small number");
+        assert_eq!(written.len(), length);
+        assert!(Inside::parse_aggregator(written, &width).is_err());
+    }
 }

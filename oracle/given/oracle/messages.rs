@@ -135,7 +135,7 @@ pub fn update_parts(request: &Request) -> Outcome {
 }
 
 /// A message of the crate whose body is exactly these bytes, if there is one.
-fn message(kind: u8, body: &[u8], request: &Request) -> Option<BgpMessage> {
+pub fn message(kind: u8, body: &[u8], request: &Request) -> Option<BgpMessage> {
     let mut bytes = Bytes::copy_from_slice(body);
     let message = match kind {
         1 => BgpMessage::Open(parse_bgp_open_message(&mut bytes).ok()?),
@@ -182,17 +182,21 @@ fn attributes(bytes: &[u8], request: &Request) -> Option<Attributes> {
     (read.encode(width(request)).ok()? == bytes).then_some(read)
 }
 
+/// The UPDATE of op 17, if the crate has one that is written so.
+pub fn update_to_write(request: &Request) -> Option<BgpUpdateMessage> {
+    let list = |part| prefixes(&request.numbers(part), request.has(ADD_PATH), Afi::Ipv4);
+    Some(BgpUpdateMessage {
+        withdrawn_prefixes: list(0)?,
+        attributes: attributes(&request.parts[1], request)?,
+        announced_prefixes: list(2)?,
+    })
+}
+
 /// Op 17. The UPDATE is written as a message, so that the crate's own limit of a message stands for 65,516.
 pub fn write_update(request: &Request) -> Outcome {
-    let with_id = request.has(ADD_PATH);
-    let lists = [0, 2].map(|part| prefixes(&request.numbers(part), with_id, Afi::Ipv4));
-    let [Some(withdrawn_prefixes), Some(announced_prefixes)] = lists else {
+    let Some(update) = update_to_write(request) else {
         return Outcome::NoCounterpart;
     };
-    let Some(attributes) = attributes(&request.parts[1], request) else {
-        return Outcome::NoCounterpart;
-    };
-    let update = BgpUpdateMessage { withdrawn_prefixes, attributes, announced_prefixes };
     match BgpMessage::Update(update).encode(width(request)) {
         Ok(bytes) => written(bytes[HEADER..].to_vec(), MOST_BODY),
         Err(error) if is_total(&error) => Outcome::Refused(1),

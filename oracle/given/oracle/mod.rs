@@ -2,9 +2,10 @@
 //! Around the crate's result stand only what document 01 adds by design: refusals 1 and 11, and the stores.
 
 pub mod facts;
-mod messages;
-mod paths;
-mod routes;
+pub mod messages;
+pub mod paths;
+pub mod private;
+pub mod routes;
 pub mod warnings;
 
 use records::{lent_of, Answer, Request, ADD_PATH, FOUR_BYTE_AS, GUESS};

@@ -87,7 +87,7 @@ fn written_value(value: AttributeValue, request: &Request) -> Outcome {
 }
 
 /// Pairs and numbers as the crate's path; none where document 01 says 14 or 9, which the crate cannot be asked.
-fn path(pairs: &[u32], numbers: &[u32]) -> Option<AsPath> {
+pub fn path(pairs: &[u32], numbers: &[u32]) -> Option<AsPath> {
     let counted: u64 = pairs.iter().skip(1).step_by(2).map(|count| u64::from(*count)).sum();
     if pairs.len() % 2 != 0 || counted != numbers.len() as u64 {
         return None;

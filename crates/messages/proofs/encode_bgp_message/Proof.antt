@@ -1,5 +1,5 @@
 use mathlib.Core.Bool.{false}
-use Rattle.messages.specs.Header.{isUnknown, leastLength, mostLength, isOutside}
+use Rattle.messages.specs.Header.{isUnknown, leastLength, mostLength}
 use Rattle.wire.specs.Refusal.{messageType, messageLength, noRoom}
 use mathlib.Core.Path.{_≡_, sym, _∙_}
 use Prim.Native.Nat.{_≤_, _<_}
@@ -36,45 +36,34 @@ returns-2 c =
 add-total : tie.Need-add-total
 add-total c = search needs
 
-least-length-requires : tie.Need-least-length-requires
-least-length-requires c κs = search needs
-
-most-length-requires : tie.Need-most-length-requires
-most-length-requires c κs = search needs
-
-outside-requires : tie.Need-outside-requires
-outside-requires c κs = search needs
+misfit-requires : tie.Need-misfit-requires
+misfit-requires c κs = search needs
 
 -- what the tests before the last found
-known : (c : tie.After-outside) → isUnknown (c .before .before .before .before .before .before .before .before .args .kind) ≡ false
-known c = let e = c .before .before .before .before in sym (e .before .unknown .ensures) ∙ e .if1 .left
-
-own : (c : tie.After-outside)
-    → let a = c .before .before .before .before .before .before .before .before .args in
-    isOutside (leastLength (a .kind)) (mostLength (a .kind)) (totalOf (a .body .now)) ≡ c .outside .result
-own c = rw (← c .before .before .least-length .ensures, ← c .before .most-length .ensures) (sym (c .outside .ensures))
+known : (c : tie.After-misfit) → isUnknown (c .before .before .before .before .before .before .args .kind) ≡ false
+known c = let e = c .before .before in sym (e .before .unknown .ensures) ∙ e .if1 .left
 
 returns-3 : tie.Need-returns-3
 unfolding writeAnswer
 returns-3 c =
     let o = c .before in
-    let a = o .before .before .before .before .before .before .before .before .args in
-    let e : writeAnswer (a .kind) (a .body .now) (length (a .out .now)) ≡ Refused messageLength = simp (known o, own o ∙ c .if3 .taken) in
+    let a = o .before .before .before .before .before .before .args in
+    let e : writeAnswer (a .kind) (a .body .now) (length (a .out .now)) ≡ Refused messageLength = simp (known o, sym (o .misfit .ensures) ∙ c .if3 .taken) in
     (sym e, sym (out-by (a .kind) (a .body .now) (a .out .now) (Refused messageLength) e))
 
 returns-4 : tie.Need-returns-4
 unfolding writeAnswer
 returns-4 c =
     let o = c .before .before in
-    let a = o .before .before .before .before .before .before .before .before .args in
-    let e : writeAnswer (a .kind) (a .body .now) (length (a .out .now)) ≡ Refused noRoom = simp (known o, own o ∙ c .before .if3 .left, lt-ltb _ _ (c .if4 .taken)) in
+    let a = o .before .before .before .before .before .before .args in
+    let e : writeAnswer (a .kind) (a .body .now) (length (a .out .now)) ≡ Refused noRoom = simp (known o, sym (o .misfit .ensures) ∙ c .before .if3 .left, lt-ltb _ _ (c .if4 .taken)) in
     (sym e, sym (out-by (a .kind) (a .body .now) (a .out .now) (Refused noRoom) e))
 
 put-header-requires : tie.Need-put-header-requires
 put-header-requires c κs =
     let o = c .before .before .before in
-    let a = o .before .before .before .before .before .before .before .before .args in
-    let high : totalOf (a .body .now) ≤ mostLength (a .kind) = inside-high (leastLength (a .kind)) (mostLength (a .kind)) (totalOf (a .body .now)) (own o ∙ c .before .before .if3 .left) in
+    let a = o .before .before .before .before .before .before .args in
+    let high : totalOf (a .body .now) ≤ mostLength (a .kind) = inside-high (leastLength (a .kind)) (mostLength (a .kind)) (totalOf (a .body .now)) (sym (o .misfit .ensures) ∙ c .before .before .if3 .left) in
     (omega (arith, most-small (a .kind)), omega (arith, c .before .if4 .left))
 
 copy-at-requires : tie.Need-copy-at-requires
@@ -90,9 +79,9 @@ returns-5 c =
     let p = y .before .before .before .before in
     let r = p .before .before in
     let o = r .before .before in
-    let a = o .before .before .before .before .before .before .before .before .args in
+    let a = o .before .before .before .before .before .before .args in
     let e : writeAnswer (a .kind) (a .body .now) (length (a .out .now)) ≡ Bytes (totalOf (a .body .now)) =
-    simp (known o, own o ∙ r .before .if3 .left, le-ltb _ _ (r .if4 .left)) in (
+    simp (known o, sym (o .misfit .ensures) ∙ r .before .if3 .left, le-ltb _ _ (r .if4 .left)) in (
       sym e,
       body-put (a .kind) (a .body .now) (a .out .now) _ _ (r .if4 .left) (p .put-header .ensures) (y .copy-at .ensures)
           ∙ sym (out-by (a .kind) (a .body .now) (a .out .now) (Bytes (totalOf (a .body .now))) e),
@@ -106,9 +95,7 @@ encode-bgp-message-spec =
     returns
     returns-2
     add-total
-    least-length-requires
-    most-length-requires
-    outside-requires
+    misfit-requires
     returns-3
     returns-4
     put-header-requires

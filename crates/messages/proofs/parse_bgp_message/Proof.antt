@@ -1,7 +1,12 @@
-use mathlib.Core.Path.{sym, _∙_}
 use borrow.Author.Tests.{lt-ltb, le-ltb}
-use Rattle.messages.specs.Header.{messageOf}
-use native.Mathlib.Nat.{le-min}
+use mathlib.Core.Path.{_≡_, sym, _∙_}
+use Rattle.messages.specs.Header.{headerSize, messageOf}
+use Prim.Native.Nat.{ℕ, _-_, _≤_, min}
+use mathlib.Core.Bool.{false}
+use native.Mathlib.Nat.{min-le-right}
+use native.Mathlib.Omega.{arith}
+use lib.Dec.{ltb}
+use lib.ListN.{length}
 use borrow.Author.Needs.{needs}
 use Rattle.messages.proofs.parse_bgp_message.Statement.{statement}
 use Rattle.messages.proofs.parse_bgp_message.Tie as tie
@@ -36,24 +41,23 @@ returns-3 c =
 least-requires : tie.Need-least-requires
 least-requires c κs = search needs
 
-crate-limit-requires : tie.Need-crate-limit-requires
-crate-limit-requires c κs = search needs
+over-limit-requires : tie.Need-over-limit-requires
+over-limit-requires c κs = search needs
 
 returns-4 : tie.Need-returns-4
 unfolding messageOf
 returns-4 c =
     let u = c .before .before .before in
     let b = u .before .before .before in
-    rw (← b .before .u16-at .ensures, ← c .before .crate-limit .ensures)
-    (simp (le-ltb _ _ (b .before .before .if1 .left), le-ltb _ _ (b .if2 .left), sym (u .before .unknown .ensures) ∙ u .if3 .left, lt-ltb _ _ (c .if4 .taken)))
+    rw (← b .before .u16-at .ensures)
+    (simp (le-ltb _ _ (b .before .before .if1 .left), le-ltb _ _ (b .if2 .left), sym (u .before .unknown .ensures) ∙ u .if3 .left, sym (c .before .over-limit .ensures) ∙ c .if4 .taken))
 
-sub-if5 : tie.Need-sub-if5
-sub-if5 c = search needs
+marked-requires : tie.Need-marked-requires
+marked-requires c κs = search needs
 
-sub-if5-2 : tie.Need-sub-if5-2
-sub-if5-2 c =
-    let b = c .before .before .before .before .before .before in
-    rw (c .before .before .least .ensures) (le-min (b .if2 .left) (b .before .before .if1 .left))
+-- what is taken is there, so that its body is
+body-there : (n m k : ℕ) → ltb (m - k) (min n m - k) ≡ false
+body-there n m k = let least : min n m ≤ m = min-le-right n m in le-ltb (m - k) (min n m - k) (omega arith)
 
 returns-5 : tie.Need-returns-5
 unfolding messageOf
@@ -61,20 +65,9 @@ returns-5 c =
     let l = c .before in
     let u = l .before .before .before in
     let b = u .before .before .before in
-    rw (← b .before .u16-at .ensures, ← l .before .crate-limit .ensures, ← l .before .before .least .ensures)
-    (simp (le-ltb _ _ (b .before .before .if1 .left), le-ltb _ _ (b .if2 .left), sym (u .before .unknown .ensures) ∙ u .if3 .left, le-ltb _ _ (l .if4 .left), lt-ltb _ _ (c .if5 .taken)))
-
-marked-requires : tie.Need-marked-requires
-marked-requires c κs = search needs
-
-returns-6 : tie.Need-returns-6
-unfolding messageOf
-returns-6 c =
-    let l = c .before .before in
-    let u = l .before .before .before in
-    let b = u .before .before .before in
-    rw (← b .before .u16-at .ensures, ← l .before .crate-limit .ensures, ← l .before .before .least .ensures, ← c .marked .ensures)
-    (simp (le-ltb _ _ (b .before .before .if1 .left), le-ltb _ _ (b .if2 .left), sym (u .before .unknown .ensures) ∙ u .if3 .left, le-ltb _ _ (l .if4 .left), le-ltb _ _ (c .before .if5 .left)))
+    let s = b .before .before .before .before .args .s .now in
+    rw (← b .before .u16-at .ensures, ← c .marked .ensures, l .before .before .least .ensures)
+    (simp (le-ltb _ _ (b .before .before .if1 .left), le-ltb _ _ (b .if2 .left), sym (u .before .unknown .ensures) ∙ u .if3 .left, sym (l .before .over-limit .ensures) ∙ l .if4 .left, body-there (b .before .u16-at .result) (length s) headerSize))
 
 pub parse-bgp-message-spec : {M : Type 1} → statement M
 parse-bgp-message-spec =
@@ -88,10 +81,7 @@ parse-bgp-message-spec =
     unknown-requires
     returns-3
     least-requires
-    crate-limit-requires
+    over-limit-requires
     returns-4
-    sub-if5
-    sub-if5-2
-    returns-5
     marked-requires
-    returns-6)
+    returns-5)

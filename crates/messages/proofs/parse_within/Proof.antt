@@ -54,41 +54,33 @@ returns-4 c =
     rw (← m .marked .ensures, ← u .u16-at .ensures)
     (simp (le-ltb _ _ (m .before .if1 .left), u .before .if2 .left, sym (o .before .outside .ensures) ∙ o .if3 .left, sym (c .before .unknown .ensures) ∙ c .if4 .taken))
 
-least-length-requires : tie.Need-least-length-requires
-least-length-requires c κs = search needs
-
-most-length-requires : tie.Need-most-length-requires
-most-length-requires c κs = search needs
-
-outside-requires-2 : tie.Need-outside-requires-2
-outside-requires-2 c κs = search needs
+misfit-requires : tie.Need-misfit-requires
+misfit-requires c κs = search needs
 
 returns-5 : tie.Need-returns-5
 unfolding strictWithin
 returns-5 c =
-    let l = c .before .before .before in
-    let k = l .before in
+    let k = c .before .before in
     let o = k .before .before .before in
     let u = o .before .before in
     let m = u .before .before in
-    rw (← m .marked .ensures, ← u .u16-at .ensures, ← l .least-length .ensures, ← c .before .before .most-length .ensures)
-    (simp (le-ltb _ _ (m .before .if1 .left), u .before .if2 .left, sym (o .before .outside .ensures) ∙ o .if3 .left, sym (k .before .unknown .ensures) ∙ k .if4 .left, sym (c .before .outside2 .ensures) ∙ c .if5 .taken))
+    rw (← m .marked .ensures, ← u .u16-at .ensures)
+    (simp (le-ltb _ _ (m .before .if1 .left), u .before .if2 .left, sym (o .before .outside .ensures) ∙ o .if3 .left, sym (k .before .unknown .ensures) ∙ k .if4 .left, sym (c .before .misfit .ensures) ∙ c .if5 .taken))
 
 -- what is left to find once the type's own length is found right
 left : (q : tie.Else5) →
-    let u = q .before .before .before .before .before .before .before .before .before in
+    let u = q .before .before .before .before .before .before .before in
     let a = u .before .before .before .before .before .args in
     let n = u .u16-at .result in
     strictWithin (a .limit) (a .s .now) ≡ pick (ltb (length (a .s .now)) n) (Refused truncated) (Message (kindOf (a .s .now)) n n false false (ltb n (length (a .s .now))))
 unfolding strictWithin
 left q =
-    let l = q .before .before .before in
-    let k = l .before in
+    let k = q .before .before in
     let o = k .before .before .before in
     let u = o .before .before in
     let m = u .before .before in
-    rw (← m .marked .ensures, ← u .u16-at .ensures, ← l .least-length .ensures, ← q .before .before .most-length .ensures)
-    (simp (le-ltb _ _ (m .before .if1 .left), u .before .if2 .left, sym (o .before .outside .ensures) ∙ o .if3 .left, sym (k .before .unknown .ensures) ∙ k .if4 .left, sym (q .before .outside2 .ensures) ∙ q .if5 .left))
+    rw (← m .marked .ensures, ← u .u16-at .ensures)
+    (simp (le-ltb _ _ (m .before .if1 .left), u .before .if2 .left, sym (o .before .outside .ensures) ∙ o .if3 .left, sym (k .before .unknown .ensures) ∙ k .if4 .left, sym (q .before .misfit .ensures) ∙ q .if5 .left))
 
 returns-6 : tie.Need-returns-6
 returns-6 c = sym (left (c .before) ∙ simp (lt-ltb _ _ (c .if6 .taken)))
@@ -110,9 +102,7 @@ parse-within-spec =
     shared-slice-read-kind
     unknown-requires
     returns-4
-    least-length-requires
-    most-length-requires
-    outside-requires-2
+    misfit-requires
     returns-5
     returns-6
     returns-7)

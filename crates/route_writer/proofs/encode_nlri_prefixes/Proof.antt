@@ -1,10 +1,5 @@
-use mathlib.Core.Path.{sym, ap, _∙_}
-use Prim.Native.Nat.{ℕ}
-use native.Mathlib.Omega.{arith}
-use Rattle.wire.specs.Store.{laid}
+use mathlib.Core.Path.{sym, _∙_}
 use Rattle.families.specs.Family.{maxOf}
-use Rattle.route_writer.specs.Encode.{bytesOf}
-use Rattle.families.specs.FamilyLaws.{max-small}
 use Rattle.route_writer.specs.PromiseLaws.{measured-bytes, leave-refused, leave-long, leave-full, leave-bytes}
 use borrow.Author.Needs.{needs}
 use Rattle.route_writer.proofs.encode_nlri_prefixes.Statement.{statement}
@@ -28,16 +23,13 @@ returns-2 c =
     let m = sym (c .before .before .before .before .before .measure-nlri-prefixes .ensures) ∙ c .before .before .before .n .given .1 in
     leave-full (a .rows .now) (maxOf (a .afi)) (a .form) (a .out .now) _ m (c .before .if1 .left) (c .if2 .taken)
 
-max-len-requires : tie.Need-max-len-requires
-max-len-requires c κs = search needs
-
 fill-requires : tie.Need-fill-requires
 fill-requires c κs =
-    let k = c .before .before .before in
+    let k = c .before .before in
     let a = k .before .before .before .before .before .before .before .args in
     let m = sym (k .before .before .before .before .measure-nlri-prefixes .ensures) ∙ k .before .before .n .given .1 in
     let h = measured-bytes (a .rows .now) (maxOf (a .afi)) (a .form) _ m in
-    rw (c .before .max-len .ensures) ((max-small (a .afi), h .0), omega (arith, h .1, c .before .before .if2 .left))
+    record { good = h .0; size = h .1; room = c .before .if2 .left }
 
 enum-known-n-2 : tie.Need-enum-known-n-2
 enum-known-n-2 c = search needs
@@ -47,11 +39,11 @@ same-length c = search needs
 
 returns-3 : tie.Need-returns-3
 returns-3 c =
-    let k = c .before .before .before .before .before .before in
+    let k = c .before .before .before .before .before in
     let a = k .before .before .before .before .before .before .before .args in
     let m = sym (k .before .before .before .before .measure-nlri-prefixes .ensures) ∙ k .before .before .n .given .1 in
-    let l = leave-bytes (a .rows .now) (maxOf (a .afi)) (a .form) (a .out .now) _ m (k .if1 .left) (c .before .before .before .before .before .if2 .left) in
-    (l .0, c .before .before .fill .ensures ∙ ap (λ (x : ℕ). laid (a .out .now) 0 (bytesOf (a .rows .now) x (a .form))) (c .before .before .before .before .max-len .ensures) ∙ l .1)
+    let l = leave-bytes (a .rows .now) (maxOf (a .afi)) (a .form) (a .out .now) _ m (k .if1 .left) (c .before .before .before .before .if2 .left) in
+    (l .0, c .before .before .fill .ensures ∙ l .1)
 
 returns-4 : tie.Need-returns-4
 returns-4 c =
@@ -67,7 +59,6 @@ encode-nlri-prefixes-spec =
     enum-known-n
     returns
     returns-2
-    max-len-requires
     fill-requires
     enum-known-n-2
     same-length

@@ -21,7 +21,7 @@ row-of-requires : tie.Need-row-of-requires
 row-of-requires c κs =
     let a = c .before .before .before .before .before .before .args in
     let t = size-took (a .s .now) (c .before .before .before .before .max-len .result) (a .form) _ (sym (c .before .before .before .item-size .ensures) ∙ c .before .used .given .1) in
-    record { front = omega (arith, t .size); end = omega (arith, t .size, t .fits); within = t .room }
+    record { front = omega (arith, t .size); within = t .room }
 
 enum-known-n : tie.Need-enum-known-n
 enum-known-n c = search needs

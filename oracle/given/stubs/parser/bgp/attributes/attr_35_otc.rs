@@ -1,10 +1,10 @@
 //! Stub: ONLY_TO_CUSTOMER is left out; it is refused, so the crate keeps it raw.
 
-use crate::error::ParserError;
+use crate::error::{EncodingError, ParserError};
 use crate::models::*;
-use crate::oracle::facts::{PrivateFact, SixteenBytes};
-use crate::parser::bgp::attributes::attr_07_18_aggregator::{encode_aggregator, parse_aggregator};
-use bytes::Bytes;
+use crate::oracle::private::{Inside, PrivateCalls};
+use crate::parser::bgp::attributes::{attr_02_17_as_path, attr_07_18_aggregator};
+use bytes::{Bytes, BytesMut};
 use std::net::IpAddr;
 
 pub fn parse_only_to_customer(_input: Bytes) -> Result<AttributeValue, ParserError> {
@@ -15,13 +15,20 @@ pub fn encode_only_to_customer(_asn: u32) -> Bytes {
     unreachable!("no such value is ever read")
 }
 
-impl PrivateFact for SixteenBytes {
-    fn hold() {
-        let address: IpAddr = "::1".parse().expect("an address");
-        for (width, length) in [(AsnLength::Bits16, 18), (AsnLength::Bits32, 20)] {
-            let written = encode_aggregator(&Asn::new_32bit(1), &address, width).expect("a small number");
-            assert_eq!(written.len(), length);
-            assert!(parse_aggregator(written, &width).is_err());
-        }
+impl PrivateCalls for Inside {
+    fn parse_as_path(value: Bytes, width: &AsnLength) -> Result<AsPath, ParserError> {
+        attr_02_17_as_path::parse_as_path(value, width)
+    }
+
+    fn parse_aggregator(value: Bytes, width: &AsnLength) -> Result<(Asn, BgpIdentifier), ParserError> {
+        attr_07_18_aggregator::parse_aggregator(value, width)
+    }
+
+    fn encode_aggregator(asn: &Asn, address: &IpAddr, width: AsnLength) -> Result<Bytes, EncodingError> {
+        attr_07_18_aggregator::encode_aggregator(asn, address, width)
+    }
+
+    fn encode_as_path(path: &AsPath, width: AsnLength, output: &mut BytesMut) -> Result<(), EncodingError> {
+        attr_02_17_as_path::encode_as_path(path, width, output)
     }
 }

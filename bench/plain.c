@@ -1,0 +1,560 @@
+// The calls of include/doorbramble.h, named plain_.., as a good C programmer without proofs would write them: a pass
+// that checks and counts, then a pass that fills and makes no check again. No byte outside of a given slice is read,
+// and none past what is counted is written; a refusal changes no store. A word is read or written whole where all its
+// bytes lie inside; only the last items of a list go byte by byte.
+#include <stdbool.h>
+#include <stddef.h>
+#include <stdint.h>
+#include <string.h>
+
+#define INLINE static inline __attribute__((always_inline))
+
+enum {
+    OVER_LONG = 1,
+    TOO_SHORT = 2,
+    BAD_LENGTH = 3,
+    BAD_TYPE = 4,
+    BAD_MARKER = 6,
+    BAD_PREFIX_LENGTH = 7,
+    ONE_BYTE_SECTION = 8,
+    BAD_SEGMENT_TYPE = 9,
+    BAD_AGGREGATOR = 10,
+    NO_ROOM = 11,
+    LONG_SEGMENT = 12,
+    WIDE_NUMBER = 13,
+    NOT_WRITABLE = 14,
+};
+
+enum { MOST_BYTES = 65535, MOST_BODY = 65516, HEADER = 19, ROW = 6, HAS_ID = 256 };
+
+typedef enum { WITHOUT_ID, WITH_ID, GUESS } form;
+
+INLINE uint64_t answer(uint64_t a, uint64_t b, uint64_t c) { return a | b << 16 | c << 32; }
+
+INLINE uint64_t refused(uint64_t number) { return number << 48; }
+
+INLINE uint64_t refusal_of(uint64_t answered) { return answered >> 48; }
+
+// ---- Numbers in network order ----
+
+INLINE uint32_t read2(const uint8_t *from) {
+    uint16_t number;
+    memcpy(&number, from, 2);
+    return __builtin_bswap16(number);
+}
+
+INLINE uint32_t read4(const uint8_t *from) {
+    uint32_t number;
+    memcpy(&number, from, 4);
+    return __builtin_bswap32(number);
+}
+
+INLINE uint64_t read8(const uint8_t *from) {
+    uint64_t number;
+    memcpy(&number, from, 8);
+    return __builtin_bswap64(number);
+}
+
+INLINE void write2(uint8_t *to, uint32_t number) {
+    uint16_t swapped = __builtin_bswap16((uint16_t)number);
+    memcpy(to, &swapped, 2);
+}
+
+INLINE void write4(uint8_t *to, uint32_t number) {
+    uint32_t swapped = __builtin_bswap32(number);
+    memcpy(to, &swapped, 4);
+}
+
+INLINE void write8(uint8_t *to, uint64_t number) {
+    uint64_t swapped = __builtin_bswap64(number);
+    memcpy(to, &swapped, 8);
+}
+
+// ---- Route lists ----
+
+INLINE uint32_t most_bits(bool ipv6) { return ipv6 ? 128 : 32; }
+
+INLINE uint32_t octets_of(uint32_t bits) { return (bits + 7) >> 3; }
+
+// The bytes of an id, if there is one.
+INLINE uint32_t head_of(bool id) { return id ? 4 : 0; }
+
+// The bytes of an item with `head` bytes before its length.
+INLINE uint32_t item_bytes(uint32_t bits, uint32_t head) { return (bits + 8 * head + 15) >> 3; }
+
+// The first octets of a word of four.
+INLINE uint32_t mask4(uint32_t octets) { return (uint32_t)(0xFFFFFFFF00000000u >> (8 * octets)); }
+
+// At i + 8, the mask of the first i octets of eight: none up to 8, all from 16 on.
+// clang-format off
+static const uint64_t octet_masks[25] = {
+    0, 0, 0, 0, 0, 0, 0, 0, 0,
+    0xFF00000000000000, 0xFFFF000000000000, 0xFFFFFF0000000000, 0xFFFFFFFF00000000,
+    0xFFFFFFFFFF000000, 0xFFFFFFFFFFFF0000, 0xFFFFFFFFFFFFFF00,
+    ~0ull, ~0ull, ~0ull, ~0ull, ~0ull, ~0ull, ~0ull, ~0ull, ~0ull,
+};
+// clang-format on
+
+// The first octets of sixteen, as two words of eight.
+INLINE uint64_t mask16(uint32_t octets) { return octet_masks[8 + octets]; }
+INLINE uint64_t rest16(uint32_t octets) { return octet_masks[octets]; }
+
+// Whether a well-formed item with an id begins at `at`.
+INLINE bool item_with_id(const uint8_t *s, size_t n, size_t at, bool ipv6) {
+    return n - at >= 5 && s[at + 4] <= most_bits(ipv6) && n - at >= item_bytes(s[at + 4], 4);
+}
+
+// The rows of a list whose items have `head` bytes before the length, or the refusal. An item that is not all there is
+// the last: it alone leaves the place elsewhere than at the end.
+INLINE uint64_t count_items(const uint8_t *s, size_t n, bool ipv6, uint32_t head) {
+    size_t at = 0, rows = 0;
+    while (at + head < n) {
+        uint32_t bits = s[at + head];
+        if (bits > most_bits(ipv6)) return refused(BAD_PREFIX_LENGTH);
+        at += item_bytes(bits, head);
+        rows++;
+    }
+    return at == n ? rows : refused(TOO_SHORT);
+}
+
+INLINE uint64_t count_guessed(const uint8_t *s, size_t n, bool ipv6) {
+    size_t at = 0, rows = 0;
+    bool tagged = false;
+    while (at < n) {
+        tagged |= s[at] == 0;
+        if (tagged && item_with_id(s, n, at, ipv6)) {
+            at += item_bytes(s[at + 4], 4);
+        } else {
+            tagged = false;
+            if (s[at] > most_bits(ipv6)) return refused(BAD_PREFIX_LENGTH);
+            at += item_bytes(s[at], 0);
+            if (at > n) return refused(TOO_SHORT);
+        }
+        rows++;
+    }
+    return rows;
+}
+
+INLINE uint64_t count_list(const uint8_t *s, size_t n, bool ipv6, form form) {
+    return form == GUESS ? count_guessed(s, n, ipv6) : count_items(s, n, ipv6, head_of(form == WITH_ID));
+}
+
+INLINE void put_row(uint32_t *row, uint32_t first, uint32_t id, uint64_t address, uint64_t rest) {
+    row[0] = first;
+    row[1] = id;
+    row[2] = (uint32_t)(address >> 32);
+    row[3] = (uint32_t)address;
+    row[4] = (uint32_t)(rest >> 32);
+    row[5] = (uint32_t)rest;
+}
+
+// Puts the row of a checked item; `last` where its address may end within 16 (IPv4: 4) bytes of the end.
+INLINE size_t fill_item(const uint8_t *restrict s, size_t at, bool ipv6, bool id, bool last, uint32_t *restrict row) {
+    uint32_t bits = s[at + head_of(id)];
+    uint32_t octets = octets_of(bits);
+    uint32_t first = bits + (id ? HAS_ID : 0), path = id ? read4(s + at) : 0;
+    uint8_t copied[16] = {0};
+    const uint8_t *address = s + at + head_of(id) + 1;
+    if (last) {
+        for (uint32_t i = 0; i < octets; i++) copied[i] = address[i];
+        address = copied;
+    }
+    if (ipv6)
+        put_row(row, first, path, read8(address) & mask16(octets), read8(address + 8) & rest16(octets));
+    else
+        put_row(row, first, path, (uint64_t)(read4(address) & mask4(octets)) << 32, 0);
+    return at + item_bytes(bits, head_of(id));
+}
+
+// The bytes of the longest item.
+INLINE uint32_t longest(bool ipv6, bool id) { return item_bytes(most_bits(ipv6), head_of(id)); }
+
+INLINE void fill_items(const uint8_t *s, size_t n, bool ipv6, bool id, uint32_t *store) {
+    size_t at = 0;
+    for (; at + longest(ipv6, id) <= n; store += ROW) at = fill_item(s, at, ipv6, id, false, store);
+    for (; at < n; store += ROW) at = fill_item(s, at, ipv6, id, true, store);
+}
+
+INLINE size_t fill_guessed_item(const uint8_t *s, size_t n, size_t at, bool ipv6, bool *tagged, bool last,
+                                uint32_t *row) {
+    *tagged = (*tagged || s[at] == 0) && (last ? item_with_id(s, n, at, ipv6) : s[at + 4] <= most_bits(ipv6));
+    return *tagged ? fill_item(s, at, ipv6, true, last, row) : fill_item(s, at, ipv6, false, last, row);
+}
+
+INLINE void fill_guessed(const uint8_t *s, size_t n, bool ipv6, uint32_t *store) {
+    size_t at = 0;
+    bool tagged = false;
+    for (; at + longest(ipv6, true) <= n; store += ROW) at = fill_guessed_item(s, n, at, ipv6, &tagged, false, store);
+    for (; at < n; store += ROW) at = fill_guessed_item(s, n, at, ipv6, &tagged, true, store);
+}
+
+INLINE void fill_list(const uint8_t *s, size_t n, bool ipv6, form form, uint32_t *store) {
+    if (form == GUESS)
+        fill_guessed(s, n, ipv6, store);
+    else
+        fill_items(s, n, ipv6, form == WITH_ID, store);
+}
+
+// One instance for each family and form.
+static uint64_t count_in_form(const uint8_t *s, size_t n, bool ipv6, form form) {
+    if (ipv6) {
+        if (form == WITHOUT_ID) return count_list(s, n, true, WITHOUT_ID);
+        return form == WITH_ID ? count_list(s, n, true, WITH_ID) : count_list(s, n, true, GUESS);
+    }
+    if (form == WITHOUT_ID) return count_list(s, n, false, WITHOUT_ID);
+    return form == WITH_ID ? count_list(s, n, false, WITH_ID) : count_list(s, n, false, GUESS);
+}
+
+static void fill_in_form(const uint8_t *s, size_t n, bool ipv6, form form, uint32_t *store) {
+    if (ipv6) {
+        if (form == WITHOUT_ID) return fill_list(s, n, true, WITHOUT_ID, store);
+        return form == WITH_ID ? fill_list(s, n, true, WITH_ID, store) : fill_list(s, n, true, GUESS, store);
+    }
+    if (form == WITHOUT_ID) return fill_list(s, n, false, WITHOUT_ID, store);
+    return form == WITH_ID ? fill_list(s, n, false, WITH_ID, store) : fill_list(s, n, false, GUESS, store);
+}
+
+INLINE form form_of(uint8_t settings) { return settings & 1 ? WITH_ID : settings & 2 ? GUESS : WITHOUT_ID; }
+
+uint64_t plain_count_nlri_list(const uint8_t *s, size_t n, uint8_t ipv6, uint8_t settings) {
+    if (n > MOST_BYTES) return refused(OVER_LONG);
+    return count_in_form(s, n, ipv6, form_of(settings));
+}
+
+uint64_t plain_parse_nlri_list(const uint8_t *s, size_t n, uint8_t ipv6, uint8_t settings, uint32_t *store,
+                               size_t places) {
+    uint64_t counted = plain_count_nlri_list(s, n, ipv6, settings);
+    if (refusal_of(counted)) return counted;
+    if (counted > places / ROW) return refused(NO_ROOM);
+    fill_in_form(s, n, ipv6, form_of(settings), store);
+    return counted;
+}
+
+// ---- The UPDATE body ----
+
+typedef struct {
+    const uint8_t *withdrawn, *attributes, *announced;
+    size_t withdrawn_length, attribute_length, announced_length;
+} parts;
+
+// The three sections; a refusal or 0.
+INLINE uint64_t split_body(const uint8_t *body, size_t n, parts *parts) {
+    if (n > MOST_BODY) return refused(OVER_LONG);
+    if (n < 4) return refused(TOO_SHORT);
+    size_t withdrawn = read2(body);
+    if (withdrawn > n - 4) return refused(TOO_SHORT);
+    size_t attributes = read2(body + 2 + withdrawn);
+    if (attributes > n - 4 - withdrawn) return refused(TOO_SHORT);
+    parts->withdrawn = body + 2;
+    parts->withdrawn_length = withdrawn;
+    parts->attributes = body + 4 + withdrawn;
+    parts->attribute_length = attributes;
+    parts->announced = parts->attributes + attributes;
+    parts->announced_length = n - 4 - withdrawn - attributes;
+    return 0;
+}
+
+uint64_t plain_withdrawn_part(const uint8_t *body, size_t n) {
+    parts parts;
+    uint64_t refusal = split_body(body, n, &parts);
+    return refusal ? refusal : answer(2, parts.withdrawn_length, 0);
+}
+
+uint64_t plain_attribute_part(const uint8_t *body, size_t n) {
+    parts parts;
+    uint64_t refusal = split_body(body, n, &parts);
+    return refusal ? refusal : answer(parts.attributes - body, parts.attribute_length, 0);
+}
+
+uint64_t plain_announced_part(const uint8_t *body, size_t n) {
+    parts parts;
+    uint64_t refusal = split_body(body, n, &parts);
+    return refusal ? refusal : answer(parts.announced - body, parts.announced_length, 0);
+}
+
+INLINE uint64_t count_section(const uint8_t *s, size_t n, form form) {
+    if (n == 1 && s[0] != 0) return refused(ONE_BYTE_SECTION);
+    return count_in_form(s, n, false, form);
+}
+
+INLINE uint64_t update_answer(uint64_t withdrawn, uint64_t announced) {
+    return answer(withdrawn & 0xFFFF, announced & 0xFFFF, refusal_of(withdrawn) | refusal_of(announced) << 8);
+}
+
+uint64_t plain_count_bgp_update_message(const uint8_t *body, size_t n, uint8_t settings) {
+    parts parts;
+    uint64_t refusal = split_body(body, n, &parts);
+    if (refusal) return refusal;
+    return update_answer(count_section(parts.withdrawn, parts.withdrawn_length, form_of(settings)),
+                         count_section(parts.announced, parts.announced_length, form_of(settings)));
+}
+
+uint64_t plain_parse_bgp_update_message(const uint8_t *body, size_t n, uint8_t settings, uint32_t *withdrawn,
+                                        size_t withdrawn_places, uint32_t *announced, size_t announced_places) {
+    parts parts;
+    uint64_t refusal = split_body(body, n, &parts);
+    if (refusal) return refusal;
+    form form = form_of(settings);
+    uint64_t first = count_section(parts.withdrawn, parts.withdrawn_length, form);
+    uint64_t second = count_section(parts.announced, parts.announced_length, form);
+    if (!refusal_of(first) && first > withdrawn_places / ROW) return refused(NO_ROOM);
+    if (!refusal_of(second) && second > announced_places / ROW) return refused(NO_ROOM);
+    if (!refusal_of(first)) fill_in_form(parts.withdrawn, parts.withdrawn_length, false, form, withdrawn);
+    if (!refusal_of(second)) fill_in_form(parts.announced, parts.announced_length, false, form, announced);
+    return update_answer(first, second);
+}
+
+// ---- The message header ----
+
+enum { OPEN = 1, UPDATE, NOTIFICATION, KEEPALIVE, ROUTE_REFRESH, MOST_PLAIN = 4096 };
+
+static const uint8_t least_length[6] = {0, 29, 23, 21, 19, 23};
+
+INLINE bool marker_is_good(const uint8_t *s) { return (read8(s) & read8(s + 8)) == ~0ull; }
+
+uint64_t plain_parse_bgp_message(const uint8_t *s, size_t n) {
+    if (n < HEADER) return refused(TOO_SHORT);
+    size_t claimed = read2(s + 16);
+    unsigned kind = s[18];
+    if (claimed < HEADER) return refused(BAD_LENGTH);
+    if (kind < OPEN || kind > ROUTE_REFRESH) return refused(BAD_TYPE);
+    if ((kind == OPEN || kind == KEEPALIVE) && claimed > MOST_PLAIN) return refused(BAD_LENGTH);
+    uint64_t flags = (marker_is_good(s) ? 0 : 256) | (claimed > n ? 512 : 0) | (claimed < n ? 1024 : 0);
+    return answer(claimed, claimed < n ? claimed : n, kind | flags);
+}
+
+uint64_t plain_parse_bgp_message_strict(const uint8_t *s, size_t n) {
+    if (n < HEADER) return refused(TOO_SHORT);
+    if (!marker_is_good(s)) return refused(BAD_MARKER);
+    size_t claimed = read2(s + 16);
+    unsigned kind = s[18];
+    if (claimed < HEADER || claimed > MOST_PLAIN) return refused(BAD_LENGTH);
+    if (kind < OPEN || kind > ROUTE_REFRESH) return refused(BAD_TYPE);
+    if (claimed < least_length[kind] || (kind == KEEPALIVE && claimed != HEADER)) return refused(BAD_LENGTH);
+    if (claimed > n) return refused(TOO_SHORT);
+    return answer(claimed, claimed, kind | (claimed < n ? 1024 : 0));
+}
+
+// ---- AS_PATH and AGGREGATOR ----
+
+INLINE uint64_t count_path(const uint8_t *s, size_t n, size_t width) {
+    size_t at = 0, segments = 0, numbers = 0;
+    while (at + 1 < n) {
+        size_t kind = s[at], count = s[at + 1];
+        at += 2;
+        if (n - at < width * count) return refused(TOO_SHORT);
+        if (kind - 1 > 3) return refused(BAD_SEGMENT_TYPE);
+        at += width * count;
+        segments++;
+        numbers += count;
+    }
+    return at == n ? answer(segments, numbers, 0) : refused(TOO_SHORT);
+}
+
+INLINE void fill_path(const uint8_t *restrict s, size_t n, uint32_t width, uint32_t *restrict pairs,
+                      uint32_t *restrict numbers) {
+    const uint8_t *end = s + n;
+    while (s < end) {
+        uint32_t count = s[1];
+        *pairs++ = s[0];
+        *pairs++ = count;
+        s += 2;
+        for (uint32_t i = 0; i < count; i++) numbers[i] = width == 4 ? read4(s + 4 * i) : read2(s + 2 * i);
+        s += width * count;
+        numbers += count;
+    }
+}
+
+uint64_t plain_count_as_path(const uint8_t *value, size_t n, uint8_t four_bytes) {
+    if (n > MOST_BYTES) return refused(OVER_LONG);
+    return four_bytes ? count_path(value, n, 4) : count_path(value, n, 2);
+}
+
+uint64_t plain_parse_as_path(const uint8_t *value, size_t n, uint8_t four_bytes, uint32_t *pairs, size_t pair_places,
+                             uint32_t *numbers, size_t number_places) {
+    uint64_t counted = plain_count_as_path(value, n, four_bytes);
+    if (refusal_of(counted)) return counted;
+    if (2 * (counted & 0xFFFF) > pair_places || counted >> 16 > number_places) return refused(NO_ROOM);
+    if (four_bytes)
+        fill_path(value, n, 4, pairs, numbers);
+    else
+        fill_path(value, n, 2, pairs, numbers);
+    return counted;
+}
+
+uint64_t plain_parse_aggregator(const uint8_t *value, size_t n, uint8_t four_bytes, uint32_t *words, size_t places) {
+    if (n > MOST_BYTES) return refused(OVER_LONG);
+    if (n != 6 && n != 8) return refused(BAD_AGGREGATOR);
+    if (places < 2) return refused(NO_ROOM);
+    words[0] = n == 8 ? read4(value) : read2(value);
+    words[1] = read4(value + n - 4);
+    return answer(2, (n == 8) != (four_bytes != 0), 0);
+}
+
+// ---- Writers ----
+
+INLINE uint64_t joined(const uint32_t *words) { return (uint64_t)words[0] << 32 | words[1]; }
+
+// The bytes of checked rows, or the refusal.
+INLINE uint64_t measure_rows(const uint32_t *rows, size_t places, bool ipv6, bool id) {
+    if (places % ROW) return refused(NOT_WRITABLE);
+    uint64_t bytes = 0;
+    for (const uint32_t *row = rows, *end = rows + places; row < end; row += ROW) {
+        uint32_t bits = row[0] - (id ? HAS_ID : 0);
+        if (bits > most_bits(ipv6) || (!id && row[1])) return refused(NOT_WRITABLE);
+        uint32_t octets = octets_of(bits);
+        uint64_t past = ipv6 ? (joined(row + 2) & ~mask16(octets)) | (joined(row + 4) & ~rest16(octets))
+                             : (row[2] & ~mask4(octets)) | row[3] | row[4] | row[5];
+        if (past) return refused(NOT_WRITABLE);
+        bytes += item_bytes(bits, head_of(id));
+    }
+    return bytes;
+}
+
+INLINE uint8_t *write_row(const uint32_t *row, bool ipv6, bool id, bool last, uint8_t *out) {
+    if (id) {
+        write4(out, row[1]);
+        out += 4;
+    }
+    uint8_t bits = (uint8_t)row[0];
+    uint32_t octets = octets_of(bits);
+    *out++ = bits;
+    if (last) {
+        for (uint32_t i = 0; i < octets; i++) out[i] = (uint8_t)(row[2 + i / 4] >> (24 - 8 * (i % 4)));
+    } else if (ipv6) {
+        write8(out, joined(row + 2));
+        write8(out + 8, joined(row + 4));
+    } else {
+        write4(out, row[2]);
+    }
+    return out + octets;
+}
+
+// Writes checked rows, which are `bytes` long: a whole address where it does not reach past them.
+INLINE void write_rows(const uint32_t *row, bool ipv6, bool id, uint8_t *out, size_t bytes) {
+    uint8_t *end = out + bytes;
+    for (; (size_t)(end - out) >= longest(ipv6, id); row += ROW) out = write_row(row, ipv6, id, false, out);
+    for (; out < end; row += ROW) out = write_row(row, ipv6, id, true, out);
+}
+
+static uint64_t measure_in_form(const uint32_t *rows, size_t places, bool ipv6, bool id) {
+    if (ipv6) return id ? measure_rows(rows, places, true, true) : measure_rows(rows, places, true, false);
+    return id ? measure_rows(rows, places, false, true) : measure_rows(rows, places, false, false);
+}
+
+static void write_in_form(const uint32_t *rows, bool ipv6, bool id, uint8_t *out, size_t bytes) {
+    if (ipv6) return id ? write_rows(rows, true, true, out, bytes) : write_rows(rows, true, false, out, bytes);
+    return id ? write_rows(rows, false, true, out, bytes) : write_rows(rows, false, false, out, bytes);
+}
+
+uint64_t plain_encode_nlri_prefixes(const uint32_t *rows, size_t places, uint8_t ipv6, uint8_t add_path, uint8_t *out,
+                                    size_t room) {
+    uint64_t bytes = measure_in_form(rows, places, ipv6, add_path);
+    if (refusal_of(bytes)) return bytes;
+    if (bytes > MOST_BYTES) return refused(OVER_LONG);
+    if (bytes > room) return refused(NO_ROOM);
+    write_in_form(rows, ipv6, add_path, out, bytes);
+    return bytes;
+}
+
+// The first refusal of a path to write that has one.
+static uint64_t path_refusal(const uint32_t *pairs, size_t pair_places, const uint32_t *numbers, size_t width) {
+    for (size_t i = 0; i < pair_places; i += 2) {
+        if (pairs[i] < 1 || pairs[i] > 4) return refused(BAD_SEGMENT_TYPE);
+        if (pairs[i + 1] > 255) return refused(LONG_SEGMENT);
+        for (uint32_t j = 0; j < pairs[i + 1]; j++)
+            if (*numbers++ > 0xFFFF && width == 2) return refused(WIDE_NUMBER);
+    }
+    return 0;
+}
+
+// The bytes of a path to write, or the refusal. The order of refusals matters only where there is one.
+INLINE uint64_t measure_path(const uint32_t *pairs, size_t pair_places, const uint32_t *numbers, size_t count,
+                             size_t width) {
+    if (pair_places % 2) return refused(NOT_WRITABLE);
+    uint64_t counted = 0;
+    bool good = true;
+    for (size_t i = 0; i < pair_places; i += 2) {
+        counted += pairs[i + 1];
+        good &= pairs[i] - 1 < 4 && pairs[i + 1] <= 255;
+    }
+    if (counted != count) return refused(NOT_WRITABLE);
+    uint32_t any = 0;
+    for (size_t i = 0; width == 2 && i < count; i++) any |= numbers[i];
+    if (!good || any > 0xFFFF) return path_refusal(pairs, pair_places, numbers, width);
+    return pair_places + width * count;
+}
+
+INLINE void write_path(const uint32_t *pairs, size_t pair_places, const uint32_t *numbers, size_t width,
+                       uint8_t *restrict out) {
+    for (size_t i = 0; i < pair_places; i += 2) {
+        uint32_t count = pairs[i + 1];
+        *out++ = (uint8_t)pairs[i];
+        *out++ = (uint8_t)count;
+        for (uint32_t j = 0; j < count; j++) {
+            if (width == 4)
+                write4(out + 4 * j, numbers[j]);
+            else
+                write2(out + 2 * j, numbers[j]);
+        }
+        out += width * count;
+        numbers += count;
+    }
+}
+
+uint64_t plain_encode_as_path(const uint32_t *pairs, size_t pair_places, const uint32_t *numbers, size_t count,
+                              uint8_t four_bytes, uint8_t *out, size_t room) {
+    uint64_t bytes = four_bytes ? measure_path(pairs, pair_places, numbers, count, 4)
+                                : measure_path(pairs, pair_places, numbers, count, 2);
+    if (refusal_of(bytes)) return bytes;
+    if (bytes > MOST_BYTES) return refused(OVER_LONG);
+    if (bytes > room) return refused(NO_ROOM);
+    if (four_bytes)
+        write_path(pairs, pair_places, numbers, 4, out);
+    else
+        write_path(pairs, pair_places, numbers, 2, out);
+    return bytes;
+}
+
+uint64_t plain_encode_aggregator(uint32_t asn, uint32_t identifier, uint8_t four_bytes, uint8_t *out, size_t room) {
+    if (!four_bytes && asn > 0xFFFF) return refused(WIDE_NUMBER);
+    size_t bytes = four_bytes ? 8 : 6;
+    if (bytes > room) return refused(NO_ROOM);
+    if (four_bytes)
+        write4(out, asn);
+    else
+        write2(out, asn);
+    write4(out + bytes - 4, identifier);
+    return bytes;
+}
+
+uint64_t plain_encode_bgp_message(uint8_t kind, const uint8_t *body, size_t n, uint8_t *out, size_t room) {
+    if (kind < OPEN || kind > ROUTE_REFRESH) return refused(BAD_TYPE);
+    if (n > MOST_BYTES - HEADER || HEADER + n < least_length[kind]) return refused(BAD_LENGTH);
+    if ((kind == OPEN && n > MOST_PLAIN - HEADER) || (kind == KEEPALIVE && n)) return refused(BAD_LENGTH);
+    if (HEADER + n > room) return refused(NO_ROOM);
+    memset(out, 0xFF, 16);
+    write2(out + 16, (uint32_t)(HEADER + n));
+    out[18] = kind;
+    memcpy(out + HEADER, body, n);
+    return HEADER + n;
+}
+
+uint64_t plain_encode_bgp_update_message(const uint32_t *withdrawn, size_t withdrawn_places, const uint8_t *attributes,
+                                         size_t attribute_length, const uint32_t *announced, size_t announced_places,
+                                         uint8_t add_path, uint8_t *out, size_t room) {
+    uint64_t first = measure_in_form(withdrawn, withdrawn_places, false, add_path);
+    if (refusal_of(first)) return first;
+    uint64_t second = measure_in_form(announced, announced_places, false, add_path);
+    if (refusal_of(second)) return second;
+    if (first > MOST_BODY || second > MOST_BODY || attribute_length > MOST_BODY) return refused(OVER_LONG);
+    size_t bytes = 4 + first + attribute_length + second;
+    if (bytes > MOST_BODY) return refused(OVER_LONG);
+    if (bytes > room) return refused(NO_ROOM);
+    write2(out, (uint32_t)first);
+    write_in_form(withdrawn, false, add_path, out + 2, first);
+    write2(out + 2 + first, (uint32_t)attribute_length);
+    memcpy(out + 4 + first, attributes, attribute_length);
+    write_in_form(announced, false, add_path, out + 4 + first + attribute_length, second);
+    return bytes;
+}

@@ -1,0 +1,131 @@
+//! A library's answer to a request record of the comparison, so that answers of all sides are compared as one kind.
+
+use crate::library::Library;
+use records::{lent_of, sum_bytes, Answer, Lent, Request, ADD_PATH, FOUR_BYTE_AS, GUESS, IPV6, STRICT};
+
+/// The four fields of an answer word; the last is the refusal.
+fn fields(word: u64) -> [u64; 4] {
+    [0, 16, 32, 48].map(|shift| word >> shift & 0xFFFF)
+}
+
+/// Whether the C boundary has a call for this op.
+pub fn has_call(op: u8) -> bool {
+    matches!(op, 2 | 3 | 6..=17)
+}
+
+pub fn four_bytes(request: &Request) -> u8 {
+    u8::from(request.has(FOUR_BYTE_AS))
+}
+
+pub fn ipv6(request: &Request) -> u8 {
+    u8::from(request.has(IPV6))
+}
+
+pub fn add_path(request: &Request) -> u8 {
+    u8::from(request.has(ADD_PATH))
+}
+
+pub fn list_settings(request: &Request) -> u8 {
+    request.settings & (ADD_PATH | GUESS)
+}
+
+/// The answer of a library to a request that it has a call for.
+pub fn answer<L: Library>(request: &Request) -> Answer {
+    let mut lent = lent_of(request);
+    let (word, numbers) = match request.op {
+        8 => aggregator::<L>(request),
+        9 => header::<L>(request),
+        12 => parts::<L>(request),
+        13..=17 => written::<L>(request, &mut lent),
+        _ => read::<L>(request, &mut lent),
+    };
+    let refusal = fields(word)[3] as u32;
+    if refusal != 0 {
+        assert_eq!(word, u64::from(refusal) << 48, "a refusal has no numbers");
+        return Answer { lent, ..Answer::refused(request, refusal) };
+    }
+    Answer { refusal, numbers, lent }
+}
+
+fn store(lent: &mut Lent) -> &mut [u32] {
+    match lent {
+        Lent::Numbers(places) => places,
+        Lent::Bytes(_) => panic!("a store of numbers"),
+    }
+}
+
+fn output(lent: &mut [Lent]) -> &mut [u8] {
+    match &mut lent[0] {
+        Lent::Bytes(places) => places,
+        Lent::Numbers(_) => panic!("an output of bytes"),
+    }
+}
+
+fn read<L: Library>(request: &Request, lent: &mut [Lent]) -> (u64, Vec<u64>) {
+    let (s, four) = (request.parts[0].as_slice(), four_bytes(request));
+    let (v6, settings) = (ipv6(request), list_settings(request));
+    let word = match (request.op, lent) {
+        (2, [rows]) => L::parse_nlri_list(s, v6, settings, store(rows)),
+        (3, _) => L::count_nlri_list(s, v6, settings),
+        (6, [pairs, numbers]) => L::parse_as_path(s, four, store(pairs), store(numbers)),
+        (7, _) => L::count_as_path(s, four),
+        (10, [withdrawn, announced]) => L::parse_bgp_update_message(s, settings, store(withdrawn), store(announced)),
+        (11, _) => L::count_bgp_update_message(s, settings),
+        (op, _) => panic!("no reader for op {op}"),
+    };
+    let [a, b, c, _] = fields(word);
+    let numbers = match request.op {
+        2 | 3 => vec![a],
+        6 | 7 => vec![a, b],
+        _ => vec![a, c & 0xFF, b, c >> 8],
+    };
+    (word, numbers)
+}
+
+/// The words are lent here: a request has no store for them.
+fn aggregator<L: Library>(request: &Request) -> (u64, Vec<u64>) {
+    let mut words = [0; 2];
+    let word = L::parse_aggregator(&request.parts[0], four_bytes(request), &mut words);
+    let [_, differs, ..] = fields(word);
+    (word, vec![u64::from(words[0]), u64::from(words[1]), differs])
+}
+
+fn header<L: Library>(request: &Request) -> (u64, Vec<u64>) {
+    let s = request.parts[0].as_slice();
+    let word = if request.has(STRICT) { L::parse_bgp_message_strict(s) } else { L::parse_bgp_message(s) };
+    let [claimed, taken, c, refusal] = fields(word);
+    if refusal != 0 {
+        return (word, vec![]);
+    }
+    let body = &s[19..taken as usize];
+    let flag = |bit: u64| u64::from(c & bit != 0);
+    (word, vec![c & 0xFF, claimed, taken, flag(256), flag(512), flag(1024), body.len() as u64, sum_bytes(body)])
+}
+
+fn parts<L: Library>(request: &Request) -> (u64, Vec<u64>) {
+    let body = request.parts[0].as_slice();
+    let mut numbers = vec![];
+    for part in [L::withdrawn_part, L::attribute_part, L::announced_part] {
+        let word = part(body);
+        let [offset, length, _, refusal] = fields(word);
+        if refusal != 0 {
+            return (word, vec![]);
+        }
+        let bytes = &body[offset as usize..(offset + length) as usize];
+        numbers.extend([length, sum_bytes(bytes)]);
+    }
+    (0, numbers)
+}
+
+fn written<L: Library>(request: &Request, lent: &mut [Lent]) -> (u64, Vec<u64>) {
+    let (first, second) = (request.numbers(0), request.numbers(1));
+    let (four, with_id, out) = (four_bytes(request), add_path(request), output(lent));
+    let word = match request.op {
+        13 => L::encode_nlri_prefixes(&first, ipv6(request), with_id, out),
+        14 => L::encode_as_path(&first, &second, four, out),
+        15 => L::encode_aggregator(first[0], first[1], four, out),
+        16 => L::encode_bgp_message(request.argument, &request.parts[0], out),
+        _ => L::encode_bgp_update_message(&first, &request.parts[1], &request.numbers(2), with_id, out),
+    };
+    (word, vec![fields(word)[0]])
+}

@@ -1,0 +1,314 @@
+//! What is measured. A case is made only after every side answered each of its requests alike.
+
+use crate::answers;
+use crate::inputs::{self, Lengths};
+use crate::library::{Ours, Plain};
+use crate::sides::{Calls, Lending};
+use compare::inputs::captures::Capture;
+use compare::inputs::examples::{on_bytes, request, words};
+use compare::rng::Rng;
+use records::{Request, ADD_PATH, FOUR_BYTE_AS, GUESS, STRICT};
+
+/// Small lists in a batch, so that no list is learnt by heart.
+const SMALL_LISTS: usize = 256;
+
+/// Paths of 64 KB in a batch, for the same reason: the counts of their segments are guessed by a processor.
+const LARGE_PATHS: usize = 4;
+
+/// Calls in a batch of those that take a few nanoseconds, so that reading the clock does not count.
+const TINY_CALLS: usize = 2_048;
+
+/// What a case is, which says how much of the crate's time it may take.
+#[derive(Clone, Copy)]
+pub enum Kind {
+    Read,
+    ReadTen,
+    Count,
+    Path,
+    Write,
+    /// The request names no share of the crate's time for it.
+    Other,
+    /// The crate has no call that does the same work.
+    WithoutCrate,
+}
+
+impl Kind {
+    pub fn of_crate(self) -> Option<f64> {
+        match self {
+            Kind::Read => Some(0.40),
+            Kind::ReadTen => Some(0.20),
+            Kind::Count => Some(0.15),
+            Kind::Path | Kind::Write => Some(0.33),
+            Kind::Other | Kind::WithoutCrate => None,
+        }
+    }
+}
+
+/// A list to measure: its name, how long its prefixes are, whether they have ids, and the settings to read it with.
+type ListKind = (&'static str, Lengths, bool, u8);
+
+pub struct Case {
+    pub name: String,
+    pub kind: Kind,
+    pub calls: Calls,
+}
+
+/// The same work in calls of 64 KB and in ten times as many of 6.4 KB.
+pub struct Growth {
+    pub name: String,
+    pub large: Calls,
+    pub small: Calls,
+}
+
+pub struct Cases<'a> {
+    wanted: &'a [String],
+    captures: &'a [Capture],
+    pub cases: Vec<Case>,
+    pub growths: Vec<Growth>,
+}
+
+/// Compares the answers of all sides to a request; stops the run at a difference. The crate is asked by a request of
+/// its own, and is left out where it has no answer. Whether it had one.
+pub fn compare(name: &str, asked: &Request, of_crate: &Request) -> bool {
+    let ours = answers::answer::<Ours>(asked);
+    let mut others = vec![("plain C", answers::answer::<Plain>(asked)), ("model", model::answer(asked))];
+    others.extend(crate_oracle::oracle::answer(of_crate).map(|answer| ("crate", answer)));
+    for (other, answer) in &others {
+        if *answer != ours {
+            let bytes: String = asked.parts[0].iter().take(80).map(|byte| format!("{byte:02X}")).collect();
+            panic!("{name}: ours and {other} differ on op {} settings {} {bytes}", asked.op, asked.settings);
+        }
+    }
+    others.len() == 3
+}
+
+/// Compares a request to be timed. The crate has one reading without Add-Path, that with the guess: it is what is
+/// timed, so it must come to the same here. Whether the crate answered.
+fn compare_timed(name: &str, asked: &Request) -> bool {
+    let list = matches!(asked.op, 2 | 3 | 10 | 11) && !asked.has(ADD_PATH);
+    let settings = asked.settings | if list { GUESS } else { 0 };
+    compare(name, asked, &Request { settings, ..asked.clone() })
+}
+
+impl<'a> Cases<'a> {
+    pub fn new(wanted: &'a [String], captures: &'a [Capture]) -> Cases<'a> {
+        let mut made = Cases { wanted, captures, cases: vec![], growths: vec![] };
+        made.lists();
+        made.ten();
+        made.captured_lists();
+        made.updates();
+        made.paths();
+        made.headers();
+        made.other_writers();
+        made
+    }
+
+    fn wants(&self, name: &str) -> bool {
+        self.wanted.is_empty() || self.wanted.iter().any(|part| name.contains(part))
+    }
+
+    fn add(&mut self, name: &str, kind: Kind, requests: &[Request]) {
+        if self.wants(name) {
+            for asked in requests {
+                let by_crate = compare_timed(name, asked);
+                assert!(by_crate || matches!(kind, Kind::WithoutCrate), "{name}: the crate has no answer");
+            }
+            let calls = Calls::new(&often_enough(requests), Lending::Same);
+            self.cases.push(Case { name: name.to_string(), kind, calls });
+        }
+    }
+
+    fn add_growth(&mut self, name: &str, large: &[Request], small: &[Request]) {
+        let name = format!("growth: {name}");
+        if self.wants(&name) {
+            for asked in small.iter().chain(large) {
+                compare_timed(&name, asked);
+            }
+            let [large, small] = [large, small].map(|requests| Calls::new(requests, Lending::Apart));
+            self.growths.push(Growth { name, large, small });
+        }
+    }
+
+    /// Reading, counting and maybe writing of lists or paths at both sizes, and their growth.
+    fn sizes(&mut self, what: &str, read: Kind, write: bool, [large, small]: [Vec<Request>; 2]) {
+        let thing = if large[0].op == 2 { "list" } else { "path" };
+        let mut verbs: Vec<(&str, Kind, fn(&Request) -> Request)> =
+            vec![("read", read, Request::clone), ("count", Kind::Count, inputs::counting)];
+        if write {
+            verbs.push(("write", Kind::Write, inputs::write_back));
+        }
+        for (verb, kind, asked) in verbs {
+            let [large, small] = [&large, &small].map(|reads| reads.iter().map(asked).collect::<Vec<_>>());
+            self.add(&format!("{verb} {thing}: {what}, 64 KB"), kind, &large);
+            self.add(&format!("{verb} {thing}: {what}, 6.4 KB"), kind, &small);
+            self.add_growth(&format!("{verb} {thing}: {what}"), &large, &small);
+        }
+    }
+
+    fn lists(&mut self) {
+        let kinds: [ListKind; 11] = [
+            ("/24s", Lengths::All24, false, 0),
+            ("mixed lengths", Lengths::Table4, false, 0),
+            ("lengths 1 to 32 alike", Lengths::Alike4, false, 0),
+            ("IPv6", Lengths::Table6, false, 0),
+            ("Add-Path /24s", Lengths::All24, true, ADD_PATH),
+            ("Add-Path IPv6", Lengths::Table6, true, ADD_PATH),
+            ("guess, /24s", Lengths::All24, false, GUESS),
+            ("guess, /24s with ids", Lengths::All24, true, GUESS),
+            ("guess, mixed lengths and defaults", Lengths::Defaults4, false, GUESS),
+            ("guess, IPv6", Lengths::Table6, false, GUESS),
+            ("guess, IPv6 with ids", Lengths::Table6, true, GUESS),
+        ];
+        for (seed, (what, lengths, with_id, list_settings)) in kinds.into_iter().enumerate() {
+            let mut rng = Rng::new(seed as u64);
+            let settings = inputs::settings(lengths, list_settings);
+            let tenths: Vec<Vec<u8>> = (0..10).map(|_| lengths.tenth(&mut rng, with_id)).collect();
+            let reads = both_sizes(&tenths, |list| inputs::read_list(list, settings));
+            self.sizes(what, Kind::Read, list_settings != GUESS, reads);
+        }
+    }
+
+    /// Lists of ten prefixes.
+    fn ten(&mut self) {
+        let kinds: [ListKind; 7] = [
+            ("/24s", Lengths::All24, false, 0),
+            ("mixed lengths", Lengths::Table4, false, 0),
+            ("IPv6", Lengths::Table6, false, 0),
+            ("Add-Path mixed lengths", Lengths::Table4, true, ADD_PATH),
+            ("Add-Path IPv6", Lengths::Table6, true, ADD_PATH),
+            ("guess, mixed lengths", Lengths::Table4, false, GUESS),
+            ("guess, mixed lengths with ids", Lengths::Table4, true, GUESS),
+        ];
+        for (seed, (what, lengths, with_id, list_settings)) in kinds.into_iter().enumerate() {
+            let mut rng = Rng::new(100 + seed as u64);
+            let settings = inputs::settings(lengths, list_settings);
+            let lists = ten_lists(&mut rng, lengths, with_id);
+            let reads: Vec<Request> = lists.iter().map(|list| inputs::read_list(list, settings)).collect();
+            self.add(&format!("read list: ten {what}"), Kind::ReadTen, &reads);
+            let counts: Vec<Request> = reads.iter().map(inputs::counting).collect();
+            self.add(&format!("count list: ten {what}"), Kind::Count, &counts);
+            if list_settings != GUESS {
+                let writes: Vec<Request> = reads.iter().map(inputs::write_back).collect();
+                self.add(&format!("write list: ten {what}"), Kind::Write, &writes);
+            }
+        }
+    }
+
+    fn captured_lists(&mut self) {
+        let reads = inputs::captured(self.captures, 2);
+        self.read_and_count("list: IPv6 of the captures", Kind::Read, &reads);
+    }
+
+    /// Adds a case for the reading requests and one for their counting.
+    fn read_and_count(&mut self, what: &str, kind: Kind, reads: &[Request]) {
+        self.add(&format!("read {what}"), kind, reads);
+        let counts: Vec<Request> = reads.iter().map(inputs::counting).collect();
+        self.add(&format!("count {what}"), Kind::Count, &counts);
+    }
+
+    fn updates(&mut self) {
+        let whole = inputs::captured(self.captures, 10);
+        let withdrawals: Vec<Request> = whole.iter().map(inputs::as_withdrawal).collect();
+        let mut rng = Rng::new(200);
+        let ten = ten_lists(&mut rng, Lengths::Table4, false);
+        let body = |body: Vec<u8>| on_bytes(10, GUESS | FOUR_BYTE_AS, (60, 60), &body);
+        let withdrawn: Vec<Request> = ten.iter().map(|list| body(inputs::withdrawal(list))).collect();
+        let announced: Vec<Request> = ten.iter().map(|list| body(inputs::announcement(&mut rng, list))).collect();
+        let sets = [
+            ("UPDATE: captures", Kind::Read, whole),
+            ("UPDATE: captures as withdrawals", Kind::Read, withdrawals),
+            ("UPDATE: ten withdrawn", Kind::ReadTen, withdrawn),
+            ("UPDATE: ten announced", Kind::ReadTen, announced),
+        ];
+        for (what, kind, reads) in sets {
+            self.read_and_count(what, kind, &reads);
+            let writes: Vec<Request> = reads.iter().filter(|read| is_good(read)).map(inputs::write_back).collect();
+            let writes: Vec<Request> = writes.into_iter().filter(crate_writes_so).collect();
+            self.add(&format!("write {what}"), Kind::Write, &writes);
+        }
+    }
+
+    fn paths(&mut self) {
+        let reads = inputs::captured(self.captures, 6);
+        self.read_and_count("path: captures", Kind::Path, &reads);
+        let writes: Vec<Request> = reads.iter().map(inputs::write_back).collect();
+        self.add("write path: captures", Kind::Write, &writes);
+        for width in [4, 2] {
+            let mut rng = Rng::new(300 + width as u64);
+            let settings = inputs::width_setting(width);
+            let tenths: Vec<Vec<u8>> = (0..10 * LARGE_PATHS).map(|_| inputs::path_tenth(&mut rng, width)).collect();
+            let reads = both_sizes(&tenths, |value| inputs::read_path(value, settings));
+            self.sizes(&format!("{width} bytes"), Kind::Path, true, reads);
+        }
+        let aggregators = inputs::captured(self.captures, 8);
+        let lent: Vec<Request> = aggregators.iter().map(|read| Request { room_a: 2, ..read.clone() }).collect();
+        self.add("read AGGREGATOR: captures", Kind::Other, &lent);
+    }
+
+    /// The crate's reader of a message reads its body too. A KEEPALIVE has none to read, whatever its length: so the
+    /// frames of the captured messages, as KEEPALIVEs, are what the crate can be asked.
+    fn headers(&mut self) {
+        let messages: Vec<&[u8]> = self.captures.iter().map(|capture| capture.bytes.as_slice()).collect();
+        let reads = |settings| messages.iter().map(|message| on_bytes(9, settings, (0, 0), message)).collect();
+        let (crate_reading, strict): (Vec<Request>, Vec<Request>) = (reads(0), reads(STRICT));
+        let mut keepalives = crate_reading.clone();
+        keepalives.retain(|read| read.parts[0].len() <= 4_096);
+        keepalives.iter_mut().for_each(|read| read.parts[0][18] = 4);
+        self.add("header: captures as KEEPALIVEs", Kind::Other, &keepalives);
+        self.add("header: captures", Kind::WithoutCrate, &crate_reading);
+        self.add("header: captures, strict", Kind::WithoutCrate, &strict);
+    }
+
+    fn other_writers(&mut self) {
+        let aggregators: Vec<Request> = inputs::captured(self.captures, 8).iter().map(write_aggregator).collect();
+        self.add("write AGGREGATOR: captures", Kind::Write, &aggregators);
+        let keepalive = request(16, 0, (19, 0), Default::default(), 4);
+        self.add("write message: KEEPALIVE", Kind::Write, &vec![keepalive; SMALL_LISTS]);
+        let notifications: Vec<Request> = self.captures.iter().map(notification).collect();
+        self.add("write message: NOTIFICATIONs as long as the captures", Kind::Write, &notifications);
+    }
+}
+
+/// The request that writes the AGGREGATOR that this one reads.
+fn write_aggregator(read: &Request) -> Request {
+    let found = model::answer(read).numbers;
+    let settings = inputs::width_setting(read.parts[0].len() - 4);
+    let value = words(&[found[0] as u32, found[1] as u32]);
+    request(15, settings, (8, 0), [value, vec![], vec![]], 0)
+}
+
+/// Requests of tiny calls again and again.
+fn often_enough(requests: &[Request]) -> Vec<Request> {
+    let bytes: usize = requests.iter().map(|asked| asked.parts[0].len()).sum();
+    let is_tiny = matches!(requests[0].op, 7..=9 | 15 | 16) && bytes / requests.len() < 1_000;
+    let times = if is_tiny { TINY_CALLS.div_ceil(requests.len()) } else { 1 };
+    requests.iter().cycle().take(times * requests.len()).cloned().collect()
+}
+
+/// Requests to read ten tenths at a time as a whole, and each alone.
+fn both_sizes(tenths: &[Vec<u8>], read: impl Fn(&[u8]) -> Request) -> [Vec<Request>; 2] {
+    let large = tenths.chunks(10).map(|ten| read(&ten.concat())).collect();
+    [large, tenths.iter().map(|tenth| read(tenth)).collect()]
+}
+
+fn ten_lists(rng: &mut Rng, lengths: Lengths, with_id: bool) -> Vec<Vec<u8>> {
+    (0..SMALL_LISTS).map(|_| (0..10).flat_map(|_| lengths.item(rng, with_id)).collect()).collect()
+}
+
+/// Whether an UPDATE's two lists are good.
+fn is_good(read: &Request) -> bool {
+    let answer = model::answer(read);
+    answer.refusal == 0 && answer.numbers[1] == 0 && answer.numbers[3] == 0
+}
+
+fn crate_writes_so(write: &Request) -> bool {
+    crate_oracle::oracle::answer(write).is_some()
+}
+
+/// A NOTIFICATION (cease) whose message is as long as the captured one.
+fn notification(capture: &Capture) -> Request {
+    let data = capture.bytes.len().saturating_sub(21);
+    let body = [&[6, 2], capture.bytes[..data].as_ref()].concat();
+    let total = 19 + body.len();
+    request(16, 0, (total, 0), [body, vec![], vec![]], 3)
+}

@@ -1,0 +1,213 @@
+//! Made inputs, the same on every machine: route lists, paths, and what is rebuilt from captured messages.
+
+use compare::inputs::captures::Capture;
+use compare::inputs::examples::{on_bytes, request, words};
+use compare::rng::Rng;
+use records::{Lent, Request, ADD_PATH, FOUR_BYTE_AS, GUESS, IPV6};
+
+/// The most bytes of a tenth of a list, so that ten of them are a list of the greatest size.
+const TENTH: usize = 6_553;
+
+/// How the lengths of a list's prefixes are chosen.
+#[derive(Clone, Copy)]
+pub enum Lengths {
+    All24,
+    /// About as often as they stand in the routing table of IPv4.
+    Table4,
+    /// 1 to 32, each as often.
+    Alike4,
+    /// The same as `Table4`, with a default route now and then where the guess must see that no id follows.
+    Defaults4,
+    /// About as often as in the routing table of IPv6, with /64 and /128.
+    Table6,
+}
+
+/// A length and how often it comes.
+type Share = (u8, usize);
+
+const TABLE4: &[Share] = &[
+    (24, 60),
+    (23, 9),
+    (22, 11),
+    (21, 5),
+    (20, 4),
+    (19, 3),
+    (18, 1),
+    (17, 1),
+    (16, 2),
+    (14, 1),
+    (12, 1),
+    (8, 1),
+    (32, 1),
+];
+
+const TABLE6: &[Share] = &[(48, 47), (32, 20), (44, 9), (40, 7), (36, 4), (29, 4), (64, 6), (128, 3)];
+
+fn share(rng: &mut Rng, shares: &[Share]) -> u8 {
+    let mut left = rng.under(shares.iter().map(|(_, often)| often).sum());
+    for (length, often) in shares {
+        if left < *often {
+            return *length;
+        }
+        left -= often;
+    }
+    unreachable!("a number under the sum")
+}
+
+impl Lengths {
+    pub fn is_ipv6(self) -> bool {
+        matches!(self, Lengths::Table6)
+    }
+
+    fn length(self, rng: &mut Rng) -> u8 {
+        match self {
+            Lengths::All24 => 24,
+            Lengths::Table4 | Lengths::Defaults4 => share(rng, TABLE4),
+            Lengths::Alike4 => 1 + rng.under(32) as u8,
+            Lengths::Table6 => share(rng, TABLE6),
+        }
+    }
+
+    /// One item, its bits past the length 0; a small id before it if asked.
+    pub fn item(self, rng: &mut Rng, with_id: bool) -> Vec<u8> {
+        let mut item = vec![];
+        if with_id {
+            item.extend(rng.under(1_000).to_be_bytes()[4..].iter());
+        } else if matches!(self, Lengths::Defaults4) && rng.one_in(16) {
+            // With these bytes after it, the zero would be the start of an id before a length over 32.
+            return vec![0, 24, rng.byte(), rng.byte(), 128 | rng.byte()];
+        }
+        let length = self.length(rng);
+        item.push(length);
+        item.extend(rng.bytes(usize::from(length).div_ceil(8)));
+        if length % 8 != 0 {
+            *item.last_mut().expect("an octet") &= 0xFF << (8 - length % 8);
+        }
+        item
+    }
+
+    /// A tenth of the greatest list.
+    pub fn tenth(self, rng: &mut Rng, with_id: bool) -> Vec<u8> {
+        let mut list = vec![];
+        loop {
+            let item = self.item(rng, with_id);
+            if list.len() + item.len() > TENTH {
+                return list;
+            }
+            list.extend(item);
+        }
+    }
+}
+
+/// A tenth of the greatest AS_PATH value.
+pub fn path_tenth(rng: &mut Rng, width: usize) -> Vec<u8> {
+    let mut value = vec![];
+    loop {
+        let count = 1 + rng.under(6);
+        if value.len() + 2 + width * count > TENTH {
+            return value;
+        }
+        value.extend([rng.pick(&[2, 2, 2, 1, 3, 4]), count as u8]);
+        value.extend(rng.bytes(width * count));
+    }
+}
+
+/// A request to read this list, with room for its rows and no more.
+pub fn read_list(list: &[u8], settings: u8) -> Request {
+    let counted = model::answer(&on_bytes(3, settings, (0, 0), list));
+    assert_eq!(counted.refusal, 0, "a made list is good");
+    on_bytes(2, settings, (6 * counted.numbers[0] as usize, 0), list)
+}
+
+pub fn read_path(value: &[u8], settings: u8) -> Request {
+    let counted = model::answer(&on_bytes(7, settings, (0, 0), value));
+    assert_eq!(counted.refusal, 0, "a made path is good");
+    let room = (2 * counted.numbers[0] as usize, counted.numbers[1] as usize);
+    on_bytes(6, settings, room, value)
+}
+
+/// What a reading request puts into its stores, as parts to write.
+fn stored(read: &Request) -> Vec<Vec<u8>> {
+    let answer = model::answer(read);
+    assert_eq!(answer.refusal, 0, "only good inputs are written back");
+    let counts = match read.op {
+        2 => vec![6 * answer.numbers[0]],
+        6 => vec![2 * answer.numbers[0], answer.numbers[1]],
+        _ => vec![6 * answer.numbers[0], 6 * answer.numbers[2]],
+    };
+    let parts = answer.lent.iter().zip(counts);
+    parts
+        .map(|(lent, count)| match lent {
+            Lent::Numbers(places) => words(&places[..count as usize]),
+            Lent::Bytes(_) => panic!("readers have stores of numbers"),
+        })
+        .collect()
+}
+
+/// The request that writes what this one reads.
+pub fn write_back(read: &Request) -> Request {
+    let mut parts = stored(read).into_iter();
+    let mut next = || parts.next().unwrap_or_default();
+    let (first, second, room) = (next(), next(), read.parts[0].len());
+    match read.op {
+        2 => request(13, read.settings, (room, 0), [first, vec![], vec![]], 0),
+        6 => request(14, read.settings, (room, 0), [first, second, vec![]], 0),
+        10 => request(17, read.settings, (room, 0), [first, attributes(&read.parts[0]).to_vec(), second], 0),
+        op => panic!("op {op} has no writer here"),
+    }
+}
+
+fn two(bytes: &[u8]) -> usize {
+    usize::from(bytes[0]) << 8 | usize::from(bytes[1])
+}
+
+/// The attribute section of a good body.
+fn attributes(body: &[u8]) -> &[u8] {
+    let rest = &body[2 + two(body)..];
+    &rest[2..2 + two(rest)]
+}
+
+/// The body that withdraws all routes of this one and has no attributes.
+pub fn as_withdrawal(read: &Request) -> Request {
+    let body = &read.parts[0];
+    let announced = 4 + two(body) + attributes(body).len();
+    let routes = [&body[2..2 + two(body)], &body[announced..]].concat();
+    Request { parts: [withdrawal(&routes), vec![], vec![]], ..read.clone() }
+}
+
+/// A body that withdraws a list.
+pub fn withdrawal(list: &[u8]) -> Vec<u8> {
+    [&(list.len() as u16).to_be_bytes(), list, &[0, 0]].concat()
+}
+
+/// A body that announces a list with ORIGIN, an AS_PATH of three numbers of four bytes and NEXT_HOP.
+pub fn announcement(rng: &mut Rng, list: &[u8]) -> Vec<u8> {
+    let path = [&[0x40, 2, 14, 2, 3], rng.bytes(12).as_slice()].concat();
+    let section = [&[0x40, 1, 1, 0], path.as_slice(), &[0x40, 3, 4, 192, 0, 2, 1]].concat();
+    [&[0, 0], &(section.len() as u16).to_be_bytes(), section.as_slice(), list].concat()
+}
+
+/// The requests of an op on all captured messages; of lists and UPDATEs those that the crate reads so.
+pub fn captured(captures: &[Capture], op: u8) -> Vec<Request> {
+    let listed = matches!(op, 2 | 10);
+    let crate_reads_so = |request: &Request| request.has(ADD_PATH) || request.has(GUESS);
+    let all = captures.iter().flat_map(Capture::requests);
+    all.filter(|request| request.op == op && (!listed || crate_reads_so(request))).collect()
+}
+
+/// The counting request of a reading one.
+pub fn counting(read: &Request) -> Request {
+    Request { op: read.op + 1, room_a: 0, room_b: 0, ..read.clone() }
+}
+
+pub fn settings(lengths: Lengths, list_settings: u8) -> u8 {
+    list_settings | if lengths.is_ipv6() { IPV6 } else { 0 }
+}
+
+pub fn width_setting(width: usize) -> u8 {
+    if width == 4 {
+        FOUR_BYTE_AS
+    } else {
+        0
+    }
+}

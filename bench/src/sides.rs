@@ -1,0 +1,281 @@
+//! The sides of a case as batches to time: the same calls by a library that is lent its stores, and by the crate.
+//! Not timed: making the requests, and the handles (`Bytes`) that the crate's readers take and drop. Timed: the calls,
+//! and giving back what the crate's calls hand out.
+
+use crate::answers::{add_path, four_bytes, ipv6, list_settings};
+use crate::library::Library;
+use crate::measure::{timed, Side};
+use bytes::{Bytes, BytesMut};
+use crate_oracle::models::{Afi, AsPath, Asn, AsnLength, BgpMessage, BgpUpdateMessage, NetworkPrefix};
+use crate_oracle::oracle::private::{Inside, PrivateCalls};
+use crate_oracle::oracle::{messages, paths, routes};
+use crate_oracle::parser::bgp::messages::{parse_bgp_message, parse_bgp_update_message};
+use crate_oracle::parser::utils::{encode_nlri_prefixes, parse_nlri_list};
+use records::{Request, ADD_PATH, FOUR_BYTE_AS, IPV6, STRICT};
+use std::cell::RefCell;
+use std::hint::black_box;
+use std::net::{IpAddr, Ipv4Addr};
+use std::ops::Range;
+use std::rc::Rc;
+
+/// A request as the calls take it, and its own part of each store.
+pub struct Call {
+    request: Request,
+    words: [Vec<u32>; 3],
+    ipv6: u8,
+    settings: u8,
+    add_path: u8,
+    four_bytes: u8,
+    first: Range<usize>,
+    second: Range<usize>,
+}
+
+impl Call {
+    fn new(request: &Request, first: usize, second: usize) -> Call {
+        Call {
+            words: [0, 1, 2].map(|part| request.numbers(part)),
+            ipv6: ipv6(request),
+            settings: list_settings(request),
+            add_path: add_path(request),
+            four_bytes: four_bytes(request),
+            first: first..first + request.room_a,
+            second: second..second + request.room_b,
+            request: request.clone(),
+        }
+    }
+
+    fn s(&self) -> &[u8] {
+        &self.request.parts[0]
+    }
+}
+
+/// What is lent to a library, the same places to both.
+struct Stores {
+    first: Vec<u32>,
+    second: Vec<u32>,
+    output: Vec<u8>,
+}
+
+impl Stores {
+    fn two(&mut self, call: &Call) -> (&mut [u32], &mut [u32]) {
+        (&mut self.first[call.first.clone()], &mut self.second[call.second.clone()])
+    }
+
+    fn output(&mut self, call: &Call) -> &mut [u8] {
+        &mut self.output[call.first.clone()]
+    }
+}
+
+/// The calls of a case.
+#[derive(Clone)]
+pub struct Calls {
+    calls: Rc<Vec<Call>>,
+    stores: Rc<RefCell<Stores>>,
+}
+
+/// Whether each call has its own part of the stores, or all the same.
+#[derive(Clone, Copy, PartialEq)]
+pub enum Lending {
+    Same,
+    Apart,
+}
+
+impl Calls {
+    pub fn new(requests: &[Request], lending: Lending) -> Calls {
+        let (mut first, mut second) = (0, 0);
+        let mut calls = vec![];
+        for request in requests {
+            calls.push(Call::new(request, first, second));
+            if lending == Lending::Apart {
+                first += request.room_a;
+                second += request.room_b;
+            }
+        }
+        let end = |range: fn(&Call) -> usize| calls.iter().map(range).max().expect("a call");
+        let (first, second) = (end(|call| call.first.end), end(|call| call.second.end));
+        let stores = Stores { first: vec![1; first], second: vec![1; second], output: vec![1; first] };
+        Calls { calls: Rc::new(calls), stores: Rc::new(RefCell::new(stores)) }
+    }
+
+    pub fn count(&self) -> usize {
+        self.calls.len()
+    }
+
+    fn op(&self) -> u8 {
+        self.calls[0].request.op
+    }
+
+    /// A batch: the call on each request in turn.
+    fn batch(&self, call: impl Fn(&Call, &mut Stores) -> u64 + 'static) -> Side {
+        let own = self.clone();
+        Box::new(move || {
+            let stores = &mut *own.stores.borrow_mut();
+            timed(|| {
+                for each in own.calls.iter() {
+                    black_box(call(black_box(each), stores));
+                }
+            })
+        })
+    }
+
+    /// The side of a library.
+    pub fn library<L: Library>(&self) -> Side {
+        match self.op() {
+            2 | 3 => self.lists::<L>(),
+            6..=9 => self.values::<L>(),
+            10 | 11 => self.updates::<L>(),
+            _ => self.writers::<L>(),
+        }
+    }
+
+    fn lists<L: Library>(&self) -> Side {
+        if self.op() == 2 {
+            self.batch(|call, to| L::parse_nlri_list(call.s(), call.ipv6, call.settings, to.two(call).0))
+        } else {
+            self.batch(|call, _| L::count_nlri_list(call.s(), call.ipv6, call.settings))
+        }
+    }
+
+    fn values<L: Library>(&self) -> Side {
+        match self.op() {
+            6 => self.batch(|call, to| {
+                let (pairs, numbers) = to.two(call);
+                L::parse_as_path(call.s(), call.four_bytes, pairs, numbers)
+            }),
+            7 => self.batch(|call, _| L::count_as_path(call.s(), call.four_bytes)),
+            8 => self.batch(|call, to| L::parse_aggregator(call.s(), call.four_bytes, to.two(call).0)),
+            _ if self.is_strict() => self.batch(|call, _| L::parse_bgp_message_strict(call.s())),
+            _ => self.batch(|call, _| L::parse_bgp_message(call.s())),
+        }
+    }
+
+    fn updates<L: Library>(&self) -> Side {
+        if self.op() == 10 {
+            self.batch(|call, to| {
+                let (withdrawn, announced) = to.two(call);
+                L::parse_bgp_update_message(call.s(), call.settings, withdrawn, announced)
+            })
+        } else {
+            self.batch(|call, _| L::count_bgp_update_message(call.s(), call.settings))
+        }
+    }
+
+    fn writers<L: Library>(&self) -> Side {
+        match self.op() {
+            13 => self
+                .batch(|call, to| L::encode_nlri_prefixes(&call.words[0], call.ipv6, call.add_path, to.output(call))),
+            14 => self
+                .batch(|call, to| L::encode_as_path(&call.words[0], &call.words[1], call.four_bytes, to.output(call))),
+            15 => self.batch(|call, to| {
+                L::encode_aggregator(call.words[0][0], call.words[0][1], call.four_bytes, to.output(call))
+            }),
+            16 => self.batch(|call, to| L::encode_bgp_message(call.request.argument, call.s(), to.output(call))),
+            17 => self.batch(|call, to| {
+                let [withdrawn, _, announced] = &call.words;
+                let attributes = &call.request.parts[1];
+                L::encode_bgp_update_message(withdrawn, attributes, announced, call.add_path, to.output(call))
+            }),
+            op => panic!("no writer for op {op}"),
+        }
+    }
+
+    fn is_strict(&self) -> bool {
+        self.calls[0].request.has(STRICT)
+    }
+
+    /// The side of the crate.
+    pub fn by_crate(&self) -> Side {
+        let afi = family(&self.calls[0].request);
+        match self.op() {
+            2 | 3 => self.owning(move |bytes, call| parse_nlri_list(bytes, call.has(ADD_PATH), &afi)),
+            6 | 7 => self.owning(|bytes, call| Inside::parse_as_path(bytes, &width(call))),
+            8 => self.owning(|bytes, call| Inside::parse_aggregator(bytes, &width(call))),
+            9 => self.owning(|mut bytes, call| parse_bgp_message(&mut bytes, call.has(ADD_PATH), &width(call))),
+            10 | 11 => self.owning(|bytes, call| parse_bgp_update_message(bytes, call.has(ADD_PATH), &width(call))),
+            _ => self.crate_writers(),
+        }
+    }
+
+    /// A batch of a reader of the crate, which owns the handle of its bytes. Handles are made before the clock starts.
+    fn owning<T>(&self, call: impl Fn(Bytes, &Request) -> T + 'static) -> Side {
+        let own = self.clone();
+        let given: Vec<Bytes> = own.calls.iter().map(|call| Bytes::from(call.s().to_vec())).collect();
+        let mut handles = Vec::with_capacity(given.len());
+        Box::new(move || {
+            handles.extend(given.iter().cloned());
+            timed(|| {
+                for (bytes, each) in handles.drain(..).zip(own.calls.iter()) {
+                    drop(black_box(call(black_box(bytes), &each.request)));
+                }
+            })
+        })
+    }
+
+    fn crate_writers(&self) -> Side {
+        match self.op() {
+            13 => writing(self.values_of(prefixes), |prefixes, _| encode_nlri_prefixes(prefixes)),
+            14 => writing(self.values_of(path), |path, width| {
+                let mut output = BytesMut::new();
+                Inside::encode_as_path(path, width, &mut output).map(|()| output)
+            }),
+            15 => writing(self.values_of(aggregator), |(asn, address), width| {
+                Inside::encode_aggregator(asn, address, width)
+            }),
+            16 => writing(self.values_of(message), |message, width| message.encode(width)),
+            _ => writing(self.values_of(update), |update, width| update.encode(width)),
+        }
+    }
+
+    /// Each request's value as the crate has it, with the width of its AS numbers.
+    fn values_of<T>(&self, value: impl Fn(&Call) -> T) -> Vec<(T, AsnLength)> {
+        self.calls.iter().map(|call| (value(call), width(&call.request))).collect()
+    }
+}
+
+/// A batch of a writer of the crate.
+fn writing<T: 'static, R>(values: Vec<(T, AsnLength)>, call: impl Fn(&T, AsnLength) -> R + 'static) -> Side {
+    Box::new(move || {
+        timed(|| {
+            for (value, width) in &values {
+                drop(black_box(call(black_box(value), *width)));
+            }
+        })
+    })
+}
+
+fn width(request: &Request) -> AsnLength {
+    if request.has(FOUR_BYTE_AS) {
+        AsnLength::Bits32
+    } else {
+        AsnLength::Bits16
+    }
+}
+
+fn family(request: &Request) -> Afi {
+    if request.has(IPV6) {
+        Afi::Ipv6
+    } else {
+        Afi::Ipv4
+    }
+}
+
+fn prefixes(call: &Call) -> Vec<NetworkPrefix> {
+    let request = &call.request;
+    routes::prefixes(&call.words[0], request.has(ADD_PATH), family(request)).expect("writable rows")
+}
+
+fn path(call: &Call) -> AsPath {
+    paths::path(&call.words[0], &call.words[1]).expect("a writable path")
+}
+
+fn aggregator(call: &Call) -> (Asn, IpAddr) {
+    (Asn::new_32bit(call.words[0][0]), IpAddr::V4(Ipv4Addr::from(call.words[0][1])))
+}
+
+fn message(call: &Call) -> BgpMessage {
+    messages::message(call.request.argument, call.s(), &call.request).expect("a body that the crate writes so")
+}
+
+fn update(call: &Call) -> BgpUpdateMessage {
+    messages::update_to_write(&call.request).expect("an UPDATE that the crate writes so")
+}

@@ -1,0 +1,93 @@
+use borrow.Author.Needs.{needs}
+use native.Mathlib.Omega.{arith}
+use Prim.Native.Nat.{_+_, _-_, _≤_}
+use mathlib.Core.Path.{_≡_}
+use lib.ListN.{length}
+use Rattle.asns.specs.Asn.{span}
+use Rattle.paths.specs.NumberTurn.{Numbering, numbering-start, numbering-room, numbering-here, numbering-next, numbering-done}
+use Rattle.paths.proofs.put_full.Statement.{statement}
+use Rattle.paths.proofs.put_full.Tie as tie
+
+abbrev Inv-loop : tie.InvT-loop
+Inv-loop s from n numbers₀ start at₀ to₀ left₀ numbers at to left = Numbering s from 4 n numbers₀ start at to left numbers
+
+abbrev μ-loop : tie.MeasureT-loop
+μ-loop s from n numbers₀ start at₀ to₀ left₀ numbers at to left = left
+
+-- at the head, the store is as long as it was, and has room for what is left
+room : (l : tie.At-loop Inv-loop μ-loop) →
+    let a = l .before .before .before .args in
+    (length (l .loop .numbers) ≡ length (a .numbers .now)) × (l .loop .to + l .loop .left ≤ length (a .numbers .now))
+room l =
+    let a = l .before .before .before .args in
+    numbering-room (a .s .now) (a .from) 4 (a .n) (a .numbers .now) (a .start) (l .before .before .before .pre .1) (l .loop .at) (l .loop .to) (l .loop .left) (l .loop .numbers) (l .loop .inv)
+
+-- in a turn, the next number is there
+here : (k : tie.In-loop Inv-loop μ-loop) →
+    let l = k .before in
+    let a = l .before .before .before .args in
+    l .loop .at + 4 + span 4 (l .loop .left - 1) ≤ length (a .s .now)
+here k =
+    let l = k .before in
+    let a = l .before .before .before .args in
+    numbering-here (a .s .now) (a .from) 4 (a .n) (a .numbers .now) (a .start) (l .before .before .before .pre .1) (l .loop .at) (l .loop .to) (l .loop .left) (l .loop .numbers) (l .loop .inv) (k .loop-test .taken)
+
+loop-holds : tie.Need-loop-holds Inv-loop μ-loop
+loop-holds c =
+    let a = c .before .before .args in
+    let p = c .before .before .pre in
+    numbering-start (a .s .now) (a .from) 4 (a .n) (a .numbers .now) (a .start) (p .1) (p .0)
+
+four-at-requires : tie.Need-four-at-requires Inv-loop μ-loop
+four-at-requires c κs = omega (arith, here c)
+
+mul-numbers : tie.Need-mul-numbers Inv-loop μ-loop
+mul-numbers c = omega (arith, room (c .before .before))
+
+slice-write-numbers : tie.Need-slice-write-numbers Inv-loop μ-loop
+slice-write-numbers c = omega (arith, room (c .before .before))
+
+add-at : tie.Need-add-at Inv-loop μ-loop
+add-at c = omega (arith, here (c .before))
+
+add-to : tie.Need-add-to Inv-loop μ-loop
+add-to c = omega (arith, room (c .before .before))
+
+sub-left : tie.Need-sub-left Inv-loop μ-loop
+sub-left c = search needs
+
+loop-less : tie.Need-loop-less Inv-loop μ-loop
+loop-less c = search needs
+
+loop-again : tie.Need-loop-again Inv-loop μ-loop
+loop-again c =
+    let l = c .before .before in
+    let a = l .before .before .before .args in
+    numbering-next (a .s .now) (a .from) 4 (a .n) (a .numbers .now) (a .start) (l .before .before .before .pre .1) (l .loop .at) (l .loop .to) (l .loop .left) (l .loop .numbers) (l .loop .inv) _ (c .before .loop-test .taken) (c .four-at .ensures)
+
+same-length : tie.Need-same-length Inv-loop μ-loop
+same-length c = room (c .before) .0
+
+returns : tie.Need-returns Inv-loop μ-loop
+returns c =
+    let l = c .before in
+    let a = l .before .before .before .args in
+    numbering-done (a .s .now) (a .from) 4 (a .n) (a .numbers .now) (a .start) (l .before .before .before .pre .1) (l .loop .at) (l .loop .to) (l .loop .left) (l .loop .numbers) (l .loop .inv) (omega (arith, c .loop-test .left))
+
+pub put-full-spec : {M : Type 1} → statement M
+put-full-spec =
+    tie.close
+    (tie.spec
+    Inv-loop
+    μ-loop
+    loop-holds
+    four-at-requires
+    mul-numbers
+    slice-write-numbers
+    add-at
+    add-to
+    sub-left
+    loop-less
+    loop-again
+    same-length
+    returns)

@@ -1,0 +1,32 @@
+use mathlib.Core.Path.{sym, _∙_}
+use Rattle.families.specs.Family.{maxOf}
+use Rattle.routes.specs.List.{sectionOf}
+use Rattle.routes.specs.ListLaws.{section-strange, section-list, leave-refused}
+use borrow.Author.Needs.{needs}
+use Rattle.route_reader.proofs.read_nlri.Statement.{statement}
+use Rattle.route_reader.proofs.read_nlri.Tie as tie
+
+is-strange-requires : tie.Need-is-strange-requires
+is-strange-requires c κs = search needs
+
+returns : tie.Need-returns
+returns c =
+    let a = c .before .before .before .before .args in
+    let strange = sym (c .before .is-strange .ensures) ∙ c .if1 .taken in
+    leave-refused (a .s .now) (sectionOf (a .s .now) (maxOf (a .afi)) (a .mode)) (a .store .now) _ (section-strange (a .s .now) (maxOf (a .afi)) (a .mode) strange)
+
+parse-nlri-list-requires : tie.Need-parse-nlri-list-requires
+parse-nlri-list-requires c κs = search needs
+
+same-length : tie.Need-same-length
+same-length c = search needs
+
+returns-2 : tie.Need-returns-2
+returns-2 c =
+    let a = c .before .before .before .before .before .before .before .before .args in
+    let list = sym (c .before .before .before .before .before .is-strange .ensures) ∙ c .before .before .before .before .if1 .left in
+    rw (section-list (a .s .now) (maxOf (a .afi)) (a .mode) list) (c .before .before .parse-nlri-list .ensures)
+
+pub read-nlri-spec : {M : Type 1} → statement M
+read-nlri-spec =
+    tie.close (tie.spec is-strange-requires returns parse-nlri-list-requires same-length returns-2)

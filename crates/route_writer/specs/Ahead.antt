@@ -1,0 +1,225 @@
+-- Filling an output with whole words while there is room: what is put past a row's bytes lies below the end of the list, and the rows that
+-- follow overwrite it.
+-- Assumes nothing.
+use Prim.Native.Nat.{ℕ, _+_, _≤_, _<_}
+use mathlib.Core.Path.{_≡_, refl, sym, ap, ap₂, _∙_, subst}
+use mathlib.Core.List.{List, [], _∷_, _++_, append-assoc, append-nil}
+use mathlib.Core.Bool.{true}
+use native.Mathlib.Nat.{add-zero, lt-of-not-le}
+use native.Mathlib.Decide.{decLe}
+use native.Mathlib.Omega.{arith}
+use lib.ListN.{length, getD, take, drop, set, length-append, length-drop, take-append-drop}
+use lib.Seq.{getD-drop, length-take-le, take-append-le}
+use Rattle.wire.specs.Number.{toBe}
+use Rattle.wire.specs.NumberLaws.{length-toBe}
+use Rattle.wire.specs.Store.{laid, take-laid, length-laid, laid-laid, laid-before, take-laid-front, drop-laid-past, puts-laid}
+use Rattle.wire.specs.Turn.{Filled, fill-start, fill-done, turn-end}
+use Rattle.wire.specs.Walk.{Reading, flat}
+use Rattle.families.specs.Family.{idSize, octets}
+use Rattle.families.specs.declared.Form.{Form}
+use Rattle.routes.specs.declared.Row.{Row}
+use Rattle.route_writer.specs.Encode.{fourWords, address, lengthOf, rowBytes, writable, frontRow, writeStep, writing, bytesOf}
+use Rattle.route_writer.specs.EncodeLaws.{Writable, is-writable, row-size, write-sound, fill-row, fill-next}
+
+-- the row of the six words at a place
+abbrev pub rowAt : List ℕ → ℕ → Row
+rowAt rows at = record { first = getD rows at 0; id = getD rows (at + 1) 0; w0 = getD rows (at + 2) 0; w1 = getD rows (at + 3) 0; w2 = getD rows (at + 4) 0; w3 = getD rows (at + 5) 0 }
+
+pub row-at : (rows : List ℕ) (at : ℕ) → frontRow (drop at rows) ≡ rowAt rows at
+unfolding frontRow
+row-at rows at =
+    rw (getD-drop at rows 0 0, getD-drop at rows 1 0, getD-drop at rows 2 0, getD-drop at rows 3 0, getD-drop at rows 4 0, getD-drop at rows 5 0, add-zero at)
+
+-- what stands before a row's octets: the id where the form has one, and the length octet
+abbrev pub headBytes : Form → Row → List ℕ
+headBytes form r = toBe (idSize form) (r .id) ++ (lengthOf form r ∷ [])
+
+module _ (form : Form) (r : Row) where
+  pub head-length : length (headBytes form r) ≡ idSize form + 1
+  head-length = length-append (toBe (idSize form) (r .id)) (lengthOf form r ∷ []) ∙ ap (λ (k : ℕ). k + 1) (length-toBe (idSize form) (r .id))
+
+  -- as code puts it, the length octet first
+  pub head-laid : (d : List ℕ) (to k l : ℕ) → k ≡ idSize form → l ≡ lengthOf form r → to + idSize form + 1 ≤ length d
+      → laid (set d (to + k) l) to (toBe (idSize form) (r .id)) ≡ laid d to (headBytes form r)
+  head-laid d to k l ks ls room =
+      let id : List ℕ = toBe (idSize form) (r .id) in
+      let size : length id ≡ idSize form = length-toBe (idSize form) (r .id) in
+      let one : List ℕ = lengthOf form r ∷ [] in
+      let room′ : to + length id + length one ≤ length d = omega arith in
+      ap₂ (λ (j x : ℕ). laid (set d (to + j) x) to id) (ks ∙ sym size) ls
+      ∙ ap (λ (l : List ℕ). laid l to id) (puts-laid d (to + length id) one room′)
+      ∙ laid-before d to id one room′
+
+  -- with the words of an address that its octets are in, it is the row's bytes and what is left of the words
+  head-words : (words tail : List ℕ) → address r ≡ words ++ tail → octets (lengthOf form r) ≤ length words
+      → headBytes form r ++ words ≡ rowBytes form r ++ drop (octets (lengthOf form r)) words
+  unfolding rowBytes
+  head-words words tail split enough =
+      let n : ℕ = octets (lengthOf form r) in
+      let id : List ℕ = toBe (idSize form) (r .id) in
+      let front : take n words ≡ take n (address r) = sym (ap (take n) split ∙ take-append-le n words tail enough) in
+      let parts : words ≡ take n (address r) ++ drop n words = sym (take-append-drop n words) ∙ ap (λ (l : List ℕ). l ++ drop n words) front in
+      ap (λ (l : List ℕ). headBytes form r ++ l) parts
+      ∙ append-assoc id (lengthOf form r ∷ []) (take n (address r) ++ drop n words)
+      ∙ sym (append-assoc id (lengthOf form r ∷ take n (address r)) (drop n words))
+
+-- the octets of four words as code puts them, word by word
+pub words-laid : (d : List ℕ) (to a b c e : ℕ) → to + 16 ≤ length d
+    → laid (laid (laid (laid d to (toBe 4 a)) (to + 4) (toBe 4 b)) (to + 8) (toBe 4 c)) (to + 12) (toBe 4 e) ≡ laid d to (fourWords a b c e)
+unfolding fourWords
+words-laid d to a b c e room =
+    let two : List ℕ = toBe 4 a ++ toBe 4 b in
+    let three : List ℕ = two ++ toBe 4 c in
+    ap (λ (l : List ℕ). laid (laid l (to + 8) (toBe 4 c)) (to + 12) (toBe 4 e)) (laid-laid d to (toBe 4 a) (toBe 4 b) (omega arith))
+    ∙ ap (λ (l : List ℕ). laid l (to + 12) (toBe 4 e)) (laid-laid d to two (toBe 4 c) (omega arith))
+    ∙ laid-laid d to three (toBe 4 e) (omega arith)
+
+-- rows that can be written, with `total` bytes, which the output has room for
+pub record Fillable (rows : List ℕ) (max : ℕ) (form : Form) (out : List ℕ) (total : ℕ) : Type 0 where
+  pub good : writing rows max form .verdict ≡ 0
+  pub size : length (bytesOf rows max form) ≡ total
+  pub room : total ≤ length out
+
+-- at the head of a loop: before `to` stand the bytes of the rows before `at`, and past the last row's bytes the output is as it was
+pub record Ahead (max : ℕ) (form : Form) (rows d₀ : List ℕ) (at to : ℕ) (d : List ℕ) : Type 0 where
+  -- the same with nothing put past `to`
+  pub clean : List ℕ
+  pub filled : Filled (writeStep max form) (rowBytes form) tt rows d₀ tt at to clean
+  pub long : length d ≡ length d₀
+  pub front : take to d ≡ take to clean
+  pub back : drop (length (bytesOf rows max form)) d ≡ drop (length (bytesOf rows max form)) d₀
+
+pub ahead-start : (max : ℕ) (form : Form) (rows d₀ : List ℕ) (total : ℕ) → Fillable rows max form d₀ total → Ahead max form rows d₀ 0 0 d₀
+unfolding writing bytesOf
+ahead-start max form rows d₀ total f =
+    record {
+      clean = d₀;
+      filled = fill-start (writeStep max form) (write-sound max form) (rowBytes form) tt rows d₀ (f .good) (omega (arith, f .size, f .room));
+      long = refl;
+      front = refl;
+      back = refl;
+    }
+
+-- the bytes before `to` and those of the rows from `at` on are all
+filled-sum : (max : ℕ) (form : Form) (rows d₀ : List ℕ) (at to : ℕ) (d : List ℕ) → Filled (writeStep max form) (rowBytes form) tt rows d₀ tt at to d
+    → to + length (bytesOf (drop at rows) max form) ≡ length (bytesOf rows max form)
+unfolding bytesOf writing
+filled-sum max form rows d₀ at to d f =
+    let n : length (take to d) ≡ to = length-take-le to d (omega (arith, f .room, f .long)) in
+    omega (arith, ap length (f .front), length-append (take to d) (bytesOf (drop at rows) max form))
+
+module _ (max : ℕ) (form : Form) (rows d₀ : List ℕ) (at to : ℕ) (d : List ℕ) (h : Ahead max form rows d₀ at to d) where
+  ahead-sum : to + length (bytesOf (drop at rows) max form) ≡ length (bytesOf rows max form)
+  ahead-sum = filled-sum max form rows d₀ at to (h .clean) (h .filled)
+
+  pub ahead-room : (to ≤ length (bytesOf rows max form)) × (length (bytesOf rows max form) ≤ length d)
+  unfolding bytesOf writing
+  ahead-room = (omega (arith, ahead-sum), omega (arith, ahead-sum, h .filled .room, h .long))
+
+  ahead-end : length rows ≤ at → to ≡ length (bytesOf rows max form)
+  unfolding bytesOf writing flat
+  ahead-end le =
+      let none : length (bytesOf (drop at rows) max form) ≡ 0 = ap (λ (r : Reading Row). length (flat (rowBytes form) (r .rows))) (turn-end (writeStep max form) (write-sound max form) rows tt at le) in
+      omega (arith, ahead-sum)
+
+  pub ahead-done : length rows ≤ at → d ≡ laid d₀ 0 (bytesOf rows max form)
+  unfolding bytesOf writing
+  ahead-done le =
+      let all : List ℕ = bytesOf rows max form in
+      let end : to ≡ length all = ahead-end le in
+      let zero-at : to ≡ 0 + length all = omega arith in
+      let fits : 0 + length all ≤ length d₀ = omega (arith, ahead-room, h .long) in
+      let front : take to d ≡ all =
+      h .front
+      ∙ ap₂ take zero-at (fill-done (writeStep max form) (write-sound max form) (rowBytes form) tt rows d₀ tt at to (h .clean) (h .filled) le)
+      ∙ take-laid d₀ 0 all fits in
+      let back : drop to d ≡ drop (0 + length all) d₀ = ap (λ (k : ℕ). drop k d) end ∙ h .back ∙ ap (λ (k : ℕ). drop k d₀) (sym end ∙ zero-at) in
+      sym (take-append-drop to d) ∙ ap₂ _++_ front back
+
+  -- where a byte is still to come there is a row
+  pub ahead-more : to < length (bytesOf rows max form) → at < length rows
+  ahead-more lt =
+      elim (decLe (length rows) at) [
+        | yes le ↦ omega (arith, ahead-end le)
+        | no gt ↦ lt-of-not-le gt
+      ]
+
+  module _ (lt : at < length rows) where
+    -- which can be written, and its bytes lie below the end
+    pub ahead-row : (6 ≤ length (drop at rows)) × (writable max form (frontRow (drop at rows)) ≡ true) × (to + length (rowBytes form (frontRow (drop at rows))) ≤ length (bytesOf rows max form))
+    ahead-row =
+        let r = fill-row max form rows d₀ at to (h .clean) (h .filled) lt in
+        let next = fill-next max form rows d₀ at to (h .clean) (h .filled) lt in
+        (r .0, r .1, omega (arith, filled-sum max form rows d₀ (at + 6) _ _ next))
+
+    -- its bytes, and more that lies below the end, are put
+    pub ahead-step : (more : List ℕ) → to + length (rowBytes form (frontRow (drop at rows)) ++ more) ≤ length (bytesOf rows max form)
+        → Ahead max form rows d₀ (at + 6) (to + length (rowBytes form (frontRow (drop at rows)))) (laid d to (rowBytes form (frontRow (drop at rows)) ++ more))
+    ahead-step more fits =
+        let bytes : List ℕ = rowBytes form (frontRow (drop at rows)) in
+        let there : to + length (bytes ++ more) ≤ length d = omega (arith, ahead-room) in
+        record {
+          clean = laid (h .clean) to bytes;
+          filled = fill-next max form rows d₀ at to (h .clean) (h .filled) lt;
+          long = length-laid d to (bytes ++ more) there ∙ h .long;
+          front =
+              take-laid-front d to bytes more there
+              ∙ ap (λ (l : List ℕ). l ++ bytes) (h .front)
+              ∙ sym (take-laid (h .clean) to bytes (fill-row max form rows d₀ at to (h .clean) (h .filled) lt .2));
+          back = drop-laid-past d to (bytes ++ more) (length (bytesOf rows max form)) fits there ∙ h .back;
+        }
+
+    -- its bytes alone are put
+    pub ahead-next : Ahead max form rows d₀ (at + 6) (to + length (rowBytes form (frontRow (drop at rows)))) (laid d to (rowBytes form (frontRow (drop at rows))))
+    ahead-next =
+        let bytes : List ℕ = rowBytes form (frontRow (drop at rows)) in
+        let none : bytes ++ [] ≡ bytes = append-nil bytes in
+        subst (λ (l : List ℕ). Ahead max form rows d₀ (at + 6) (to + length bytes) (laid d to l)) none (ahead-step [] (omega (arith, ap length none, ahead-row .2)))
+
+-- ---- a turn that puts whole words
+
+-- at such a turn: the next row's octets are in `words`, and the id, the length octet and all of `words` lie below the end
+pub record Whole (max : ℕ) (form : Form) (rows d₀ : List ℕ) (total at to : ℕ) (d words : List ℕ) (k : ℕ) : Type 0 where
+  pub small : max ≤ 128
+  pub fillable : Fillable rows max form d₀ total
+  pub ahead : Ahead max form rows d₀ at to d
+  pub tail : List ℕ
+  pub split : address (rowAt rows at) ≡ words ++ tail
+  pub enough : octets max ≤ length words
+  pub id : k ≡ idSize form
+  pub fits : to + (k + 1 + length words) ≤ total
+
+module _ {max : ℕ} {form : Form} {rows d₀ : List ℕ} {total at to : ℕ} {d words : List ℕ} {k : ℕ} (t : Whole max form rows d₀ total at to d words k) where
+  there : at < length rows
+  there = ahead-more max form rows d₀ at to d (t .ahead) (omega (arith, t .fits, t .fillable .size))
+
+  pub whole-room : (at + 6 ≤ length rows) × (to + (k + 1 + length words) ≤ length d)
+  whole-room =
+      (omega (arith, ahead-row max form rows d₀ at to d (t .ahead) there .0, length-drop at rows), omega (arith, t .fits, t .fillable .size, ahead-room max form rows d₀ at to d (t .ahead)))
+
+  pub whole-row : Writable max form (rowAt rows at)
+  whole-row = rw (← row-at rows at) (is-writable max form (frontRow (drop at rows)) (ahead-row max form rows d₀ at to d (t .ahead) there .1))
+
+  -- the loop's head after they are put
+  pub whole-turn : (l n : ℕ) (d₁ d₂ : List ℕ) → l ≡ lengthOf form (rowAt rows at) → n ≡ octets l → d₁ ≡ laid d to (headBytes form (rowAt rows at)) → d₂ ≡ laid d₁ (to + k + 1) words
+      → Ahead max form rows d₀ (at + 6) (to + (k + 1 + n)) d₂
+  whole-turn l n d₁ d₂ ls ns e₁ e₂ =
+      let r : Row = rowAt rows at in
+      let front : Row = frontRow (drop at rows) in
+      let head : List ℕ = headBytes form r in
+      let rest : List ℕ = drop (octets (lengthOf form r)) words in
+      let size : length head ≡ k + 1 = head-length form r ∙ ap (λ (j : ℕ). j + 1) (sym (t .id)) in
+      let seam : to + length head ≡ to + k + 1 = omega arith in
+      let whole : head ++ words ≡ rowBytes form front ++ rest =
+      head-words form r words (t .tail) (t .split) (omega (arith, whole-row .fits, t .enough)) ∙ ap (λ (q : Row). rowBytes form q ++ rest) (sym (row-at rows at)) in
+      let all : length (head ++ words) ≡ k + 1 + length words = length-append head words ∙ ap (λ (j : ℕ). j + length words) size in
+      let put : d₂ ≡ laid d to (rowBytes form front ++ rest) =
+      e₂
+      ∙ ap₂ (λ (x : List ℕ) (j : ℕ). laid x j words) e₁ (sym seam)
+      ∙ laid-laid d to head words (omega (arith, whole-room .1))
+      ∙ ap (laid d to) whole in
+      let next : k + 1 + n ≡ length (rowBytes form front) =
+      sym (ap (λ (q : Row). length (rowBytes form q)) (row-at rows at)
+      ∙ row-size form r (omega (arith, whole-row .fits, t .small))
+      ∙ ap₂ (λ (i j : ℕ). i + 1 + j) (sym (t .id)) (sym (ns ∙ ap octets ls))) in
+      rw (next, put) (ahead-step max form rows d₀ at to d (t .ahead) there rest (omega (arith, ap length whole, t .fits, t .fillable .size)))

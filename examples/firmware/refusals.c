@@ -1,0 +1,275 @@
+/* Every call of the library on a small input that it takes and on ones that it refuses: the whole answer, what the stores and outputs have
+ * afterwards, and that a refusal leaves them as they were. Prints what fails, and then how many checks there were; exit status 1 where one
+ * fails. */
+#include <stdio.h>
+#include <string.h>
+
+#include "doorbramble.h"
+
+/* what a store or an output has before each call */
+#define FILL_BYTE 0xA5
+#define FILL_WORD 0xA5A5A5A5u
+
+enum { PLACES = 32 };
+
+static uint8_t out[PLACES];
+static uint32_t one[PLACES];
+static uint32_t two[PLACES];
+static unsigned checks;
+static unsigned failures;
+
+static void clear(void) {
+    memset(out, FILL_BYTE, sizeof out);
+    memset(one, FILL_BYTE, sizeof one);
+    memset(two, FILL_BYTE, sizeof two);
+}
+
+static uint64_t accepted(uint64_t a, uint64_t b, uint64_t c) { return a | b << 16 | c << 32; }
+
+static uint64_t refused(uint64_t number) { return number << 48; }
+
+static void expect(const char *what, int holds) {
+    checks++;
+    if (!holds) {
+        failures++;
+        printf("fails: %s\n", what);
+    }
+}
+
+/* `words` at the front of a store, and nothing else changed */
+static int has_words(const uint32_t *store, const uint32_t *words, size_t count) {
+    size_t i;
+    for (i = 0; i < PLACES; i++)
+        if (store[i] != (i < count ? words[i] : FILL_WORD))
+            return 0;
+    return 1;
+}
+
+static int has_bytes(const uint8_t *bytes, size_t count) {
+    size_t i;
+    for (i = 0; i < PLACES; i++)
+        if (out[i] != (i < count ? bytes[i] : FILL_BYTE))
+            return 0;
+    return 1;
+}
+
+/* an answer; the words that each store has, and the bytes that the output has */
+static void check(const char *what, uint64_t answer, uint64_t wanted, const uint32_t *first, size_t first_count, const uint32_t *second,
+                  size_t second_count, const uint8_t *bytes, size_t byte_count) {
+    expect(what,
+           answer == wanted && has_words(one, first, first_count) && has_words(two, second, second_count) && has_bytes(bytes, byte_count));
+    clear();
+}
+
+static void check_answer(const char *what, uint64_t answer, uint64_t wanted) { check(what, answer, wanted, NULL, 0, NULL, 0, NULL, 0); }
+
+static void check_store(const char *what, uint64_t answer, uint64_t wanted, const uint32_t *words, size_t count) {
+    check(what, answer, wanted, words, count, NULL, 0, NULL, 0);
+}
+
+static void check_out(const char *what, uint64_t answer, uint64_t wanted, const uint8_t *bytes, size_t count) {
+    check(what, answer, wanted, NULL, 0, NULL, 0, bytes, count);
+}
+
+#define MARKER 0xFF, 0xFF, 0xFF, 0xFF, 0xFF, 0xFF, 0xFF, 0xFF, 0xFF, 0xFF, 0xFF, 0xFF, 0xFF, 0xFF, 0xFF, 0xFF
+
+static void messages(void) {
+    static const uint8_t keepalive[] = {MARKER, 0, 19, 4};
+    /* a marker that starts with 0, so that the length is FF 1B: 65,307 */
+    static const uint8_t cut[] = {0, MARKER, 27, 2};
+    static const uint8_t short_claim[] = {MARKER, 0, 18, 9};
+    static const uint8_t two_of_them[] = {MARKER, 0, 19, 4, 0xFF};
+    static const uint8_t body[] = {7};
+    uint64_t answer;
+
+    check_answer("parse_bgp_message: a KEEPALIVE", doorbramble_parse_bgp_message(keepalive, 19), accepted(19, 19, 4));
+    check_answer("parse_bgp_message: bytes follow", doorbramble_parse_bgp_message(two_of_them, 20), accepted(19, 19, 4 + 1024));
+    check_answer("parse_bgp_message: 2", doorbramble_parse_bgp_message(keepalive, 18), refused(DOORBRAMBLE_TRUNCATED));
+    check_answer("parse_bgp_message: 2, of nothing", doorbramble_parse_bgp_message(NULL, 0), refused(DOORBRAMBLE_TRUNCATED));
+    check_answer("parse_bgp_message: 3", doorbramble_parse_bgp_message(short_claim, 19), refused(DOORBRAMBLE_MESSAGE_LENGTH));
+    answer = doorbramble_parse_bgp_message(cut, 19);
+    check_answer("parse_bgp_message: cut, another marker", answer, accepted(65307, 19, 2 + 256 + 512));
+    expect("the fields of a message", doorbramble_refusal(answer) == 0 && doorbramble_claimed(answer) == 65307 &&
+                                          doorbramble_taken(answer) == 19 && doorbramble_kind(answer) == DOORBRAMBLE_UPDATE &&
+                                          doorbramble_marker(answer) && doorbramble_cut(answer) && !doorbramble_trailing(answer));
+
+    check_answer("parse_bgp_message_strict: a KEEPALIVE", doorbramble_parse_bgp_message_strict(two_of_them, 20),
+                 accepted(19, 19, 4 + 1024));
+    check_answer("parse_bgp_message_strict: 6", doorbramble_parse_bgp_message_strict(cut, 19), refused(DOORBRAMBLE_BAD_MARKER));
+
+    check_out("encode_bgp_message: a KEEPALIVE", doorbramble_encode_bgp_message(DOORBRAMBLE_KEEPALIVE, NULL, 0, out, PLACES),
+              accepted(19, 0, 0), keepalive, 19);
+    check_answer("encode_bgp_message: 4", doorbramble_encode_bgp_message(6, NULL, 0, out, PLACES), refused(DOORBRAMBLE_MESSAGE_TYPE));
+    check_answer("encode_bgp_message: 3", doorbramble_encode_bgp_message(DOORBRAMBLE_KEEPALIVE, body, 1, out, PLACES),
+                 refused(DOORBRAMBLE_MESSAGE_LENGTH));
+    check_answer("encode_bgp_message: 11", doorbramble_encode_bgp_message(DOORBRAMBLE_KEEPALIVE, NULL, 0, out, 18),
+                 refused(DOORBRAMBLE_NO_ROOM));
+}
+
+static void updates(void) {
+    /* withdraws 10.0.0.0/8, has two bytes of attributes, announces 10.1.8.0/24 */
+    static const uint8_t body[] = {0, 2, 8, 10, 0, 2, 0xAA, 0xBB, 24, 10, 1, 8};
+    static const uint8_t malformed[] = {0, 1, 8, 0, 0, 33};
+    static const uint8_t attributes[] = {0xAA, 0xBB};
+    static const uint32_t ten[] = {8, 0, 0x0A000000, 0, 0, 0};
+    static const uint32_t ten_one[] = {24, 0, 0x0A010800, 0, 0, 0};
+    uint64_t answer;
+
+    check_answer("withdrawn_part", doorbramble_withdrawn_part(body, 12), accepted(2, 2, 0));
+    check_answer("withdrawn_part: 2", doorbramble_withdrawn_part(body, 3), refused(DOORBRAMBLE_TRUNCATED));
+    check_answer("attribute_part", doorbramble_attribute_part(body, 12), accepted(6, 2, 0));
+    check_answer("attribute_part: 2", doorbramble_attribute_part(body, 7), refused(DOORBRAMBLE_TRUNCATED));
+    answer = doorbramble_announced_part(body, 12);
+    check_answer("announced_part", answer, accepted(8, 4, 0));
+    expect("the fields of a part", doorbramble_offset(answer) == 8 && doorbramble_length(answer) == 4);
+    check_answer("announced_part: 2", doorbramble_announced_part(NULL, 0), refused(DOORBRAMBLE_TRUNCATED));
+
+    check_answer("count_bgp_update_message", doorbramble_count_bgp_update_message(body, 12, 0), accepted(1, 1, 0));
+    check_answer("count_bgp_update_message: 2", doorbramble_count_bgp_update_message(body, 1, 0), refused(DOORBRAMBLE_TRUNCATED));
+    answer = doorbramble_count_bgp_update_message(malformed, 6, 0);
+    check_answer("count_bgp_update_message: verdicts 8 and 8", answer, accepted(0, 0, 8 + 8 * 256));
+    answer = doorbramble_count_bgp_update_message(body, 9, 0);
+    check_answer("count_bgp_update_message: an announced section cut to a byte", answer, accepted(1, 0, 8 * 256));
+    expect("the fields of an UPDATE", doorbramble_withdrawn_rows(answer) == 1 && doorbramble_announced_rows(answer) == 0 &&
+                                          doorbramble_withdrawn_verdict(answer) == 0 &&
+                                          doorbramble_announced_verdict(answer) == DOORBRAMBLE_ONE_BYTE_SECTION);
+    check_answer("count_bgp_update_message: Add-Path", doorbramble_count_bgp_update_message(body, 12, DOORBRAMBLE_ADD_PATH),
+                 accepted(0, 0, 2 + 2 * 256));
+
+    check("parse_bgp_update_message", doorbramble_parse_bgp_update_message(body, 12, 0, one, PLACES, two, PLACES), accepted(1, 1, 0), ten,
+          6, ten_one, 6, NULL, 0);
+    check_answer("parse_bgp_update_message: 11", doorbramble_parse_bgp_update_message(body, 12, 0, one, 6, two, 5),
+                 refused(DOORBRAMBLE_NO_ROOM));
+    check_answer("parse_bgp_update_message: 2", doorbramble_parse_bgp_update_message(body, 7, 0, one, PLACES, two, PLACES),
+                 refused(DOORBRAMBLE_TRUNCATED));
+
+    check_out("encode_bgp_update_message", doorbramble_encode_bgp_update_message(ten, 6, attributes, 2, ten_one, 6, 0, out, PLACES),
+              accepted(12, 0, 0), body, 12);
+    check_answer("encode_bgp_update_message: 14", doorbramble_encode_bgp_update_message(ten, 6, attributes, 2, ten_one, 6, 1, out, PLACES),
+                 refused(DOORBRAMBLE_NOT_WRITABLE));
+    check_answer("encode_bgp_update_message: 11", doorbramble_encode_bgp_update_message(ten, 6, attributes, 2, ten_one, 6, 0, out, 11),
+                 refused(DOORBRAMBLE_NO_ROOM));
+    check_out("encode_bgp_update_message: of nothing", doorbramble_encode_bgp_update_message(NULL, 0, NULL, 0, NULL, 0, 0, out, PLACES),
+              accepted(4, 0, 0), (const uint8_t *)"\0\0\0", 4);
+}
+
+static void lists(void) {
+    static const uint8_t tagged[] = {0, 0, 0, 7, 8, 10};
+    static const uint8_t wide[] = {0x40, 0x20, 0x01, 0x0D, 0xB8, 0, 0, 0, 1};
+    static const uint8_t guess[] = {0, 0, 0, 0, 8, 10, 8, 11};
+    static const uint32_t seven[] = {8 + DOORBRAMBLE_ROW_HAS_ID, 7, 0x0A000000, 0, 0, 0};
+    static const uint32_t six[] = {64, 0, 0x20010DB8, 1, 0, 0};
+    static const uint32_t guessed[] = {8 + DOORBRAMBLE_ROW_HAS_ID, 0, 0x0A000000, 0, 0, 0, 8, 0, 0x0B000000, 0, 0, 0};
+    uint64_t answer;
+
+    answer = doorbramble_count_nlri_list(tagged, 6, 0, DOORBRAMBLE_ADD_PATH);
+    check_answer("count_nlri_list: Add-Path", answer, accepted(1, 0, 0));
+    expect("the field of a list", doorbramble_rows(answer) == 1);
+    check_answer("count_nlri_list: both settings are Add-Path", doorbramble_count_nlri_list(tagged, 6, 0, 3), accepted(1, 0, 0));
+    check_answer("count_nlri_list: 2 without Add-Path", doorbramble_count_nlri_list(tagged, 6, 0, 0), refused(DOORBRAMBLE_TRUNCATED));
+    check_answer("count_nlri_list: no other bit is read", doorbramble_count_nlri_list(tagged, 6, 0, 0xFC), refused(DOORBRAMBLE_TRUNCATED));
+    check_answer("count_nlri_list: 7 for IPv4", doorbramble_count_nlri_list(wide, 9, 0, 0), refused(DOORBRAMBLE_PREFIX_LENGTH));
+    check_answer("count_nlri_list: an empty list", doorbramble_count_nlri_list(NULL, 0, 0, 0), accepted(0, 0, 0));
+
+    check_store("parse_nlri_list: Add-Path", doorbramble_parse_nlri_list(tagged, 6, 0, DOORBRAMBLE_ADD_PATH, one, PLACES),
+                accepted(1, 0, 0), seven, 6);
+    check_store("parse_nlri_list: IPv6, by any flag", doorbramble_parse_nlri_list(wide, 9, 200, 0, one, 6), accepted(1, 0, 0), six, 6);
+    check_store("parse_nlri_list: the guess", doorbramble_parse_nlri_list(guess, 8, 0, DOORBRAMBLE_GUESS, one, PLACES), accepted(2, 0, 0),
+                guessed, 12);
+    check_answer("parse_nlri_list: 11", doorbramble_parse_nlri_list(guess, 8, 0, DOORBRAMBLE_GUESS, one, 11), refused(DOORBRAMBLE_NO_ROOM));
+    check_answer("parse_nlri_list: 11, no store", doorbramble_parse_nlri_list(wide, 9, 1, 0, NULL, 0), refused(DOORBRAMBLE_NO_ROOM));
+    check_answer("parse_nlri_list: 2 before 11", doorbramble_parse_nlri_list(wide, 8, 1, 0, NULL, 0), refused(DOORBRAMBLE_TRUNCATED));
+
+    answer = doorbramble_encode_nlri_prefixes(seven, 6, 0, 1, out, PLACES);
+    expect("the field of a writer", doorbramble_bytes(answer) == 6);
+    check_out("encode_nlri_prefixes", answer, accepted(6, 0, 0), tagged, 6);
+    check_out("encode_nlri_prefixes: IPv6", doorbramble_encode_nlri_prefixes(six, 6, 1, 0, out, 9), accepted(9, 0, 0), wide, 9);
+    check_answer("encode_nlri_prefixes: 14", doorbramble_encode_nlri_prefixes(seven, 6, 0, 0, out, PLACES),
+                 refused(DOORBRAMBLE_NOT_WRITABLE));
+    check_answer("encode_nlri_prefixes: 11", doorbramble_encode_nlri_prefixes(six, 6, 1, 0, out, 8), refused(DOORBRAMBLE_NO_ROOM));
+}
+
+static void paths(void) {
+    static const uint8_t value[] = {2, 2, 0, 0, 0xFD, 0xE9, 0, 0, 0xFD, 0xEA};
+    static const uint8_t type_five[] = {5, 0};
+    static const uint32_t pairs[] = {2, 2};
+    static const uint32_t numbers[] = {65001, 65002};
+    static const uint32_t wide[] = {65001, 65536};
+    static const uint32_t bad_type[] = {5, 2};
+    uint64_t answer;
+
+    answer = doorbramble_count_as_path(value, 10, 1);
+    check_answer("count_as_path", answer, accepted(1, 2, 0));
+    expect("the fields of a path", doorbramble_segments(answer) == 1 && doorbramble_numbers(answer) == 2);
+    check_answer("count_as_path: 9 at width 2", doorbramble_count_as_path(value, 10, 0), refused(DOORBRAMBLE_SEGMENT_TYPE));
+    check_answer("count_as_path: 2", doorbramble_count_as_path(value, 9, 1), refused(DOORBRAMBLE_TRUNCATED));
+
+    check("parse_as_path", doorbramble_parse_as_path(value, 10, 1, one, PLACES, two, PLACES), accepted(1, 2, 0), pairs, 2, numbers, 2, NULL,
+          0);
+    check_answer("parse_as_path: 11 for a pair", doorbramble_parse_as_path(value, 10, 1, one, 1, two, PLACES),
+                 refused(DOORBRAMBLE_NO_ROOM));
+    check_answer("parse_as_path: 11 for a number", doorbramble_parse_as_path(value, 10, 1, one, PLACES, two, 1),
+                 refused(DOORBRAMBLE_NO_ROOM));
+    check_answer("parse_as_path: 9", doorbramble_parse_as_path(type_five, 2, 1, one, PLACES, two, PLACES),
+                 refused(DOORBRAMBLE_SEGMENT_TYPE));
+
+    check_out("encode_as_path", doorbramble_encode_as_path(pairs, 2, numbers, 2, 1, out, PLACES), accepted(10, 0, 0), value, 10);
+    check_answer("encode_as_path: 14", doorbramble_encode_as_path(pairs, 2, numbers, 1, 1, out, PLACES), refused(DOORBRAMBLE_NOT_WRITABLE));
+    check_answer("encode_as_path: 9", doorbramble_encode_as_path(bad_type, 2, numbers, 2, 1, out, PLACES),
+                 refused(DOORBRAMBLE_SEGMENT_TYPE));
+    check_answer("encode_as_path: 13", doorbramble_encode_as_path(pairs, 2, wide, 2, 0, out, PLACES), refused(DOORBRAMBLE_WIDE_NUMBER));
+    check_answer("encode_as_path: 11", doorbramble_encode_as_path(pairs, 2, numbers, 2, 1, out, 9), refused(DOORBRAMBLE_NO_ROOM));
+}
+
+static void aggregators(void) {
+    static const uint8_t value[] = {0xFD, 0xE9, 10, 0, 0, 1};
+    static const uint8_t long_value[] = {0, 1, 0, 0, 10, 0, 0, 1};
+    static const uint32_t words[] = {65001, 0x0A000001};
+    uint64_t answer;
+
+    check_store("parse_aggregator", doorbramble_parse_aggregator(value, 6, 0, one, 2), accepted(2, 0, 0), words, 2);
+    answer = doorbramble_parse_aggregator(value, 6, 1, one, PLACES);
+    expect("the fields of an AGGREGATOR", doorbramble_words(answer) == 2 && doorbramble_differs(answer));
+    check_store("parse_aggregator: of another width", answer, accepted(2, 1, 0), words, 2);
+    check_answer("parse_aggregator: 11", doorbramble_parse_aggregator(value, 6, 0, one, 1), refused(DOORBRAMBLE_NO_ROOM));
+    check_answer("parse_aggregator: 10 before 11", doorbramble_parse_aggregator(long_value, 7, 0, NULL, 0),
+                 refused(DOORBRAMBLE_AGGREGATOR_LENGTH));
+
+    check_out("encode_aggregator", doorbramble_encode_aggregator(65001, 0x0A000001, 0, out, PLACES), accepted(6, 0, 0), value, 6);
+    check_out("encode_aggregator: of four bytes", doorbramble_encode_aggregator(65536, 0x0A000001, 1, out, 8), accepted(8, 0, 0),
+              long_value, 8);
+    check_answer("encode_aggregator: 13", doorbramble_encode_aggregator(65536, 0x0A000001, 0, out, PLACES),
+                 refused(DOORBRAMBLE_WIDE_NUMBER));
+    check_answer("encode_aggregator: 11", doorbramble_encode_aggregator(65001, 0x0A000001, 0, out, 5), refused(DOORBRAMBLE_NO_ROOM));
+}
+
+/* the limits of 65,535 and 65,516 bytes, and a segment of 256 numbers */
+static void limits(void) {
+    static uint8_t zeros[65536];
+    static uint32_t numbers[256];
+    static const uint32_t pair[] = {2, 256};
+
+    check_answer("count_nlri_list: 65,535 rows", doorbramble_count_nlri_list(zeros, 65535, 0, 0), accepted(65535, 0, 0));
+    check_answer("count_nlri_list: 1", doorbramble_count_nlri_list(zeros, 65536, 0, 0), refused(DOORBRAMBLE_TOO_LONG));
+    check_answer("announced_part: 65,512 bytes", doorbramble_announced_part(zeros, 65516), accepted(4, 65512, 0));
+    check_answer("announced_part: 1", doorbramble_announced_part(zeros, 65517), refused(DOORBRAMBLE_TOO_LONG));
+    check_answer("count_bgp_update_message: 1", doorbramble_count_bgp_update_message(zeros, 65517, 0), refused(DOORBRAMBLE_TOO_LONG));
+    check_answer("parse_aggregator: 1", doorbramble_parse_aggregator(zeros, 65536, 0, one, PLACES), refused(DOORBRAMBLE_TOO_LONG));
+    check_answer("count_as_path: 1", doorbramble_count_as_path(zeros, 65536, 0), refused(DOORBRAMBLE_TOO_LONG));
+    check_answer("encode_bgp_update_message: 1", doorbramble_encode_bgp_update_message(NULL, 0, zeros, 65513, NULL, 0, 0, out, PLACES),
+                 refused(DOORBRAMBLE_TOO_LONG));
+    check_answer("encode_as_path: 12", doorbramble_encode_as_path(pair, 2, numbers, 256, 1, out, PLACES),
+                 refused(DOORBRAMBLE_LONG_SEGMENT));
+}
+
+int main(void) {
+    clear();
+    messages();
+    updates();
+    lists();
+    paths();
+    aggregators();
+    limits();
+    printf("%u checks, %u failed\n", checks, failures);
+    return failures == 0 ? 0 : 1;
+}

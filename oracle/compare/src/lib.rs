@@ -1,0 +1,8 @@
+//! The inputs of the comparison, the programs that it runs, and its report.
+
+pub mod inputs;
+pub mod programs;
+pub mod report;
+pub mod rng;
+pub mod sample;
+pub mod stops;
