@@ -1,12 +1,7 @@
 use borrow.Author.Tests.{lt-ltb, le-ltb}
-use mathlib.Core.Path.{_≡_, sym, _∙_}
-use Rattle.messages.specs.Header.{headerSize, messageOf}
-use Prim.Native.Nat.{ℕ, _-_, _≤_, min}
-use mathlib.Core.Bool.{false}
-use native.Mathlib.Nat.{min-le-right}
-use native.Mathlib.Omega.{arith}
-use lib.Dec.{ltb}
-use lib.ListN.{length}
+use mathlib.Core.Path.{sym, _∙_}
+use Rattle.messages.specs.Header.{messageOf}
+use native.Mathlib.Nat.{le-min}
 use borrow.Author.Needs.{needs}
 use Rattle.messages.proofs.parse_bgp_message.Statement.{statement}
 use Rattle.messages.proofs.parse_bgp_message.Tie as tie
@@ -52,12 +47,13 @@ returns-4 c =
     rw (← b .before .u16-at .ensures)
     (simp (le-ltb _ _ (b .before .before .if1 .left), le-ltb _ _ (b .if2 .left), sym (u .before .unknown .ensures) ∙ u .if3 .left, sym (c .before .over-limit .ensures) ∙ c .if4 .taken))
 
-marked-requires : tie.Need-marked-requires
-marked-requires c κs = search needs
+sub-if5 : tie.Need-sub-if5
+sub-if5 c = search needs
 
--- what is taken is there, so that its body is
-body-there : (n m k : ℕ) → ltb (m - k) (min n m - k) ≡ false
-body-there n m k = let least : min n m ≤ m = min-le-right n m in le-ltb (m - k) (min n m - k) (omega arith)
+sub-if5-2 : tie.Need-sub-if5-2
+sub-if5-2 c =
+    let b = c .before .before .before .before .before .before in
+    rw (c .before .before .least .ensures) (le-min (b .if2 .left) (b .before .before .if1 .left))
 
 returns-5 : tie.Need-returns-5
 unfolding messageOf
@@ -65,9 +61,20 @@ returns-5 c =
     let l = c .before in
     let u = l .before .before .before in
     let b = u .before .before .before in
-    let s = b .before .before .before .before .args .s .now in
-    rw (← b .before .u16-at .ensures, ← c .marked .ensures, l .before .before .least .ensures)
-    (simp (le-ltb _ _ (b .before .before .if1 .left), le-ltb _ _ (b .if2 .left), sym (u .before .unknown .ensures) ∙ u .if3 .left, sym (l .before .over-limit .ensures) ∙ l .if4 .left, body-there (b .before .u16-at .result) (length s) headerSize))
+    rw (← b .before .u16-at .ensures, ← l .before .before .least .ensures)
+    (simp (le-ltb _ _ (b .before .before .if1 .left), le-ltb _ _ (b .if2 .left), sym (u .before .unknown .ensures) ∙ u .if3 .left, sym (l .before .over-limit .ensures) ∙ l .if4 .left, lt-ltb _ _ (c .if5 .taken)))
+
+marked-requires : tie.Need-marked-requires
+marked-requires c κs = search needs
+
+returns-6 : tie.Need-returns-6
+unfolding messageOf
+returns-6 c =
+    let l = c .before .before in
+    let u = l .before .before .before in
+    let b = u .before .before .before in
+    rw (← b .before .u16-at .ensures, ← l .before .before .least .ensures, ← c .marked .ensures)
+    (simp (le-ltb _ _ (b .before .before .if1 .left), le-ltb _ _ (b .if2 .left), sym (u .before .unknown .ensures) ∙ u .if3 .left, sym (l .before .over-limit .ensures) ∙ l .if4 .left, le-ltb _ _ (c .before .if5 .left)))
 
 pub parse-bgp-message-spec : {M : Type 1} → statement M
 parse-bgp-message-spec =
@@ -83,5 +90,8 @@ parse-bgp-message-spec =
     least-requires
     over-limit-requires
     returns-4
+    sub-if5
+    sub-if5-2
+    returns-5
     marked-requires
-    returns-5)
+    returns-6)
