@@ -101,7 +101,11 @@ half-cut s b i n at m h place few read cut e f =
     ∙ ap₂ (λ (x k : ℕ). x / 2 ^ (64 - 8 * k) * 2 ^ (64 - 8 * k)) (e ∙ ap (λ (j : ℕ). be (padded 8 (drop j s))) place ∙ ap (λ (t : List ℕ). be (padded 8 t)) (sym (drop-drop i b s))) few
     ∙ cut-at 8 i n (drop b s) (bytes-drop b s h)
 
--- ---- the address words of n octets, from words or halves that were cut
+-- ---- the address words of octets, from words that were read, and from words or halves that were cut
+
+pub address-parts : (o : List ℕ) (w0 w1 w2 w3 : ℕ) → w0 ≡ beAt o 0 4 → w1 ≡ beAt o 4 4 → w2 ≡ beAt o 8 4 → w3 ≡ beAt o 12 4 → w0 ∷ w1 ∷ w2 ∷ w3 ∷ [] ≡ address o
+unfolding wordAt
+address-parts o w0 w1 w2 w3 e f g h = cc
 
 pub address-short : (t : List ℕ) (n : ℕ) → Bytes t → n ≤ 4 → beAt t 0 4 / 2 ^ (32 - 8 * n) * 2 ^ (32 - 8 * n) ∷ 0 ∷ 0 ∷ 0 ∷ [] ≡ address (take n t)
 unfolding wordAt beAt

@@ -1,4 +1,9 @@
-use Rattle.routes.specs.Prefix.{wordAt}
+use mathlib.Core.Path.{ap, _∙_}
+use Prim.Native.Nat.{ℕ, _+_, _-_}
+use lib.ListN.{take, drop}
+use Rattle.wire.specs.Store.{laid}
+use Rattle.route_reader.specs.Words.{address}
+use Rattle.route_reader.specs.WordsLaws.{address-parts}
 use borrow.Author.Needs.{needs}
 use Rattle.route_reader.proofs.put_exact.Statement.{statement}
 use Rattle.route_reader.proofs.put_exact.Tie as tie
@@ -37,8 +42,12 @@ same-length : tie.Need-same-length
 same-length c = search needs
 
 returns : tie.Need-returns
-unfolding wordAt
-returns c = cc
+returns c =
+    let a = c .before .before .before .before .before .before .before .before .before .before .before .before .args in
+    let k = c .before .before .before .before .before .before .before .before .before .id-size in
+    c .before .before .put-words .ensures
+    ∙ ap (laid (a .store .now) (a .to)) (address-parts _ _ _ _ _ (c .before .before .before .before .before .before .u32-at .ensures) (c .before .before .before .before .before .u32-at2 .ensures) (c .before .before .before .before .u32-at3 .ensures) (c .before .before .before .u32-at4 .ensures))
+    ∙ ap (λ (j : ℕ). laid (a .store .now) (a .to) (address (take (a .e - (j + 1)) (drop (j + 1) (a .s .now))))) (k .ensures)
 
 pub put-exact-spec : {M : Type 1} → statement M
 put-exact-spec =
