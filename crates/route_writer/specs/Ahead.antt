@@ -4,7 +4,6 @@
 use Prim.Native.Nat.{ℕ, _+_, _≤_, _<_}
 use mathlib.Core.Path.{_≡_, refl, sym, ap, ap₂, _∙_, subst}
 use mathlib.Core.List.{List, [], _∷_, _++_, append-assoc, append-nil}
-use mathlib.Core.Bool.{true}
 use native.Mathlib.Nat.{add-zero, lt-of-not-le}
 use native.Mathlib.Decide.{decLe}
 use native.Mathlib.Omega.{arith}
@@ -16,10 +15,11 @@ use Rattle.wire.specs.Store.{laid, take-laid, length-laid, laid-laid, laid-befo
 use Rattle.wire.specs.Turn.{Filled, fill-start, fill-done, turn-end}
 use Rattle.wire.specs.Walk.{Reading, flat}
 use Rattle.families.specs.Family.{idSize, octets}
+use Rattle.families.specs.FamilyLaws.{id-small}
 use Rattle.families.specs.declared.Form.{Form}
 use Rattle.routes.specs.declared.Row.{Row}
-use Rattle.route_writer.specs.Encode.{fourWords, address, lengthOf, rowBytes, writable, frontRow, writeStep, writing, bytesOf}
-use Rattle.route_writer.specs.EncodeLaws.{Writable, is-writable, row-size, write-sound, fill-row, fill-next}
+use Rattle.route_writer.specs.Encode.{fourWords, address, lengthOf, rowBytes, frontRow, writeStep, writing, bytesOf}
+use Rattle.route_writer.specs.EncodeLaws.{Writable, is-writable, address-length, row-size, write-sound, fill-row, fill-next}
 
 -- the row of the six words at a place
 abbrev pub rowAt : List ℕ → ℕ → Row
@@ -73,6 +73,26 @@ words-laid d to a b c e room =
     ap (λ (l : List ℕ). laid (laid l (to + 8) (toBe 4 c)) (to + 12) (toBe 4 e)) (laid-laid d to (toBe 4 a) (toBe 4 b) (omega arith))
     ∙ ap (λ (l : List ℕ). laid l (to + 12) (toBe 4 e)) (laid-laid d to two (toBe 4 c) (omega arith))
     ∙ laid-laid d to three (toBe 4 e) (omega arith)
+
+-- a row put whole at the front of enough places has its bytes first
+pub row-front : (form : Form) (r : Row) (z b₁ b₂ : List ℕ) (k n : ℕ) → length z ≡ 21 → lengthOf form r ≤ 128 → k ≡ idSize form → n ≡ octets (lengthOf form r)
+    → b₁ ≡ laid z 0 (headBytes form r) → b₂ ≡ laid b₁ (k + 1) (address r) → (take (k + 1 + n) b₂ ≡ rowBytes form r) × (k + 1 + n ≡ length (rowBytes form r))
+row-front form r z b₁ b₂ k n long small ks ns e₁ e₂ =
+    let head : List ℕ = headBytes form r in
+    let words : List ℕ = address r in
+    let bytes : List ℕ = rowBytes form r in
+    let more : List ℕ = drop (octets (lengthOf form r)) words in
+    let seam : 0 + length head ≡ k + 1 = omega (arith, head-length form r) in
+    let size : k + 1 + n ≡ length bytes = ap₂ (λ (i j : ℕ). i + 1 + j) ks ns ∙ sym (row-size form r small) in
+    let front : k + 1 + n ≡ 0 + length bytes = omega arith in
+    let whole : head ++ words ≡ bytes ++ more = head-words form r words [] (sym (append-nil words)) (omega (arith, address-length r)) in
+    let all : length (head ++ words) ≤ 21 = omega (arith, length-append head words, head-length form r, address-length r, id-small form) in
+    let put : b₂ ≡ laid z 0 (bytes ++ more) =
+    e₂
+    ∙ ap₂ (λ (x : List ℕ) (j : ℕ). laid x j words) e₁ (sym seam)
+    ∙ laid-laid z 0 head words (omega (arith, length-append head words))
+    ∙ ap (laid z 0) whole in
+    (ap₂ take front put ∙ take-laid-front z 0 bytes more (omega (arith, ap length whole)), size)
 
 -- rows that can be written, with `total` bytes, which the output has room for
 pub record Fillable (rows : List ℕ) (max : ℕ) (form : Form) (out : List ℕ) (total : ℕ) : Type 0 where
@@ -145,34 +165,39 @@ module _ (max : ℕ) (form : Form) (rows d₀ : List ℕ) (at to : ℕ) (d : Lis
       ]
 
   module _ (lt : at < length rows) where
-    -- which can be written, and its bytes lie below the end
-    pub ahead-row : (6 ≤ length (drop at rows)) × (writable max form (frontRow (drop at rows)) ≡ true) × (to + length (rowBytes form (frontRow (drop at rows))) ≤ length (bytesOf rows max form))
+    next-filled : Filled (writeStep max form) (rowBytes form) tt rows d₀ tt (at + 6) (to + length (rowBytes form (rowAt rows at))) (laid (h .clean) to (rowBytes form (rowAt rows at)))
+    next-filled =
+        subst (λ (r : Row). Filled (writeStep max form) (rowBytes form) tt rows d₀ tt (at + 6) (to + length (rowBytes form r)) (laid (h .clean) to (rowBytes form r)))
+        (row-at rows at) (fill-next max form rows d₀ at to (h .clean) (h .filled) lt)
+
+    -- which is all there, can be written, and has its bytes below the end
+    pub ahead-row : (at + 6 ≤ length rows) × Writable max form (rowAt rows at) × (to + length (rowBytes form (rowAt rows at)) ≤ length (bytesOf rows max form))
     ahead-row =
-        let r = fill-row max form rows d₀ at to (h .clean) (h .filled) lt in
-        let next = fill-next max form rows d₀ at to (h .clean) (h .filled) lt in
-        (r .0, r .1, omega (arith, filled-sum max form rows d₀ (at + 6) _ _ next))
+        let r = fill-row max form rows d₀ at to (h .clean) (h .filled) lt in (
+          omega (arith, r .0, length-drop at rows),
+          subst (Writable max form) (row-at rows at) (is-writable max form (frontRow (drop at rows)) (r .1)),
+          omega (arith, filled-sum max form rows d₀ (at + 6) _ _ next-filled),
+        )
 
     -- its bytes, and more that lies below the end, are put
-    pub ahead-step : (more : List ℕ) → to + length (rowBytes form (frontRow (drop at rows)) ++ more) ≤ length (bytesOf rows max form)
-        → Ahead max form rows d₀ (at + 6) (to + length (rowBytes form (frontRow (drop at rows)))) (laid d to (rowBytes form (frontRow (drop at rows)) ++ more))
+    pub ahead-step : (more : List ℕ) → to + length (rowBytes form (rowAt rows at) ++ more) ≤ length (bytesOf rows max form)
+        → Ahead max form rows d₀ (at + 6) (to + length (rowBytes form (rowAt rows at))) (laid d to (rowBytes form (rowAt rows at) ++ more))
     ahead-step more fits =
-        let bytes : List ℕ = rowBytes form (frontRow (drop at rows)) in
+        let bytes : List ℕ = rowBytes form (rowAt rows at) in
         let there : to + length (bytes ++ more) ≤ length d = omega (arith, ahead-room) in
+        let same : to + length bytes ≤ length (h .clean) = omega (arith, ahead-row .2, ahead-room, h .long, h .filled .long) in
         record {
           clean = laid (h .clean) to bytes;
-          filled = fill-next max form rows d₀ at to (h .clean) (h .filled) lt;
+          filled = next-filled;
           long = length-laid d to (bytes ++ more) there ∙ h .long;
-          front =
-              take-laid-front d to bytes more there
-              ∙ ap (λ (l : List ℕ). l ++ bytes) (h .front)
-              ∙ sym (take-laid (h .clean) to bytes (fill-row max form rows d₀ at to (h .clean) (h .filled) lt .2));
+          front = take-laid-front d to bytes more there ∙ ap (λ (l : List ℕ). l ++ bytes) (h .front) ∙ sym (take-laid (h .clean) to bytes same);
           back = drop-laid-past d to (bytes ++ more) (length (bytesOf rows max form)) fits there ∙ h .back;
         }
 
     -- its bytes alone are put
-    pub ahead-next : Ahead max form rows d₀ (at + 6) (to + length (rowBytes form (frontRow (drop at rows)))) (laid d to (rowBytes form (frontRow (drop at rows))))
+    pub ahead-next : Ahead max form rows d₀ (at + 6) (to + length (rowBytes form (rowAt rows at))) (laid d to (rowBytes form (rowAt rows at)))
     ahead-next =
-        let bytes : List ℕ = rowBytes form (frontRow (drop at rows)) in
+        let bytes : List ℕ = rowBytes form (rowAt rows at) in
         let none : bytes ++ [] ≡ bytes = append-nil bytes in
         subst (λ (l : List ℕ). Ahead max form rows d₀ (at + 6) (to + length bytes) (laid d to l)) none (ahead-step [] (omega (arith, ap length none, ahead-row .2)))
 
@@ -195,31 +220,26 @@ module _ {max : ℕ} {form : Form} {rows d₀ : List ℕ} {total at to : ℕ} {d
 
   pub whole-room : (at + 6 ≤ length rows) × (to + (k + 1 + length words) ≤ length d)
   whole-room =
-      (omega (arith, ahead-row max form rows d₀ at to d (t .ahead) there .0, length-drop at rows), omega (arith, t .fits, t .fillable .size, ahead-room max form rows d₀ at to d (t .ahead)))
+      (ahead-row max form rows d₀ at to d (t .ahead) there .0, omega (arith, t .fits, t .fillable .size, ahead-room max form rows d₀ at to d (t .ahead)))
 
   pub whole-row : Writable max form (rowAt rows at)
-  whole-row = rw (← row-at rows at) (is-writable max form (frontRow (drop at rows)) (ahead-row max form rows d₀ at to d (t .ahead) there .1))
+  whole-row = ahead-row max form rows d₀ at to d (t .ahead) there .1
 
   -- the loop's head after they are put
   pub whole-turn : (l n : ℕ) (d₁ d₂ : List ℕ) → l ≡ lengthOf form (rowAt rows at) → n ≡ octets l → d₁ ≡ laid d to (headBytes form (rowAt rows at)) → d₂ ≡ laid d₁ (to + k + 1) words
       → Ahead max form rows d₀ (at + 6) (to + (k + 1 + n)) d₂
   whole-turn l n d₁ d₂ ls ns e₁ e₂ =
       let r : Row = rowAt rows at in
-      let front : Row = frontRow (drop at rows) in
       let head : List ℕ = headBytes form r in
       let rest : List ℕ = drop (octets (lengthOf form r)) words in
       let size : length head ≡ k + 1 = head-length form r ∙ ap (λ (j : ℕ). j + 1) (sym (t .id)) in
       let seam : to + length head ≡ to + k + 1 = omega arith in
-      let whole : head ++ words ≡ rowBytes form front ++ rest =
-      head-words form r words (t .tail) (t .split) (omega (arith, whole-row .fits, t .enough)) ∙ ap (λ (q : Row). rowBytes form q ++ rest) (sym (row-at rows at)) in
+      let whole : head ++ words ≡ rowBytes form r ++ rest = head-words form r words (t .tail) (t .split) (omega (arith, whole-row .fits, t .enough)) in
       let all : length (head ++ words) ≡ k + 1 + length words = length-append head words ∙ ap (λ (j : ℕ). j + length words) size in
-      let put : d₂ ≡ laid d to (rowBytes form front ++ rest) =
+      let put : d₂ ≡ laid d to (rowBytes form r ++ rest) =
       e₂
       ∙ ap₂ (λ (x : List ℕ) (j : ℕ). laid x j words) e₁ (sym seam)
       ∙ laid-laid d to head words (omega (arith, whole-room .1))
       ∙ ap (laid d to) whole in
-      let next : k + 1 + n ≡ length (rowBytes form front) =
-      sym (ap (λ (q : Row). length (rowBytes form q)) (row-at rows at)
-      ∙ row-size form r (omega (arith, whole-row .fits, t .small))
-      ∙ ap₂ (λ (i j : ℕ). i + 1 + j) (sym (t .id)) (sym (ns ∙ ap octets ls))) in
+      let next : k + 1 + n ≡ length (rowBytes form r) = ap₂ (λ (i j : ℕ). i + 1 + j) (t .id) (ns ∙ ap octets ls) ∙ sym (row-size form r (omega (arith, whole-row .fits, t .small))) in
       rw (next, put) (ahead-step max form rows d₀ at to d (t .ahead) there rest (omega (arith, ap length whole, t .fits, t .fillable .size)))

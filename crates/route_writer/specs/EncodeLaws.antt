@@ -2,30 +2,28 @@
 -- Assumes nothing.
 use Prim.Native.Nat.{ℕ, zero, suc, _+_, _-_, _*_, _/_, _%_, _^_, _≤_, _<_}
 use mathlib.Core.Path.{_≡_, refl, sym, ap, ap₂, _∙_}
-use mathlib.Core.List.{List, [], _∷_, _++_, append-nil, append-assoc}
+use mathlib.Core.List.{List, [], _∷_, _++_, append-assoc}
 use mathlib.Core.Bool.{Bool, true, false, _&&_}
-use native.Mathlib.Nat.{lt-of-not-le, mod-lt, not-suc-le-zero, zero-mul, suc-mul, sub-zero, suc-sub-suc, mod-eq-of-lt, add-sub-of-le, pow-succ', mul-mod-left}
-use native.Mathlib.Decide.{decLe}
+use native.Mathlib.Nat.{mod-lt, not-suc-le-zero, zero-mul, suc-mul, sub-zero, suc-sub-suc, mod-eq-of-lt, add-sub-of-le, pow-succ', mul-mod-left}
 use native.Mathlib.Omega.{arith}
 use borrow.Author.Tests.{le-leb, lt-leb, leb-true, eq-eqb, ne-eqb}
-use lib.ListN.{length, getD, take, drop, set, length-append, length-take, drop-of-length-le}
-use lib.Seq.{length-take-le, take-all, take-append-le}
+use lib.ListN.{length, getD, take, drop, length-append, drop-of-length-le}
+use lib.Seq.{length-take-le}
 use lib.Dec.{leb, eqb}
 use lib.Arith.{mod-mul, digits-mod}
 use lib.Pow.{pow-add, pow-pos, mod-pow-add, shl-shr}
 use Rattle.wire.specs.Choice.{pick}
 use Rattle.wire.specs.Number.{be, toBe}
 use Rattle.wire.specs.NumberLaws.{length-toBe, be-toBe, pow-pos256, toBe-append}
-use Rattle.wire.specs.Parts.{take-append, drop-append}
+use Rattle.wire.specs.Parts.{drop-append}
 use Rattle.wire.specs.Refusal.{notWritable}
-use Rattle.wire.specs.Store.{placed, placed-fits, placed-nil, length-placed, laid, laid-laid, length-laid, puts-laid}
+use Rattle.wire.specs.Store.{laid}
 use Rattle.wire.specs.Walk.{Step, took, stop}
 use Rattle.wire.specs.WalkLaws.{Sound}
 use Rattle.wire.specs.Turn.{Light, Filled, fill-takes, fill-fits, fill-step}
 use Rattle.families.specs.Family.{idSize, markOf, octets}
 use Rattle.families.specs.FamilyLaws.{id-small}
 use Rattle.families.specs.declared.Form.{Form}
-use Rattle.families.specs.declared.Form.the-variants.{Plain, Tagged}
 use Rattle.routes.specs.declared.Row.{Row}
 use Rattle.route_writer.specs.Encode.{fourWords, address, lengthOf, rowBytes, allZero, idFits, writable, frontRow, writeStep}
 
@@ -130,89 +128,6 @@ module _ (n x y : ℕ) where
   pub zero-none : n ≡ 16 → allZero (drop n (toBe 8 x ++ toBe 8 y)) ≡ true
   unfolding allZero
   zero-none e = zero-late (omega arith) ∙ ap (λ (k : ℕ). allZero (drop (k - 8) (toBe 8 y))) e
-
--- ---- octets of words, one word after another in a store
-
-joined : (d : List ℕ) (at : ℕ) (vs ws : List ℕ) → at + length vs + length ws ≤ length d → placed (placed d at vs) (at + length vs) ws ≡ laid d at (vs ++ ws)
-joined d at vs ws h =
-    let first : at + length vs ≤ length d = omega arith in
-    ap (λ (l : List ℕ). placed l (at + length vs) ws) (placed-fits d at vs first)
-    ∙ placed-fits (laid d at vs) (at + length vs) ws (omega (arith, length-laid d at vs first))
-    ∙ laid-laid d at vs ws h
-
--- the first n octets of a word, and then those of what follows that are left
-word-after : (d : List ℕ) (to n w : ℕ) (s : List ℕ) → (4 < n → to + n ≤ length d)
-    → placed (placed d to (take n (toBe 4 w))) (to + 4) (take (n - 4) s) ≡ placed d to (take n (toBe 4 w ++ s))
-word-after d to n w s h =
-    let parts : take n (toBe 4 w ++ s) ≡ take n (toBe 4 w) ++ take (n - 4) s = take-append n (toBe 4 w) s in
-    let d₁ : List ℕ = placed d to (take n (toBe 4 w)) in
-    elim (decLe n 4) [
-      | yes le ↦
-          let none : take (n - 4) s ≡ [] = let z : n - 4 ≡ 0 = omega arith in ap (λ (k : ℕ). take k s) z in
-          ap (placed d₁ (to + 4)) none ∙ placed-nil d₁ (to + 4)
-          ∙ ap (placed d to) (sym (parts ∙ ap (λ (l : List ℕ). take n (toBe 4 w) ++ l) none ∙ append-nil (take n (toBe 4 w))))
-      | no gt ↦
-          let all : take n (toBe 4 w) ≡ toBe 4 w = take-all n (toBe 4 w) (omega (arith, length-toBe 4 w, lt-of-not-le gt)) in
-          let four : length (toBe 4 w) ≡ 4 = length-toBe 4 w in
-          let some : length (take (n - 4) s) ≤ n - 4 = omega (arith, length-take (n - 4) s) in
-          let room : to + n ≤ length d = h (lt-of-not-le gt) in
-          let fits : to + length (toBe 4 w) + length (take (n - 4) s) ≤ length d = omega (arith, lt-of-not-le gt) in
-          ap₂ (λ (l : List ℕ) (k : ℕ). placed (placed d to l) (to + k) (take (n - 4) s)) all (sym four)
-          ∙ joined d to (toBe 4 w) (take (n - 4) s) fits
-          ∙ sym (placed-fits d to (toBe 4 w ++ take (n - 4) s) (omega (arith, length-append (toBe 4 w) (take (n - 4) s))))
-          ∙ ap (placed d to) (sym (parts ∙ ap (λ (l : List ℕ). l ++ take (n - 4) s) all))
-    ]
-
-module _ (d : List ℕ) (to n a b c e : ℕ) (h : to + n ≤ length d) where
-  fourWords-fits : to + length (take n (fourWords a b c e)) ≤ length d
-  fourWords-fits = omega (arith, length-take n (fourWords a b c e))
-
-  -- where they are in the first word
-  pub one-word : n ≤ 4 → placed d to (take n (toBe 4 a)) ≡ laid d to (take n (fourWords a b c e))
-  unfolding fourWords
-  one-word le =
-      ap (placed d to) (sym (take-append-le n (toBe 4 a) (toBe 4 b ++ (toBe 4 c ++ toBe 4 e)) (omega (arith, length-toBe 4 a))))
-      ∙ placed-fits d to (take n (fourWords a b c e)) fourWords-fits
-
-  pub four-words : placed (placed (placed (placed d to (take n (toBe 4 a))) (to + 4) (take (n - 4) (toBe 4 b))) (to + 8) (take (n - 8) (toBe 4 c))) (to + 12) (take (n - 12) (toBe 4 e))
-      ≡ laid d to (take n (fourWords a b c e))
-  unfolding fourWords
-  four-words =
-      let d₁ : List ℕ = placed d to (take n (toBe 4 a)) in
-      let d₂ : List ℕ = placed d₁ (to + 4) (take (n - 4) (toBe 4 b)) in
-      let l₁ : length d₁ ≡ length d = length-placed d to (take n (toBe 4 a)) in
-      let l₂ : length d₂ ≡ length d₁ = length-placed d₁ (to + 4) (take (n - 4) (toBe 4 b)) in
-      let t₂ : to + 4 + 4 ≡ to + 8 = omega arith in
-      let t₃ : to + 8 + 4 ≡ to + 12 = omega arith in
-      let n₂ : n - 4 - 4 ≡ n - 8 = omega arith in
-      let n₃ : n - 8 - 4 ≡ n - 12 = omega arith in
-      sym (ap₂ (λ (t k : ℕ). placed (placed d₂ (to + 8) (take (n - 8) (toBe 4 c))) t (take k (toBe 4 e))) t₃ n₃)
-      ∙ word-after d₂ (to + 8) (n - 8) c (toBe 4 e) (λ lt. omega arith)
-      ∙ sym (ap₂ (λ (t k : ℕ). placed d₂ t (take k (toBe 4 c ++ toBe 4 e))) t₂ n₂)
-      ∙ word-after d₁ (to + 4) (n - 4) b (toBe 4 c ++ toBe 4 e) (λ lt. omega arith)
-      ∙ word-after d to n a (toBe 4 b ++ (toBe 4 c ++ toBe 4 e)) (λ lt. h)
-      ∙ placed-fits d to (take n (fourWords a b c e)) fourWords-fits
-
--- a row's id, length byte and octets
-pub row-laid : (d : List ℕ) (to : ℕ) (p : List ℕ) (l : ℕ) (o : List ℕ) → to + length (p ++ (l ∷ o)) ≤ length d
-    → laid (set (placed d to p) (to + length p) l) (to + length p + 1) o ≡ laid d to (p ++ (l ∷ o))
-row-laid d to p l o h =
-    let one : List ℕ = l ∷ [] in
-    let len : length (p ++ (l ∷ o)) ≡ length p + suc (length o) = length-append p (l ∷ o) in
-    let seam : length (p ++ one) ≡ length p + 1 = length-append p one in
-    let at : to + length (p ++ one) ≡ to + length p + 1 = omega arith in
-    let fits : to + length p + length one ≤ length d = omega arith in
-    let put : set (placed d to p) (to + length p) l ≡ laid d to (p ++ one) =
-    puts-laid (placed d to p) (to + length p) one (omega (arith, length-placed d to p))
-    ∙ sym (placed-fits (placed d to p) (to + length p) one (omega (arith, length-placed d to p)))
-    ∙ joined d to p one fits in
-    ap₂ (λ (x : List ℕ) (k : ℕ). laid x k o) put (sym at)
-    ∙ laid-laid d to (p ++ one) o (omega arith)
-    ∙ ap (laid d to) (append-assoc p one o)
-
-pub id-bytes : (form : Form) (id : ℕ) → take (idSize form) (toBe 4 id) ≡ toBe (idSize form) id
-id-bytes Plain id = refl
-id-bytes Tagged id = refl
 
 -- ---- a row that can be written
 
@@ -332,23 +247,6 @@ module _ (ws : List ℕ) (max : ℕ) (form : Form) where
       → (markOf form ≤ getD ws 0 0) × (getD ws 0 0 - markOf form ≤ max) × (length (rowBytes form (frontRow ws)) ≡ idSize form + 1 + octets (getD ws 0 0 - markOf form))
   unfolding frontRow
   front-parts w small = (w .mark, w .fits, row-size form (frontRow ws) (omega (arith, w .fits)))
-
--- its bytes as code puts them: the id, the length byte, the octets
-pub front-laid : (d : List ℕ) (to k n l : ℕ) (ws : List ℕ) (form : Form) → k ≡ idSize form → l ≡ getD ws 0 0 - markOf form → n ≡ octets l
-    → to + length (rowBytes form (frontRow ws)) ≤ length d
-    → laid (set (placed d to (take k (toBe 4 (getD ws 1 0)))) (to + k) l) (to + k + 1) (take n (fourWords (getD ws 2 0) (getD ws 3 0) (getD ws 4 0) (getD ws 5 0)))
-    ≡ laid d to (rowBytes form (frontRow ws))
-unfolding rowBytes frontRow
-front-laid d to k n l ws form ks ls ns room =
-    let p : List ℕ = toBe (idSize form) (getD ws 1 0) in
-    let m : ℕ = getD ws 0 0 - markOf form in
-    let o : List ℕ = fourWords (getD ws 2 0) (getD ws 3 0) (getD ws 4 0) (getD ws 5 0) in
-    let ids : take k (toBe 4 (getD ws 1 0)) ≡ p = ap (λ (j : ℕ). take j (toBe 4 (getD ws 1 0))) ks ∙ id-bytes form (getD ws 1 0) in
-    let kp : k ≡ length p = ks ∙ sym (length-toBe (idSize form) (getD ws 1 0)) in
-    let nm : n ≡ octets m = ns ∙ ap octets ls in
-    ap₂ (λ (x : List ℕ) (j : ℕ). laid (set (placed d to x) (to + j) l) (to + j + 1) (take n o)) ids kp
-    ∙ ap₂ (λ (i j : ℕ). laid (set (placed d to p) (to + length p) i) (to + length p + 1) (take j o)) ls nm
-    ∙ row-laid d to p m (take (octets m) o) room
 
 -- ---- a turn of the loop that fills
 

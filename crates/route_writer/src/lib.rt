@@ -3,11 +3,11 @@ ghost use mathlib.Core.Path.{_≡_};
 ghost use mathlib.Core.Bool.{true};
 ghost use mathlib.Core.List.{_++_};
 ghost use Prim.Native.Nat.{_+_, _-_, _*_, _≤_, _<_};
-ghost use lib.ListN.{length, getD, take, drop};
+ghost use lib.ListN.{length, getD, drop};
 ghost use Rattle.wire.specs.Number.{toBe};
 ghost use Rattle.wire.specs.Store.{laid};
 ghost use Rattle.families.specs.Family.{maxOf, idSize, markOf, octets};
-ghost use Rattle.route_writer.specs.Encode.{fourWords, address, lengthOf, rowBytes, allZero, idFits, writable, frontRow, writeStep, bytesOf};
+ghost use Rattle.route_writer.specs.Encode.{fourWords, address, lengthOf, rowBytes, allZero, idFits, writeStep, bytesOf};
 ghost use Rattle.route_writer.specs.Ahead.{rowAt, headBytes, Fillable, Ahead};
 ghost use Rattle.route_writer.specs.Promises.{sizeBy, measured, writeAnswer, outAfter};
 ghost use Rattle.route_writer.specs.Pair.{pairSized, pairAnswer, pairAfter};
@@ -131,50 +131,12 @@ fn size_within(rows: &[u32], max: u8, form: Form) -> WriteAnswer
     WriteAnswer::Bytes(total)
 }
 
-// What is left of n after i.
-fn left(n: usize, i: usize) -> usize
-    ensures { λ r. ⌜ r ≡ n - i ⌝ }
+// The four bytes of a word of the store, at a place of the output.
+fn put_word(rows: &[u32], i: usize, out: &mut [u8], to: usize)
+    requires { ⌜ (i < length (now rows)) × (to + 4 ≤ length (now out)) ⌝ }
+    ensures { λ _. ⌜ now (out .exit) ≡ laid (now (out .entry)) to (toBe 4 (getD (now (rows .entry)) i 0)) ⌝ }
 {
-    if n <= i { 0 } else { n - i }
-}
-
-// The first n octets of four words, at a place of the output; where the maximum length is 32 at most they are in the first word.
-fn put_address(out: &mut [u8], to: usize, n: usize, max: u8, w0: u32, w1: u32, w2: u32, w3: u32)
-    requires { ⌜ (to + n ≤ length (now out)) × (n ≤ octets max) ⌝ }
-    ensures { λ _. ⌜ now (out .exit) ≡ laid (now (out .entry)) to (take n (fourWords w0 w1 w2 w3)) ⌝ }
-{
-    outputs::put_octets(out, to, w0, n);
-    if max <= 32 {
-        return;
-    }
-    outputs::put_octets(out, to + 4, w1, left(n, 4));
-    outputs::put_octets(out, to + 8, w2, left(n, 8));
-    outputs::put_octets(out, to + 12, w3, left(n, 12));
-}
-
-// The bytes of the row at the front, at a place of the output.
-fn put_row(ws: &[u32], max: u8, form: Form, out: &mut [u8], to: usize) -> usize
-    requires { ⌜ (max ≤ 128) × (6 ≤ length (now ws)) ⌝ }
-    requires { ⌜ writable max form (frontRow (now ws)) ≡ true ⌝ }
-    requires { ⌜ to + length (rowBytes form (frontRow (now ws))) ≤ length (now out) ⌝ }
-    ensures size { λ r. ⌜ r ≡ length (rowBytes form (frontRow (now (ws .entry)))) ⌝ }
-    ensures out { λ _. ⌜ now (out .exit) ≡ laid (now (out .entry)) to (rowBytes form (frontRow (now (ws .entry)))) ⌝ }
-{
-    let len = (ws[0] - families::mark_of(form)) as u8;
-    let n = families::octet_count(len);
-    let k = families::id_size(form);
-    outputs::put_octets(out, to, ws[1], k);
-    let at = to + k;
-    out[at] = len;
-    put_address(out, at + 1, n, max, ws[2], ws[3], ws[4], ws[5]);
-    k + 1 + n
-}
-
-// The four bytes of a word, at a place of the output.
-fn put_word(out: &mut [u8], to: usize, w: u32)
-    requires { ⌜ to + 4 ≤ length (now out) ⌝ }
-    ensures { λ _. ⌜ now (out .exit) ≡ laid (now (out .entry)) to (toBe 4 w) ⌝ }
-{
+    let w = rows[i];
     out[to] = (w / 16777216) as u8;
     out[to + 1] = (w / 65536 % 256) as u8;
     out[to + 2] = (w / 256 % 256) as u8;
@@ -187,21 +149,21 @@ fn put_words(rows: &[u32], at: usize, out: &mut [u8], to: usize)
     requires { ⌜ (at + 6 ≤ length (now rows)) × (to + 16 ≤ length (now out)) ⌝ }
     ensures { λ _. ⌜ now (out .exit) ≡ laid (now (out .entry)) to (address (rowAt (now (rows .entry)) at)) ⌝ }
 {
-    put_word(out, to, rows[at + 2]);
-    put_word(out, to + 4, rows[at + 3]);
-    put_word(out, to + 8, rows[at + 4]);
-    put_word(out, to + 12, rows[at + 5]);
+    put_word(rows, at + 2, out, to);
+    put_word(rows, at + 3, out, to + 4);
+    put_word(rows, at + 4, out, to + 8);
+    put_word(rows, at + 5, out, to + 12);
 }
 
-// The id where the form has one, at a place of the output.
-fn put_id(out: &mut [u8], to: usize, id: u32, form: Form)
-    requires { ⌜ to + idSize form ≤ length (now out) ⌝ }
-    ensures { λ _. ⌜ now (out .exit) ≡ laid (now (out .entry)) to (toBe (idSize form) id) ⌝ }
+// The id of the row at a place, where the form has one, at a place of the output.
+fn put_id(rows: &[u32], at: usize, form: Form, out: &mut [u8], to: usize)
+    requires { ⌜ (at + 6 ≤ length (now rows)) × (to + idSize form ≤ length (now out)) ⌝ }
+    ensures { λ _. ⌜ now (out .exit) ≡ laid (now (out .entry)) to (toBe (idSize form) (getD (now (rows .entry)) (at + 1) 0)) ⌝ }
 {
     match form {
         Form::Plain => {}
         Form::Tagged => {
-            put_word(out, to, id);
+            put_word(rows, at + 1, out, to);
         }
     }
 }
@@ -217,8 +179,24 @@ fn put_head(rows: &[u32], at: usize, form: Form, out: &mut [u8], to: usize) -> u
     let len = (rows[at] - families::mark_of(form)) as u8;
     let seam = to + families::id_size(form);
     out[seam] = len;
-    put_id(out, to, rows[at + 1], form);
+    put_id(rows, at, form, out, to);
     len
+}
+
+// The bytes of the row at a place, and no more, at a place of the output; how many.
+fn put_row(rows: &[u32], at: usize, form: Form, out: &mut [u8], to: usize) -> usize
+    requires { ⌜ (at + 6 ≤ length (now rows)) × (to + length (rowBytes form (rowAt (now rows) at)) ≤ length (now out)) ⌝ }
+    requires { ⌜ (markOf form ≤ getD (now rows) at 0) × (lengthOf form (rowAt (now rows) at) ≤ 128) ⌝ }
+    ensures size { λ r. ⌜ r ≡ length (rowBytes form (rowAt (now (rows .entry)) at)) ⌝ }
+    ensures out { λ _. ⌜ now (out .exit) ≡ laid (now (out .entry)) to (rowBytes form (rowAt (now (rows .entry)) at)) ⌝ }
+{
+    let mut whole = [0u8; 21];
+    let len = put_head(rows, at, form, &mut whole, 0);
+    let k = families::id_size(form);
+    put_words(rows, at, &mut whole, k + 1);
+    let size = k + 1 + families::octet_count(len);
+    outputs::copy_at(out, to, &whole[..size]);
+    size
 }
 
 // The next row, and the place of its bytes.
@@ -237,7 +215,7 @@ fn fill_short(rows: &[u32], form: Form, out: &mut [u8], total: usize) -> Reached
     let mut to: usize = 0;
     while to + (k + 5) <= total {
         let len = put_head(rows, at, form, out, to);
-        put_word(out, to + k + 1, rows[at + 2]);
+        put_word(rows, at + 2, out, to + k + 1);
         at = at + 6;
         to = to + (k + 1 + families::octet_count(len));
     }
@@ -278,11 +256,10 @@ fn fill(rows: &[u32], afi: Afi, form: Form, out: &mut [u8], total: usize)
     ensures { λ _. ⌜ now (out .exit) ≡ laid (now (out .entry)) 0 (bytesOf (now (rows .entry)) (maxOf afi) form) ⌝ }
 {
     let r = fill_ahead(rows, afi, form, out, total);
-    let max = families::max_len(afi);
     let mut at: usize = r.at;
     let mut to: usize = r.to;
     while at < rows.len() {
-        let n = put_row(&rows[at..], max, form, out, to);
+        let n = put_row(rows, at, form, out, to);
         at = at + 6;
         to = to + n;
     }

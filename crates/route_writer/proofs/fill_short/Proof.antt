@@ -63,7 +63,7 @@ put-head-requires c κs =
     ((whole-room t .0, omega (arith, whole-room t .1, t .id)), (whole-row t .mark, omega (arith, whole-row t .fits)))
 
 add-put-word : tie.Need-add-put-word Inv-loop μ-loop
-add-put-word c = omega (arith, whole-room (turn (c .before .before .before .before .before)))
+add-put-word c = omega (arith, whole-room (turn (c .before .before .before .before)))
 
 add-put-word-2 : tie.Need-add-put-word-2 Inv-loop μ-loop
 add-put-word-2 c = omega (arith, whole-room (turn (c .before .before .before .before .before)))
@@ -71,39 +71,33 @@ add-put-word-2 c = omega (arith, whole-room (turn (c .before .before .before .be
 add-put-word-3 : tie.Need-add-put-word-3 Inv-loop μ-loop
 add-put-word-3 c = omega (arith, whole-room (turn (c .before .before .before .before .before)))
 
-mul-put-word : tie.Need-mul-put-word Inv-loop μ-loop
-mul-put-word c = omega (arith, whole-room (turn (c .before .before .before .before .before)))
-
-shared-slice-read-put-word : tie.Need-shared-slice-read-put-word Inv-loop μ-loop
-shared-slice-read-put-word c = omega (arith, whole-room (turn (c .before .before .before .before .before .before)))
-
 put-word-requires : tie.Need-put-word-requires Inv-loop μ-loop
-put-word-requires c κs = omega (arith, whole-room (turn (c .before .before .before .before .before .before)))
+put-word-requires c κs = let r = whole-room (turn (c .before .before .before .before .before)) in (omega (arith, r .0), omega (arith, r .1))
 
 add-at : tie.Need-add-at Inv-loop μ-loop
-add-at c = omega (arith, whole-room (turn (c .before .before .before .before .before .before .before .before .before)))
+add-at c = omega (arith, whole-room (turn (c .before .before .before .before .before .before .before .before)))
 
 add-to : tie.Need-add-to Inv-loop μ-loop
-add-to c = omega (arith, room (c .before .before .before .before .before .before .before .before .before .before))
+add-to c = omega (arith, room (c .before .before .before .before .before .before .before .before .before))
 
 octet-count-requires : tie.Need-octet-count-requires Inv-loop μ-loop
 octet-count-requires c κs = search needs
 
 -- the row's octets are among the words
 within : (c : tie.After-octet-count Inv-loop μ-loop) → c .octet-count .result ≤ 4
-within c = omega (arith, c .octet-count .ensures, c .before .before .before .before .before .before .before .before .put-head .ensures .0, whole-row (turn (c .before .before .before .before .before .before .before .before .before .before)) .fits)
+within c = omega (arith, c .octet-count .ensures, c .before .before .before .before .before .before .before .put-head .ensures .0, whole-row (turn (c .before .before .before .before .before .before .before .before .before)) .fits)
 
 add-to-2 : tie.Need-add-to-2 Inv-loop μ-loop
-add-to-2 c = omega (arith, room (c .before .before .before .before .before .before .before .before .before .before .before), within c)
+add-to-2 c = omega (arith, room (c .before .before .before .before .before .before .before .before .before .before), within c)
 
 add-to-3 : tie.Need-add-to-3 Inv-loop μ-loop
-add-to-3 c = omega (arith, whole-room (turn (c .before .before .before .before .before .before .before .before .before .before)), within c)
+add-to-3 c = omega (arith, whole-room (turn (c .before .before .before .before .before .before .before .before .before)), within c)
 
 loop-less : tie.Need-loop-less Inv-loop μ-loop
-loop-less c = omega (arith, whole-room (turn (c .before .before .before .before .before .before .before .before .before .before)))
+loop-less c = omega (arith, whole-room (turn (c .before .before .before .before .before .before .before .before .before)))
 
 loop-again : tie.Need-loop-again Inv-loop μ-loop
-loop-again c = let h = c .before .before .before .before .before .before .before .before .put-head .ensures in whole-turn (turn (c .before .before .before .before .before .before .before .before .before .before)) _ _ _ _ (h .0) (c .octet-count .ensures) (h .1) (c .before .before .before .put-word .ensures)
+loop-again c = let h = c .before .before .before .before .before .before .before .put-head .ensures in whole-turn (turn (c .before .before .before .before .before .before .before .before .before)) _ _ _ _ (h .0) (c .octet-count .ensures) (h .1) (c .before .before .before .put-word .ensures)
 
 same-length : tie.Need-same-length Inv-loop μ-loop
 same-length c = c .before .loop .inv .long
@@ -125,8 +119,6 @@ fill-short-spec =
     add-put-word
     add-put-word-2
     add-put-word-3
-    mul-put-word
-    shared-slice-read-put-word
     put-word-requires
     add-at
     add-to

@@ -32,21 +32,12 @@ add-seam c = search needs
 slice-write-out : tie.Need-slice-write-out
 slice-write-out c = search needs
 
-add-put-id : tie.Need-add-put-id
-add-put-id c = search needs
-
-mul-put-id : tie.Need-mul-put-id
-mul-put-id c = search needs
-
-shared-slice-read-put-id : tie.Need-shared-slice-read-put-id
-shared-slice-read-put-id c = search needs
-
 put-id-requires : tie.Need-put-id-requires
-put-id-requires c κs = rw length-set (omega (arith, c .before .before .id-size .ensures))
+put-id-requires c κs = (omega arith, rw length-set (omega (arith, c .before .id-size .ensures)))
 
 returns : tie.Need-returns
 returns c =
-    let i = c .before .before .before .before .before in
+    let i = c .before .before .before .before in
     let m = i .before in
     let k = m .before .before .before .before in
     let a = k .args in
@@ -55,7 +46,7 @@ returns c =
 
 same-length : tie.Need-same-length
 same-length c =
-    let k = c .before .before .before .before .before .before .before .before .before .before in
+    let k = c .before .before .before .before .before .before .before .before .before in
     let a = k .args in
     ap length (returns c .1) ∙ length-laid (a .out .now) (a .to) (headBytes (a .form) (rowAt (a .rows .now) (a .at))) (omega (arith, head-length (a .form) (rowAt (a .rows .now) (a .at)), k .pre .0 .1))
 
@@ -71,9 +62,6 @@ put-head-spec =
     id-size-requires
     add-seam
     slice-write-out
-    add-put-id
-    mul-put-id
-    shared-slice-read-put-id
     put-id-requires
     same-length
     returns)

@@ -1,5 +1,7 @@
 use mathlib.Core.Path.{sym, ap, _∙_}
+use Prim.Native.Nat.{_+_}
 use native.Mathlib.Omega.{arith}
+use lib.ListN.{getD}
 use Rattle.wire.specs.Number.{toBe}
 use Rattle.wire.specs.Store.{laid, laid-nil}
 use Rattle.families.specs.Family.{idSize}
@@ -14,13 +16,16 @@ enum-told c = search needs
 enum-told-2 : tie.Need-enum-told-2
 enum-told-2 c = search needs
 
+add-put-word : tie.Need-add-put-word
+add-put-word c = search needs
+
 put-word-requires : tie.Need-put-word-requires
-put-word-requires c κs = omega (arith, ap idSize (c .before .enum-told2 .given .1))
+put-word-requires c κs = (omega arith, omega (arith, ap idSize (c .before .enum-told2 .given .1)))
 
 returns : tie.Need-returns
 returns c =
-    let a = c .before .before .before .args in
-    sym (ap (λ (f : Form). laid (a .out .now) (a .to) (toBe (idSize f) (a .id))) (c .enum-told .given .1) ∙ laid-nil (a .out .now) (a .to))
+    let a = c .before .before .before .before .args in
+    sym (ap (λ (f : Form). laid (a .out .now) (a .to) (toBe (idSize f) (getD (a .rows .now) (a .at + 1) 0))) (c .enum-told .given .1) ∙ laid-nil (a .out .now) (a .to))
 
 same-length : tie.Need-same-length
 same-length c = search needs
@@ -28,9 +33,10 @@ same-length c = search needs
 returns-2 : tie.Need-returns-2
 returns-2 c =
     let k = c .before .before .before .before in
-    let a = k .before .before .before .args in
-    c .before .before .put-word .ensures ∙ sym (ap (λ (f : Form). laid (a .out .now) (a .to) (toBe (idSize f) (a .id))) (k .enum-told2 .given .1))
+    let a = k .before .before .before .before .args in
+    c .before .before .put-word .ensures ∙ sym (ap (λ (f : Form). laid (a .out .now) (a .to) (toBe (idSize f) (getD (a .rows .now) (a .at + 1) 0))) (k .enum-told2 .given .1))
 
 pub put-id-spec : {M : Type 1} → statement M
 put-id-spec =
-    tie.close (tie.spec enum-told enum-told-2 put-word-requires returns same-length returns-2)
+    tie.close
+    (tie.spec enum-told enum-told-2 add-put-word put-word-requires returns same-length returns-2)

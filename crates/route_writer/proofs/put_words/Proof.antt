@@ -13,12 +13,6 @@ use Rattle.route_writer.proofs.put_words.Tie as tie
 add-put-word : tie.Need-add-put-word
 add-put-word c = search needs
 
-mul-put-word : tie.Need-mul-put-word
-mul-put-word c = search needs
-
-shared-slice-read-put-word : tie.Need-shared-slice-read-put-word
-shared-slice-read-put-word c = search needs
-
 put-word-requires : tie.Need-put-word-requires
 put-word-requires c κs = search needs
 
@@ -27,12 +21,6 @@ add-put-word-2 c = search needs
 
 add-put-word-3 : tie.Need-add-put-word-3
 add-put-word-3 c = search needs
-
-mul-put-word-2 : tie.Need-mul-put-word-2
-mul-put-word-2 c = search needs
-
-shared-slice-read-put-word-2 : tie.Need-shared-slice-read-put-word-2
-shared-slice-read-put-word-2 c = search needs
 
 put-word-requires-2 : tie.Need-put-word-requires-2
 put-word-requires-2 c κs = search needs
@@ -43,12 +31,6 @@ add-put-word-4 c = search needs
 add-put-word-5 : tie.Need-add-put-word-5
 add-put-word-5 c = search needs
 
-mul-put-word-3 : tie.Need-mul-put-word-3
-mul-put-word-3 c = search needs
-
-shared-slice-read-put-word-3 : tie.Need-shared-slice-read-put-word-3
-shared-slice-read-put-word-3 c = search needs
-
 put-word-requires-3 : tie.Need-put-word-requires-3
 put-word-requires-3 c κs = search needs
 
@@ -57,12 +39,6 @@ add-put-word-6 c = search needs
 
 add-put-word-7 : tie.Need-add-put-word-7
 add-put-word-7 c = search needs
-
-mul-put-word-4 : tie.Need-mul-put-word-4
-mul-put-word-4 c = search needs
-
-shared-slice-read-put-word-4 : tie.Need-shared-slice-read-put-word-4
-shared-slice-read-put-word-4 c = search needs
 
 put-word-requires-4 : tie.Need-put-word-requires-4
 put-word-requires-4 c κs = search needs
@@ -73,39 +49,31 @@ same-length c = search needs
 returns : tie.Need-returns
 returns c =
     let p4 = c .before .before in
-    let p3 = p4 .before .before .before .before .before in
-    let p2 = p3 .before .before .before .before .before in
-    let p1 = p2 .before .before .before .before .before in
-    let a = p1 .before .before .before .before .before .args in
-    let w : ℕ → List ℕ = λ i. toBe 4 (getD (a .rows .now) (a .at + i) 0) in
+    let p3 = p4 .before .before .before .before in
+    let p2 = p3 .before .before .before .before in
+    let p1 = p2 .before .before .before .before in
+    let a = p1 .before .before .before .before .args in
+    let w : ℕ → ℕ = λ i. getD (a .rows .now) (a .at + i) 0 in
     p4 .put-word4 .ensures
-    ∙ ap (λ (l : List ℕ). laid l (a .to + 12) (w 5)) (p3 .put-word3 .ensures
-    ∙ ap (λ (l : List ℕ). laid l (a .to + 8) (w 4)) (p2 .put-word2 .ensures
-    ∙ ap (λ (l : List ℕ). laid l (a .to + 4) (w 3)) (p1 .put-word .ensures)))
-    ∙ words-laid (a .out .now) (a .to) (getD (a .rows .now) (a .at + 2) 0) (getD (a .rows .now) (a .at + 3) 0) (getD (a .rows .now) (a .at + 4) 0) (getD (a .rows .now) (a .at + 5) 0) (omega arith)
+    ∙ ap (λ (l : List ℕ). laid l (a .to + 12) (toBe 4 (w 5))) (p3 .put-word3 .ensures
+    ∙ ap (λ (l : List ℕ). laid l (a .to + 8) (toBe 4 (w 4))) (p2 .put-word2 .ensures
+    ∙ ap (λ (l : List ℕ). laid l (a .to + 4) (toBe 4 (w 3))) (p1 .put-word .ensures)))
+    ∙ words-laid (a .out .now) (a .to) (w 2) (w 3) (w 4) (w 5) (omega arith)
 
 pub put-words-spec : {M : Type 1} → statement M
 put-words-spec =
     tie.close
     (tie.spec
     add-put-word
-    mul-put-word
-    shared-slice-read-put-word
     put-word-requires
     add-put-word-2
     add-put-word-3
-    mul-put-word-2
-    shared-slice-read-put-word-2
     put-word-requires-2
     add-put-word-4
     add-put-word-5
-    mul-put-word-3
-    shared-slice-read-put-word-3
     put-word-requires-3
     add-put-word-6
     add-put-word-7
-    mul-put-word-4
-    shared-slice-read-put-word-4
     put-word-requires-4
     same-length
     returns)
