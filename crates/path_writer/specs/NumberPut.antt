@@ -1,15 +1,12 @@
 -- The loops that look at the numbers of a segment and put them: what holds at the head of a turn, and what one number more gives.
 -- Assumes nothing.
-use Prim.Native.Nat.{ℕ, zero, suc, _+_, _-_, _/_, _^_, _≤_, _<_}
+use Prim.Native.Nat.{ℕ, zero, suc, _+_, _-_, _^_, _≤_, _<_}
 use mathlib.Core.Path.{_≡_, refl, sym, ap, subst, _∙_}
 use mathlib.Core.List.{List, _∷_, _++_}
-use mathlib.Core.Bool.{Bool, true, false}
+use mathlib.Core.Bool.{true}
 use native.Mathlib.Numerals.{sub-one}
 use native.Mathlib.Omega.{arith}
-use borrow.Author.Tests.{eq-eqb, ne-eqb}
 use lib.ListN.{length, drop, take, getD, length-append}
-use lib.Dec.{ltb, eqb}
-use Rattle.wire.specs.Choice.{pick, pick-leb, pick-eqb}
 use Rattle.wire.specs.NumberLaws.{length-toBe}
 use Rattle.wire.specs.Number.{toBe}
 use Rattle.wire.specs.Store.{laid, Laying, laying-start, laying-long, laying-room, laying-step, laying-done}
@@ -27,23 +24,6 @@ all-four ns h (suc n) at inside =
     let less : suc n - 1 ≡ n = sub-one (suc n) in
     ap (allFit 4) (take-next ns at (suc n) (omega arith) (omega arith) ∙ ap (λ (k : ℕ). getD ns at 0 ∷ take k (drop (at + 1) ns)) less)
     ∙ fit-cons 4 (getD ns at 0) (take n (drop (at + 1) ns)) (h at) (all-four ns h n (at + 1) (omega arith))
-
--- what a number has past two bytes, added to what those before it have
-over-more : (over v : ℕ) (x : Bool) → pick (eqb over 0) (pick (ltb v (256 ^ 2)) x false) false ≡ pick (eqb (over + v / 65536) 0) x false
-over-more over v x =
-    let P : Bool → Type 0 = λ t. t ≡ pick (eqb (over + v / 65536) 0) x false in
-    pick-eqb P over 0 _ false
-    (λ none. pick-leb P (suc v) (256 ^ 2) x false
-    (λ h. rw (eq-eqb (over + v / 65536) 0 (omega arith)) refl)
-    (λ h. rw (ne-eqb (over + v / 65536) 0 (λ e. omega arith)) refl))
-    (λ some. rw (ne-eqb (over + v / 65536) 0 (λ e. some (omega arith))) refl)
-
-pub over-next : (ns : List ℕ) (over at left : ℕ) → 0 < left → at + left ≤ length ns
-    → pick (eqb over 0) (allFit 2 (take left (drop at ns))) false ≡ pick (eqb (over + getD ns at 0 / 65536) 0) (allFit 2 (take (left - 1) (drop (at + 1) ns))) false
-unfolding allFit
-over-next ns over at left pos inside =
-    ap (λ (l : List ℕ). pick (eqb over 0) (allFit 2 l) false) (take-next ns at left pos (omega arith))
-    ∙ over-more over (getD ns at 0) (allFit 2 (take (left - 1) (drop (at + 1) ns)))
 
 -- ---- numbers put
 

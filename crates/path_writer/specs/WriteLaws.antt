@@ -107,6 +107,21 @@ pub fit-cons : (w : ℕ) (v : ℕ) (vs : List ℕ) → v < 256 ^ w → allFit w 
 unfolding allFit
 fit-cons w v vs h e = rw (lt-ltb v (256 ^ w) h) e
 
+-- and so each of some of them
+fit-drop : (w m : ℕ) (vs : List ℕ) → allFit w vs ≡ true → allFit w (drop m vs) ≡ true
+fit-drop w zero vs h = h
+fit-drop w (suc m) [] h = h
+fit-drop w (suc m) (v ∷ vs) h = fit-drop w m vs (fit-here w v vs h .1)
+
+fit-take : (w n : ℕ) (vs : List ℕ) → allFit w vs ≡ true → allFit w (take n vs) ≡ true
+unfolding allFit
+fit-take w zero vs h = refl
+fit-take w (suc n) [] h = refl
+fit-take w (suc n) (v ∷ vs) h = let f = fit-here w v vs h in fit-cons w v (take n vs) (f .0) (fit-take w n vs (f .1))
+
+pub fit-part : (w n m : ℕ) (vs : List ℕ) → allFit w vs ≡ true → allFit w (take n (drop m vs)) ≡ true
+fit-part w n m vs h = fit-take w n (drop m vs) (fit-drop w m vs h)
+
 -- ---- sizes
 
 pub bytes-length : (w : ℕ) (ns : List ℕ) → length (flat (toBe w) ns) ≡ span w (length ns)

@@ -10,7 +10,7 @@ ghost use Rattle.wire.specs.Store.{laid};
 ghost use Rattle.wire.specs.Walk.{flat};
 ghost use Rattle.asns.specs.Asn.{widthOf};
 ghost use Rattle.paths.specs.Segment.{knownType};
-ghost use Rattle.path_writer.specs.Write.{addsUp, allFit, mostNumbers, writeFault, lentPath};
+ghost use Rattle.path_writer.specs.Write.{addsUp, allFit, writeFault, lentPath};
 ghost use Rattle.path_writer.specs.Promises.{bytesOf, encodeAnswer, encodeLeft};
 use asns::AsnLength;
 use asns::WriteAnswer;
@@ -18,6 +18,9 @@ use wire::refusal;
 
 // The count byte's largest value.
 const MOST_NUMBERS: u32 = 255;
+
+// The largest number that two bytes hold.
+const MOST_NARROW: u32 = 65535;
 
 // Whether the pairs are whole, and their counts use up n numbers.
 fn adds_up(pairs: &[u32], n: usize) -> bool
@@ -39,27 +42,26 @@ fn adds_up(pairs: &[u32], n: usize) -> bool
     left == 0
 }
 
-// Whether two bytes hold each of n numbers from a place on: what they have past two bytes adds up to 0.
+// Whether two bytes hold each of n numbers from a place on.
 fn all_narrow(numbers: &[u32], from: usize, n: usize) -> bool
     requires { ⌜ from + n ≤ length (now numbers) ⌝ }
-    requires { ⌜ n ≤ mostNumbers ⌝ }
     ensures { λ r. ⌜ r ≡ allFit 2 (take n (drop from (now (numbers .entry)))) ⌝ }
 {
-    let mut over: u32 = 0;
     let mut at = from;
     let mut left = n;
     while 0 < left {
-        over = over + numbers[at] / 65536;
+        if MOST_NARROW < numbers[at] {
+            return false;
+        }
         at = at + 1;
         left = left - 1;
     }
-    over == 0
+    true
 }
 
 // Whether the width holds each of n numbers from a place on. Four bytes hold all.
 fn all_fit(numbers: &[u32], from: usize, n: usize, width: AsnLength) -> bool
     requires { ⌜ from + n ≤ length (now numbers) ⌝ }
-    requires { ⌜ n ≤ mostNumbers ⌝ }
     ensures { λ r. ⌜ r ≡ allFit (widthOf width) (take n (drop from (now (numbers .entry)))) ⌝ }
 {
     match width {
@@ -68,9 +70,17 @@ fn all_fit(numbers: &[u32], from: usize, n: usize, width: AsnLength) -> bool
     }
 }
 
-// What stands against writing a segment whose numbers start at a place, 0 where nothing does.
-fn segment_fault(kind: u32, count: u32, numbers: &[u32], from: usize, width: AsnLength) -> u8
+// What stands against writing a segment whose numbers start at a place, 0 where nothing does. Where all numbers are known to fit, its own do.
+fn segment_fault(
+    kind: u32,
+    count: u32,
+    numbers: &[u32],
+    from: usize,
+    width: AsnLength,
+    fit: bool,
+) -> u8
     requires { ⌜ from + count ≤ length (now numbers) ⌝ }
+    requires { ⌜ fit ≡ allFit (widthOf width) (now numbers) ⌝ }
     ensures { λ r. ⌜ r ≡ writeFault knownType (widthOf width) kind count (take count (drop from (now (numbers .entry)))) ⌝ }
 {
     let fault = paths::type_fault(kind);
@@ -80,6 +90,9 @@ fn segment_fault(kind: u32, count: u32, numbers: &[u32], from: usize, width: Asn
     if MOST_NUMBERS < count {
         return refusal::LONG_SEGMENT;
     }
+    if fit {
+        return 0;
+    }
     if !all_fit(numbers, from, count as usize, width) {
         return refusal::WIDE_NUMBER;
     }
@@ -87,15 +100,16 @@ fn segment_fault(kind: u32, count: u32, numbers: &[u32], from: usize, width: Asn
 }
 
 // The refusal of the first segment that cannot be written, 0 where there is none.
-fn path_fault(pairs: &[u32], numbers: &[u32], width: AsnLength) -> u8
+fn first_fault(pairs: &[u32], numbers: &[u32], width: AsnLength, fit: bool) -> u8
     requires { ⌜ addsUp (now pairs) (length (now numbers)) ≡ true ⌝ }
+    requires { ⌜ fit ≡ allFit (widthOf width) (now numbers) ⌝ }
     ensures { λ r. ⌜ r ≡ lentPath knownType (widthOf width) (now (pairs .entry)) (now (numbers .entry)) .verdict ⌝ }
 {
     let mut at: usize = 0;
     let mut from: usize = 0;
     while at < pairs.len() {
         let count = pairs[at + 1];
-        let fault = segment_fault(pairs[at], count, numbers, from, width);
+        let fault = segment_fault(pairs[at], count, numbers, from, width, fit);
         if fault != 0 {
             return fault;
         }
@@ -103,6 +117,19 @@ fn path_fault(pairs: &[u32], numbers: &[u32], width: AsnLength) -> u8
         at = at + 2;
     }
     0
+}
+
+// The same. The numbers are looked at all at once, and again in their segments only where one does not fit.
+fn path_fault(pairs: &[u32], numbers: &[u32], width: AsnLength) -> u8
+    requires { ⌜ addsUp (now pairs) (length (now numbers)) ≡ true ⌝ }
+    ensures { λ r. ⌜ r ≡ lentPath knownType (widthOf width) (now (pairs .entry)) (now (numbers .entry)) .verdict ⌝ }
+{
+    first_fault(
+        pairs,
+        numbers,
+        width,
+        all_fit(numbers, 0, numbers.len(), width),
+    )
 }
 
 // The type and the count of a segment at a place of the output.

@@ -19,7 +19,7 @@ returns c = rw (c .before .enum-told .given .1) (c .all-narrow .ensures)
 returns-2 : tie.Need-returns-2
 returns-2 c =
     let s = c .before .before .before in
-    rw (c .enum-told2 .given .1) (sym (all-four (s .args .numbers .now) (λ i. c .before .before .shared-slice-known .given i .fits) (s .args .n) (s .args .from) (s .pre .0)))
+    rw (c .enum-told2 .given .1) (sym (all-four (s .args .numbers .now) (λ i. c .before .before .shared-slice-known .given i .fits) (s .args .n) (s .args .from) (s .pre)))
 
 pub all-fit-spec : {M : Type 1} → statement M
 all-fit-spec = tie.close (tie.spec enum-told all-narrow-requires enum-told-2 returns returns-2)

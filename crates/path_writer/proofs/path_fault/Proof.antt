@@ -1,97 +1,21 @@
-use native.Mathlib.Omega.{arith}
-use Prim.Native.Nat.{_+_, _-_, _≤_}
-use mathlib.Core.Path.{sym, _∙_}
-use lib.ListN.{length, getD}
+use mathlib.Core.Path.{ap, _∙_}
+use lib.Seq.{take-length}
 use Rattle.asns.specs.Asn.{widthOf}
-use Rattle.paths.specs.Segment.{knownType}
-use Rattle.path_writer.specs.WriteTurn.{Judged, judged-start, judged-fits, judged-next, judged-stop, judged-done}
+use Rattle.path_writer.specs.Write.{allFit}
+use borrow.Author.Needs.{needs}
 use Rattle.path_writer.proofs.path_fault.Statement.{statement}
 use Rattle.path_writer.proofs.path_fault.Tie as tie
 
-abbrev Inv-loop : tie.InvT-loop
-Inv-loop pairs numbers width at₀ from₀ at from = Judged knownType (widthOf width) pairs numbers at from
+all-fit-requires : tie.Need-all-fit-requires
+all-fit-requires c κs = search needs
 
-abbrev μ-loop : tie.MeasureT-loop
-μ-loop pairs numbers width at₀ from₀ at from = length pairs - at
+first-fault-requires : tie.Need-first-fault-requires
+first-fault-requires c κs =
+    let g = c .before .before .before in
+    (g .pre, c .all-fit .ensures ∙ ap (allFit (widthOf (g .args .width))) (take-length (g .args .numbers .now)))
 
-loop-holds : tie.Need-loop-holds Inv-loop μ-loop
-loop-holds c = let a = c .before .before .args in judged-start knownType (widthOf (a .width)) (a .pairs .now) (a .numbers .now) (c .before .before .pre)
-
--- the pair at the turn's place is there, and so are its numbers
-fits : (k : tie.In-loop Inv-loop μ-loop) →
-    let l = k .before in
-    let a = l .before .before .before .args in
-    (l .loop .at + 2 ≤ length (a .pairs .now)) × (l .loop .from + getD (a .pairs .now) (l .loop .at + 1) 0 ≤ length (a .numbers .now))
-fits k =
-    let l = k .before in
-    let a = l .before .before .before .args in
-    judged-fits knownType (widthOf (a .width)) (a .pairs .now) (a .numbers .now) (l .loop .at) (l .loop .from) (l .loop .inv) (k .loop-test .taken)
-
-add-count : tie.Need-add-count Inv-loop μ-loop
-add-count c = omega (arith, fits c)
-
-mul-count : tie.Need-mul-count Inv-loop μ-loop
-mul-count c = omega (arith, fits c)
-
-shared-slice-read-count : tie.Need-shared-slice-read-count Inv-loop μ-loop
-shared-slice-read-count c = omega (arith, fits (c .before))
-
-mul-segment-fault : tie.Need-mul-segment-fault Inv-loop μ-loop
-mul-segment-fault c = omega (arith, fits (c .before))
-
-shared-slice-read-segment-fault : tie.Need-shared-slice-read-segment-fault Inv-loop μ-loop
-shared-slice-read-segment-fault c = omega (arith, fits (c .before .before))
-
-segment-fault-requires : tie.Need-segment-fault-requires Inv-loop μ-loop
-segment-fault-requires c κs = fits (c .before .before) .1
-
-returns : tie.Need-returns Inv-loop μ-loop
-returns c =
-    let l = c .before .before .before .before .before in
-    let a = l .before .before .before .args in
-    judged-stop knownType (widthOf (a .width)) (a .pairs .now) (a .numbers .now) (l .loop .at) (l .loop .from) (l .loop .inv) (c .before .before .before .before .loop-test .taken) _ (c .before .segment-fault .ensures) (omega (arith, c .if1 .taken))
-
-cast-from : tie.Need-cast-from Inv-loop μ-loop
-cast-from c = omega (arith, fits (c .before .before .before .before))
-
-add-from : tie.Need-add-from Inv-loop μ-loop
-add-from c = omega (arith, fits (c .before .before .before .before))
-
-add-at : tie.Need-add-at Inv-loop μ-loop
-add-at c = omega (arith, fits (c .before .before .before .before))
-
-loop-less : tie.Need-loop-less Inv-loop μ-loop
-loop-less c = omega (arith, fits (c .before .before .before .before))
-
-loop-again : tie.Need-loop-again Inv-loop μ-loop
-loop-again c =
-    let l = c .before .before .before .before .before in
-    let a = l .before .before .before .args in
-    judged-next knownType (widthOf (a .width)) (a .pairs .now) (a .numbers .now) (l .loop .at) (l .loop .from) (l .loop .inv) (c .before .before .before .before .loop-test .taken) (sym (c .if1 .left) ∙ c .before .segment-fault .ensures)
-
-returns-2 : tie.Need-returns-2 Inv-loop μ-loop
-returns-2 c =
-    let l = c .before in
-    let a = l .before .before .before .args in
-    judged-done knownType (widthOf (a .width)) (a .pairs .now) (a .numbers .now) (l .loop .at) (l .loop .from) (l .loop .inv) (c .loop-test .left)
+returns : tie.Need-returns
+returns c = search needs
 
 pub path-fault-spec : {M : Type 1} → statement M
-path-fault-spec =
-    tie.close
-    (tie.spec
-    Inv-loop
-    μ-loop
-    loop-holds
-    add-count
-    mul-count
-    shared-slice-read-count
-    mul-segment-fault
-    shared-slice-read-segment-fault
-    segment-fault-requires
-    returns
-    cast-from
-    add-from
-    add-at
-    loop-less
-    loop-again
-    returns-2)
+path-fault-spec = tie.close (tie.spec all-fit-requires first-fault-requires returns)
