@@ -43,7 +43,7 @@ add-at : tie.Need-add-at
 add-at c = omega (arith, fits c .low)
 
 cast-put-u16 : tie.Need-cast-put-u16
-cast-put-u16 c = omega (arith, fits (c .before) .low)
+cast-put-u16 c = omega (arith, fits (c .before) .whole)
 
 put-u16-requires : tie.Need-put-u16-requires
 put-u16-requires c κs = search needs
