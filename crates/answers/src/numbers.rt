@@ -3,7 +3,7 @@ use crate::store;
 use asns::AggregatorAnswer;
 use messages::MessageAnswer;
 use paths::PathAnswer;
-use route_writer::WriteAnswer;
+use route_sizes::WriteAnswer;
 use routes::ListAnswer;
 use routes::PrefixAnswer;
 use updates::PartsAnswer;

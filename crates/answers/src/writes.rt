@@ -4,7 +4,7 @@ use crate::numbers;
 use crate::request;
 use crate::request::Head;
 use crate::store;
-use route_writer::WriteAnswer;
+use route_sizes::WriteAnswer;
 
 // The answers of the other writers in the same form.
 fn of_asns(a: asns::WriteAnswer) -> WriteAnswer {

@@ -9,8 +9,8 @@ use Rattle.wire.specs.Refusal.{noRoom}
 use Rattle.wire.specs.Store.{placed}
 use Rattle.routes.specs.declared.ListAnswer.{ListAnswer}
 use Rattle.routes.specs.declared.ListAnswer.the-variants as L
-use Rattle.route_writer.specs.declared.WriteAnswer.{WriteAnswer}
-use Rattle.route_writer.specs.declared.WriteAnswer.the-variants as R
+use Rattle.route_sizes.specs.declared.WriteAnswer.{WriteAnswer}
+use Rattle.route_sizes.specs.declared.WriteAnswer.the-variants as R
 use Rattle.asns.specs.declared.AggregatorAnswer.{AggregatorAnswer}
 use Rattle.asns.specs.declared.AggregatorAnswer.the-variants as G
 use Rattle.asns.specs.declared.WriteAnswer as asns

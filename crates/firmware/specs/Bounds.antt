@@ -32,9 +32,10 @@ use Rattle.routes.specs.declared.ListAnswer.{ListAnswer}
 use Rattle.routes.specs.declared.ListAnswer.the-variants as L
 use Rattle.route_reader.specs.declared.PairAnswer.{PairAnswer}
 use Rattle.route_reader.specs.declared.PairAnswer.the-variants as Q
+use Rattle.route_sizes.specs.Promises as routeSizes
 use Rattle.route_writer.specs.Promises as routeWriter
-use Rattle.route_writer.specs.declared.WriteAnswer.{WriteAnswer}
-use Rattle.route_writer.specs.declared.WriteAnswer.the-variants as R
+use Rattle.route_sizes.specs.declared.WriteAnswer.{WriteAnswer}
+use Rattle.route_sizes.specs.declared.WriteAnswer.the-variants as R
 use Rattle.asns.specs.Asn.{widthOf, fitsWidth}
 use Rattle.asns.specs.Aggregator.{aggregatorBytes, aggregatorWritten}
 use Rattle.asns.specs.AggregatorLaws.{bytes-length}
@@ -287,7 +288,7 @@ aggregator-narrow (G.Refused n) places = refused-narrow n
 
 pub write-list-narrow : (ws : List ℕ) (max : ℕ) (form : Form) (places : ℕ) → Narrow (routesWritten (routeWriter.writeAnswer ws max form places))
 unfolding routeWriter.writeAnswer
-write-list-narrow ws max form places = by (routeWriter.measured ws max form)
+write-list-narrow ws max form places = by (routeSizes.measured ws max form)
   where
     by : (a : WriteAnswer) → Narrow (routesWritten (routeWriter.roomed a places))
     by (R.Bytes n) =
@@ -300,8 +301,8 @@ write-list-narrow ws max form places = by (routeWriter.measured ws max form)
 pub write-update-narrow : (withdrawn attributes announced : List ℕ) (form : Form) (places : ℕ) → Narrow (routesWritten (bodyAnswer withdrawn attributes announced form places))
 unfolding bodyAnswer sized
 write-update-narrow withdrawn attributes announced form places =
-    if-written (routeWriter.measured withdrawn (maxOf Ipv4) form) _ (λ w.
-    if-written (routeWriter.measured announced (maxOf Ipv4) form) _ (λ a.
+    if-written (routeSizes.measured withdrawn (maxOf Ipv4) form) _ (λ w.
+    if-written (routeSizes.measured announced (maxOf Ipv4) form) _ (λ a.
     by-size w a))
   where
     if-written : (a : WriteAnswer) (next : ℕ → WriteAnswer) → ((n : ℕ) → Narrow (routesWritten (next n))) → Narrow (routesWritten (ifWritable a next))

@@ -179,13 +179,13 @@ fn path_word(a: PathAnswer) -> u64
 }
 
 // What a writer wrote as a word: the bytes. Each writer below has an answer of its own.
-fn routes_written(a: route_writer::WriteAnswer) -> u64
+fn routes_written(a: route_sizes::WriteAnswer) -> u64
     requires { ⌜ Narrow (routesWritten a) ⌝ }
     ensures { λ r. ⌜ r ≡ wordOf (routesWritten a) ⌝ }
 {
     match a {
-        route_writer::WriteAnswer::Bytes(n) => word(n as u16, 0, 0, 0),
-        route_writer::WriteAnswer::Refused(n) => word(0, 0, 0, n),
+        route_sizes::WriteAnswer::Bytes(n) => word(n as u16, 0, 0, 0),
+        route_sizes::WriteAnswer::Refused(n) => word(0, 0, 0, n),
     }
 }
 

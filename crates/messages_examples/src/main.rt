@@ -165,13 +165,13 @@ fn show_body(name: &[u8], withdrawn: &[u32], attributes: &[u8], announced: &[u32
         Form::Plain,
         &mut out,
     ) {
-        route_writer::WriteAnswer::Bytes(n) => {
+        route_sizes::WriteAnswer::Bytes(n) => {
             text(b"\n  wrote   ");
             number(n);
             text(b"\n ");
             bytes(wire::part(&out, 0, n));
         }
-        route_writer::WriteAnswer::Refused(n) => refused(n),
+        route_sizes::WriteAnswer::Refused(n) => refused(n),
     }
 }
 

@@ -2,7 +2,7 @@
 use families::AddPath;
 use families::Afi;
 use families::Form;
-use route_writer::WriteAnswer;
+use route_sizes::WriteAnswer;
 use routes::ListAnswer;
 use routes::PrefixAnswer;
 use routes::Row;

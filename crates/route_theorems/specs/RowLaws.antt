@@ -19,8 +19,8 @@ use Rattle.routes.specs.Prefix.{wordAt, rowOf, itemRow, words}
 use Rattle.families.specs.declared.Form.{Form}
 use Rattle.families.specs.declared.Form.the-variants.{Plain, Tagged}
 use Rattle.routes.specs.declared.Row.{Row}
-use Rattle.route_writer.specs.Encode.{fourWords, address, lengthOf, rowBytes, allZero, idFits, frontRow, writeStep}
-use Rattle.route_writer.specs.EncodeLaws.{Writable, and-true, address-length, write-took, took-write, write-sound}
+use Rattle.route_sizes.specs.Encode.{fourWords, address, lengthOf, rowBytes, allZero, idFits, frontRow, writeStep}
+use Rattle.route_sizes.specs.EncodeLaws.{Writable, and-true, address-length, write-took, took-write, write-sound}
 use Rattle.route_theorems.specs.Cutting.{WellFormed, AllFormed, none, one, joined, Words}
 
 -- ---- octets that are 0

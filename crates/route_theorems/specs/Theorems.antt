@@ -22,10 +22,12 @@ use Rattle.families.specs.declared.Form.the-variants.{Plain}
 use Rattle.families.specs.declared.AddPath.the-variants.{Off, Guess}
 use Rattle.routes.specs.declared.ListAnswer.the-variants.{Rows}
 use Rattle.routes.specs.declared.Row.{Row}
-use Rattle.route_writer.specs.Encode.{rowBytes, writing, bytesOf}
-use Rattle.route_writer.specs.Promises.{measured, writeAnswer, outAfter}
-use Rattle.route_writer.specs.PromiseLaws.{measured-good, measured-bytes, leave-bytes}
-use Rattle.route_writer.specs.declared.WriteAnswer.the-variants as W
+use Rattle.route_sizes.specs.Encode.{rowBytes, writing, bytesOf}
+use Rattle.route_sizes.specs.Promises.{measured}
+use Rattle.route_sizes.specs.PromiseLaws.{measured-good, measured-bytes}
+use Rattle.route_sizes.specs.declared.WriteAnswer.the-variants as W
+use Rattle.route_writer.specs.Promises.{writeAnswer, outAfter}
+use Rattle.route_writer.specs.PromiseLaws.{leave-bytes}
 use Rattle.route_theorems.specs.Cutting.{Cutting, NoZero, Words}
 use Rattle.route_theorems.specs.CuttingLaws.{cut-read, cut-pieces, read-cut, cut-not-strange, guess-same}
 use Rattle.route_theorems.specs.RowLaws.{rows-write, items-rows, rows-items, store-rows}

@@ -12,14 +12,32 @@ use lib.Seq.{getD-drop, length-take-le, take-append-le}
 use Rattle.wire.specs.Number.{toBe}
 use Rattle.wire.specs.NumberLaws.{length-toBe}
 use Rattle.wire.specs.Store.{laid, take-laid, length-laid, laid-laid, laid-before, take-laid-front, drop-laid-past, puts-laid}
-use Rattle.wire.specs.Turn.{Filled, fill-start, fill-done, turn-end}
-use Rattle.wire.specs.Walk.{Reading, flat}
+use Rattle.wire.specs.Turn.{Filled, fill-start, fill-takes, fill-fits, fill-step, fill-done, turn-end}
+use Rattle.wire.specs.Walk.{Reading, took, flat}
 use Rattle.families.specs.Family.{idSize, octets}
 use Rattle.families.specs.FamilyLaws.{id-small}
 use Rattle.families.specs.declared.Form.{Form}
 use Rattle.routes.specs.declared.Row.{Row}
-use Rattle.route_writer.specs.Encode.{fourWords, address, lengthOf, rowBytes, frontRow, writeStep, writing, bytesOf}
-use Rattle.route_writer.specs.EncodeLaws.{Writable, is-writable, address-length, row-size, write-sound, fill-row, fill-next}
+use Rattle.route_sizes.specs.Encode.{fourWords, address, lengthOf, rowBytes, frontRow, writeStep, writing, bytesOf}
+use Rattle.route_sizes.specs.EncodeLaws.{Writable, address-length, row-size, write-took, took-write, write-sound}
+
+-- a turn of a loop that fills
+module _ (max : ℕ) (form : Form) (rows d₀ : List ℕ) (at to : ℕ) (d : List ℕ) (h : Filled (writeStep max form) (rowBytes form) tt rows d₀ tt at to d) (lt : at < length rows) where
+  fill-took : (writeStep max form tt (drop at rows) ≡ took 6 (frontRow (drop at rows)) tt) × (6 ≤ length (drop at rows)) × Writable max form (frontRow (drop at rows))
+  fill-took =
+      let t = fill-takes (writeStep max form) (write-sound max form) (rowBytes form) tt rows d₀ tt at to d h lt in
+      let w = write-took max form tt (t .2) (drop at rows) (t .0) (t .1) (t .3) in
+      (took-write max form tt (drop at rows) (w .there) (w .good), w .there, w .good)
+
+  -- the row there can be written and has room
+  fill-row : (6 ≤ length (drop at rows)) × Writable max form (frontRow (drop at rows)) × (to + length (rowBytes form (frontRow (drop at rows))) ≤ length d)
+  fill-row =
+      let t = fill-took in
+      (t .1, t .2, fill-fits (writeStep max form) (write-sound max form) (rowBytes form) tt rows d₀ tt at to d h tt 6 (frontRow (drop at rows)) (t .0) .2)
+
+  -- and after its bytes the loop's head is reached again
+  fill-next : Filled (writeStep max form) (rowBytes form) tt rows d₀ tt (at + 6) (to + length (rowBytes form (frontRow (drop at rows)))) (laid d to (rowBytes form (frontRow (drop at rows))))
+  fill-next = fill-step (writeStep max form) (write-sound max form) (rowBytes form) tt rows d₀ tt at to d h tt 6 (frontRow (drop at rows)) (fill-took .0)
 
 -- the row of the six words at a place
 abbrev pub rowAt : List ℕ → ℕ → Row
@@ -175,7 +193,7 @@ module _ (max : ℕ) (form : Form) (rows d₀ : List ℕ) (at to : ℕ) (d : Lis
     ahead-row =
         let r = fill-row max form rows d₀ at to (h .clean) (h .filled) lt in (
           omega (arith, r .0, length-drop at rows),
-          subst (Writable max form) (row-at rows at) (is-writable max form (frontRow (drop at rows)) (r .1)),
+          subst (Writable max form) (row-at rows at) (r .1),
           omega (arith, filled-sum max form rows d₀ (at + 6) _ _ next-filled),
         )
 

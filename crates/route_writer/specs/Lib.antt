@@ -1,5 +1,3 @@
-pub mod Encode
-pub mod EncodeLaws
 pub mod Ahead
 pub mod Promises
 pub mod PromiseLaws

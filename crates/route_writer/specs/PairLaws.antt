@@ -10,10 +10,10 @@ use lib.Dec.{ltb}
 use Rattle.wire.specs.Choice.{pick, pick-any, pick-unless}
 use Rattle.wire.specs.Refusal.{tooLong, noRoom, listLimit}
 use Rattle.families.specs.declared.Form.{Form}
-use Rattle.route_writer.specs.Promises.{measured}
+use Rattle.route_sizes.specs.Promises.{measured}
 use Rattle.route_writer.specs.Pair.{pairEnd, pairSized, ifBoth, pairAnswer}
-use Rattle.route_writer.specs.declared.WriteAnswer.{WriteAnswer}
-use Rattle.route_writer.specs.declared.WriteAnswer.the-variants as W
+use Rattle.route_sizes.specs.declared.WriteAnswer.{WriteAnswer}
+use Rattle.route_sizes.specs.declared.WriteAnswer.the-variants as W
 use Rattle.route_writer.specs.declared.ListsAnswer.{ListsAnswer}
 use Rattle.route_writer.specs.declared.ListsAnswer.the-variants.{Lists, Refused}
 

@@ -1,31 +1,16 @@
--- What the calls of the writer answer and leave, from the store of rows and from the writing of it that `Encode` defines.
-use Prim.Native.Nat.{ℕ, zero, suc}
+-- What the calls that write answer and leave, from what measuring answers and the bytes that `Encode` of route_sizes defines.
+use Prim.Native.Nat.{ℕ}
 use mathlib.Core.List.{List}
 use lib.ListN.{length}
 use lib.Dec.{leb}
 use Rattle.wire.specs.Choice.{pick}
 use Rattle.wire.specs.Refusal.{tooLong, noRoom, listLimit}
 use Rattle.wire.specs.Store.{laid}
-use Rattle.wire.specs.Walk.{Step, took, stop}
 use Rattle.families.specs.declared.Form.{Form}
-use Rattle.routes.specs.declared.Row.{Row}
-use Rattle.route_writer.specs.Encode.{rowBytes, writing, bytesOf}
-use Rattle.route_writer.specs.declared.WriteAnswer.{WriteAnswer}
-use Rattle.route_writer.specs.declared.WriteAnswer.the-variants.{Bytes, Refused}
-
--- one row: its bytes, or why it is refused
-abbrev pub sizeBy : Form → Step (Unit {0}) Row → WriteAnswer
-sizeBy form (took used row st) = Bytes (length (rowBytes form row))
-sizeBy form (stop n) = Refused n
-
--- the bytes where the verdict is 0, and else the verdict
-abbrev pub answerBy : ℕ → ℕ → WriteAnswer
-answerBy zero size = Bytes size
-answerBy (suc n) size = Refused (suc n)
-
--- measuring: 14 row by row
-unfoldable pub measured : List ℕ → ℕ → Form → WriteAnswer
-measured ws max form = answerBy (writing ws max form .verdict) (length (bytesOf ws max form))
+use Rattle.route_sizes.specs.Encode.{bytesOf}
+use Rattle.route_sizes.specs.Promises.{measured}
+use Rattle.route_sizes.specs.declared.WriteAnswer.{WriteAnswer}
+use Rattle.route_sizes.specs.declared.WriteAnswer.the-variants.{Bytes, Refused}
 
 -- writing into an output of so many places: 1 after 14, and 11 last
 abbrev pub roomed : WriteAnswer → ℕ → WriteAnswer

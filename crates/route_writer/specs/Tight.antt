@@ -5,16 +5,12 @@ use mathlib.Core.Path.{_≡_, sym, ap, _∙_}
 use mathlib.Core.List.{List}
 use lib.ListN.{length}
 use Rattle.families.specs.declared.Form.{Form}
-use Rattle.route_writer.specs.Promises.{measured, writeAnswer, outAfter}
+use Rattle.route_writer.specs.Promises.{writeAnswer, outAfter}
 use Rattle.route_writer.specs.Pair.{pairAnswer, pairAfter}
-use Rattle.route_writer.specs.declared.WriteAnswer.{WriteAnswer}
+use Rattle.route_sizes.specs.declared.WriteAnswer.{WriteAnswer}
 use Rattle.route_writer.specs.declared.ListsAnswer.{ListsAnswer}
 
 module _ (ws : List ℕ) (max : ℕ) (form : Form) where
-  -- measure_nlri_prefixes
-  pub tight-measure : (a b : WriteAnswer) → a ≡ measured ws max form → b ≡ measured ws max form → a ≡ b
-  tight-measure a b e f = e ∙ sym f
-
   -- encode_nlri_prefixes: the answer, and every place of the output
   pub tight-write : (out : List ℕ) (a b : WriteAnswer) (c d : List ℕ)
       → (a ≡ writeAnswer ws max form (length out)) × (c ≡ outAfter ws max form out)

@@ -1,134 +1,25 @@
 // The route list writer (RFC 4271 section 4.3, RFC 7911 section 3): rows of six words as the bytes of a list, the writing of encode_nlri_prefixes in utils.rs.
 ghost use mathlib.Core.Path.{_≡_};
-ghost use mathlib.Core.Bool.{true};
-ghost use mathlib.Core.List.{_++_};
-ghost use Prim.Native.Nat.{_+_, _-_, _*_, _≤_, _<_};
-ghost use lib.ListN.{length, getD, drop};
+ghost use Prim.Native.Nat.{_+_, _≤_, _<_};
+ghost use lib.ListN.{length, getD};
 ghost use Rattle.wire.specs.Number.{toBe};
 ghost use Rattle.wire.specs.Store.{laid};
-ghost use Rattle.families.specs.Family.{maxOf, idSize, markOf, octets};
-ghost use Rattle.route_writer.specs.Encode.{fourWords, address, lengthOf, rowBytes, allZero, idFits, writeStep, bytesOf};
+ghost use Rattle.families.specs.Family.{maxOf, idSize, markOf};
+ghost use Rattle.route_sizes.specs.Encode.{address, lengthOf, rowBytes, bytesOf};
+ghost use Rattle.route_sizes.specs.Promises.{measured};
+ghost use Rattle.route_sizes.specs.declared.WriteAnswer.the-variants.{Bytes};
 ghost use Rattle.route_writer.specs.Ahead.{rowAt, headBytes, Fillable, Ahead};
-ghost use Rattle.route_writer.specs.Promises.{sizeBy, measured, writeAnswer, outAfter};
+ghost use Rattle.route_writer.specs.Promises.{writeAnswer, outAfter};
 ghost use Rattle.route_writer.specs.Pair.{pairSized, pairAnswer, pairAfter};
-ghost use Rattle.route_writer.specs.declared.WriteAnswer.the-variants.{Bytes};
 use families::Afi;
 use families::Form;
+use route_sizes::WriteAnswer;
 use wire::refusal;
-
-// The bytes that were written or would be, or a refusal number.
-pub enum WriteAnswer {
-    Bytes(usize),
-    Refused(u8),
-}
 
 // The bytes of two lists that were written, or a refusal number.
 pub enum ListsAnswer {
     Lists { first: usize, second: usize },
     Refused(u8),
-}
-
-// Whether the form has an id, or the id word is 0.
-fn id_fits(id: u32, form: Form) -> bool
-    ensures { λ r. ⌜ r ≡ idFits form id ⌝ }
-{
-    match form {
-        Form::Plain => id == 0,
-        Form::Tagged => true,
-    }
-}
-
-// Two words as one number.
-fn joined(a: u32, b: u32) -> u64
-    ensures { λ r. ⌜ r ≡ a * 4294967296 + b ⌝ }
-{
-    a as u64 * 4294967296 + b as u64
-}
-
-// Whether the octets past the first m of eight are 0: a shift by m octets leaves only those.
-fn clear_half(x: u64, m: usize) -> bool
-    requires { ⌜ m < 8 ⌝ }
-    ensures { λ r. ⌜ r ≡ allZero (drop m (toBe 8 x)) ⌝ }
-{
-    x << (8 * m) as u32 == 0
-}
-
-// Whether the octets past the first n of two halves are 0, with n in the first.
-fn clear_early(n: usize, x: u64, y: u64) -> bool
-    requires { ⌜ n < 8 ⌝ }
-    ensures { λ r. ⌜ r ≡ allZero (drop n (toBe 8 x ++ toBe 8 y)) ⌝ }
-{
-    if y != 0 {
-        return false;
-    }
-    clear_half(x, n)
-}
-
-// Whether the octets past the first n of four words are 0. A maximum length of 32 at most keeps n in the first half.
-fn clear_past(n: usize, max: u8, w0: u32, w1: u32, w2: u32, w3: u32) -> bool
-    requires { ⌜ (max ≤ 128) × (n ≤ octets max) ⌝ }
-    ensures { λ r. ⌜ r ≡ allZero (drop n (fourWords w0 w1 w2 w3)) ⌝ }
-{
-    let x = joined(w0, w1);
-    let y = joined(w2, w3);
-    if max <= 32 {
-        return clear_early(n, x, y);
-    }
-    if n < 8 {
-        return clear_early(n, x, y);
-    }
-    if n == 16 {
-        return true;
-    }
-    clear_half(y, n - 8)
-}
-
-// How many bytes the row at the front takes.
-fn row_size(ws: &[u32], max: u8, form: Form) -> WriteAnswer
-    requires { ⌜ max ≤ 128 ⌝ }
-    ensures { λ r. ⌜ r ≡ sizeBy form (writeStep max form tt (now (ws .entry))) ⌝ }
-{
-    if ws.len() < 6 {
-        return WriteAnswer::Refused(refusal::NOT_WRITABLE);
-    }
-    let mark = families::mark_of(form);
-    let first = ws[0];
-    if first < mark {
-        return WriteAnswer::Refused(refusal::NOT_WRITABLE);
-    }
-    let len = first - mark;
-    if wire::wide(max) < len {
-        return WriteAnswer::Refused(refusal::NOT_WRITABLE);
-    }
-    if !id_fits(ws[1], form) {
-        return WriteAnswer::Refused(refusal::NOT_WRITABLE);
-    }
-    let n = families::octet_count(len as u8);
-    if !clear_past(n, max, ws[2], ws[3], ws[4], ws[5]) {
-        return WriteAnswer::Refused(refusal::NOT_WRITABLE);
-    }
-    WriteAnswer::Bytes(families::id_size(form) + 1 + n)
-}
-
-// How many bytes the rows take, none over the maximum length.
-fn size_within(rows: &[u32], max: u8, form: Form) -> WriteAnswer
-    requires { ⌜ max ≤ 128 ⌝ }
-    ensures { λ r. ⌜ r ≡ measured (now (rows .entry)) max form ⌝ }
-{
-    let mut at: usize = 0;
-    let mut total: usize = 0;
-    while at < rows.len() {
-        match row_size(&rows[at..], max, form) {
-            WriteAnswer::Bytes(n) => {
-                at = at + 6;
-                total = total + n;
-            }
-            WriteAnswer::Refused(n) => {
-                return WriteAnswer::Refused(n);
-            }
-        }
-    }
-    WriteAnswer::Bytes(total)
 }
 
 // The four bytes of a word of the store, at a place of the output.
@@ -265,19 +156,12 @@ fn fill(rows: &[u32], afi: Afi, form: Form, out: &mut [u8], total: usize)
     }
 }
 
-// How many bytes rows take as a list.
-pub fn measure_nlri_prefixes(rows: &[u32], afi: Afi, form: Form) -> WriteAnswer
-    ensures { λ r. ⌜ r ≡ measured (now (rows .entry)) (maxOf afi) form ⌝ }
-{
-    size_within(rows, families::max_len(afi), form)
-}
-
 // Rows as a list, at the front of the output.
 pub fn encode_nlri_prefixes(rows: &[u32], afi: Afi, form: Form, out: &mut [u8]) -> WriteAnswer
     ensures answer { λ r. ⌜ r ≡ writeAnswer (now (rows .entry)) (maxOf afi) form (length (now (out .entry))) ⌝ }
     ensures out { λ _. ⌜ now (out .exit) ≡ outAfter (now (rows .entry)) (maxOf afi) form (now (out .entry)) ⌝ }
 {
-    match measure_nlri_prefixes(rows, afi, form) {
+    match route_sizes::measure_nlri_prefixes(rows, afi, form) {
         WriteAnswer::Bytes(n) => {
             if wire::LIST_LIMIT < n {
                 return WriteAnswer::Refused(refusal::TOO_LONG);
@@ -337,8 +221,8 @@ fn measure_pair(
 ) -> ListsAnswer
     ensures { λ r. ⌜ r ≡ pairAnswer (now (first .entry)) (now (second .entry)) (maxOf afi) form start between most places ⌝ }
 {
-    match measure_nlri_prefixes(first, afi, form) {
-        WriteAnswer::Bytes(a) => match measure_nlri_prefixes(second, afi, form) {
+    match route_sizes::measure_nlri_prefixes(first, afi, form) {
+        WriteAnswer::Bytes(a) => match route_sizes::measure_nlri_prefixes(second, afi, form) {
             WriteAnswer::Bytes(b) => pair_size(a, b, start, between, most, places),
             WriteAnswer::Refused(n) => ListsAnswer::Refused(n),
         },

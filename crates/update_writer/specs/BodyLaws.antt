@@ -17,11 +17,11 @@ use Rattle.wire.specs.Store.{laid, placed, placed-fits, placed-next, length-lai
 use Rattle.families.specs.Family.{maxOf}
 use Rattle.families.specs.declared.Afi.the-variants.{Ipv4}
 use Rattle.families.specs.declared.Form.{Form}
-use Rattle.route_writer.specs.Promises.{measured}
+use Rattle.route_sizes.specs.Promises.{measured}
+use Rattle.route_sizes.specs.declared.WriteAnswer.{WriteAnswer}
+use Rattle.route_sizes.specs.declared.WriteAnswer.the-variants.{Bytes, Refused}
 use Rattle.route_writer.specs.Pair.{pairEnd, pairSized, ifBoth, pairAnswer}
 use Rattle.route_writer.specs.PairLaws.{pair-over, pair-under}
-use Rattle.route_writer.specs.declared.WriteAnswer.{WriteAnswer}
-use Rattle.route_writer.specs.declared.WriteAnswer.the-variants.{Bytes, Refused}
 use Rattle.route_writer.specs.declared.ListsAnswer.{ListsAnswer}
 use Rattle.route_writer.specs.declared.ListsAnswer.the-variants.{Lists}
 use Rattle.route_writer.specs.declared.ListsAnswer.the-variants as L

@@ -11,11 +11,11 @@ use Rattle.wire.specs.Refusal.{listLimit, bodyLimit}
 use Rattle.families.specs.Family.{maxOf}
 use Rattle.families.specs.declared.Afi.the-variants.{Ipv4}
 use Rattle.families.specs.declared.Form.{Form}
-use Rattle.route_writer.specs.Encode.{bytesOf}
-use Rattle.route_writer.specs.Promises.{measured}
-use Rattle.route_writer.specs.PromiseLaws.{measured-bytes}
-use Rattle.route_writer.specs.declared.WriteAnswer.{WriteAnswer}
-use Rattle.route_writer.specs.declared.WriteAnswer.the-variants.{Bytes, Refused}
+use Rattle.route_sizes.specs.Encode.{bytesOf}
+use Rattle.route_sizes.specs.Promises.{measured}
+use Rattle.route_sizes.specs.PromiseLaws.{measured-bytes}
+use Rattle.route_sizes.specs.declared.WriteAnswer.{WriteAnswer}
+use Rattle.route_sizes.specs.declared.WriteAnswer.the-variants.{Bytes, Refused}
 use Rattle.updates.specs.Body.{withdrawnSize, attributesSize, attributesEnd, partsOf, withdrawnOf, attributesOf, announcedOf}
 use Rattle.updates.specs.BodyLaws.{parts-by}
 use Rattle.updates.specs.declared.PartsAnswer.the-variants.{Parts}

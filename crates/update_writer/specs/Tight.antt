@@ -5,8 +5,8 @@ use mathlib.Core.Path.{_≡_, sym, ap, _∙_}
 use mathlib.Core.List.{List}
 use lib.ListN.{length}
 use Rattle.families.specs.declared.Form.{Form}
+use Rattle.route_sizes.specs.declared.WriteAnswer.{WriteAnswer}
 use Rattle.route_writer.specs.Promises.{filled}
-use Rattle.route_writer.specs.declared.WriteAnswer.{WriteAnswer}
 use Rattle.update_writer.specs.Body.{bodyBytes, bodyAnswer}
 
 -- what encode_bgp_update_message may answer and leave in its output

@@ -5,7 +5,7 @@ use mathlib.Core.Path.{sym}
 use mathlib.Core.List.{[], append-nil}
 use lib.ListN.{length}
 use Rattle.families.specs.FamilyLaws.{id-small}
-use Rattle.route_writer.specs.Encode.{fourWords, address}
+use Rattle.route_sizes.specs.Encode.{fourWords, address}
 use Rattle.route_writer.specs.Ahead.{rowAt, Ahead, Whole, ahead-start, ahead-room, whole-room, whole-row, whole-turn}
 use Rattle.route_writer.proofs.fill_long.Statement.{statement}
 use Rattle.route_writer.proofs.fill_long.Tie as tie

@@ -5,7 +5,7 @@ use lib.ListN.{length, take}
 use Rattle.wire.specs.Store.{placed, placed-fits}
 use Rattle.families.specs.Family.{octets}
 use Rattle.families.specs.FamilyLaws.{id-small}
-use Rattle.route_writer.specs.Encode.{rowBytes}
+use Rattle.route_sizes.specs.Encode.{rowBytes}
 use Rattle.route_writer.specs.Ahead.{rowAt, row-front}
 use borrow.Author.Needs.{needs}
 use Rattle.route_writer.proofs.put_row.Statement.{statement}

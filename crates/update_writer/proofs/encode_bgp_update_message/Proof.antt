@@ -6,9 +6,9 @@ use lib.ListN.{length}
 use Rattle.wire.specs.Refusal.{bodyLimit}
 use Rattle.families.specs.Family.{maxOf}
 use Rattle.families.specs.declared.Afi.the-variants.{Ipv4}
-use Rattle.route_writer.specs.Encode.{bytesOf}
-use Rattle.route_writer.specs.Promises.{measured}
-use Rattle.route_writer.specs.PromiseLaws.{measured-bytes}
+use Rattle.route_sizes.specs.Encode.{bytesOf}
+use Rattle.route_sizes.specs.Promises.{measured}
+use Rattle.route_sizes.specs.PromiseLaws.{measured-bytes}
 use Rattle.route_writer.specs.Pair.{pairAfter}
 use Rattle.route_writer.specs.PairLaws.{PairFits, pair-fits}
 use Rattle.route_writer.specs.declared.ListsAnswer.{ListsAnswer}

@@ -17,15 +17,14 @@ use Rattle.wire.specs.Number.{be, toBe}
 use Rattle.wire.specs.NumberLaws.{length-toBe, be-toBe, pow-pos256, toBe-append}
 use Rattle.wire.specs.Parts.{drop-append}
 use Rattle.wire.specs.Refusal.{notWritable}
-use Rattle.wire.specs.Store.{laid}
 use Rattle.wire.specs.Walk.{Step, took, stop}
 use Rattle.wire.specs.WalkLaws.{Sound}
-use Rattle.wire.specs.Turn.{Light, Filled, fill-takes, fill-fits, fill-step}
+use Rattle.wire.specs.Turn.{Light}
 use Rattle.families.specs.Family.{idSize, markOf, octets}
 use Rattle.families.specs.FamilyLaws.{id-small}
 use Rattle.families.specs.declared.Form.{Form}
 use Rattle.routes.specs.declared.Row.{Row}
-use Rattle.route_writer.specs.Encode.{fourWords, address, lengthOf, rowBytes, allZero, idFits, writable, frontRow, writeStep}
+use Rattle.route_sizes.specs.Encode.{fourWords, address, lengthOf, rowBytes, allZero, idFits, writable, frontRow, writeStep}
 
 -- ---- octets that are 0
 
@@ -247,22 +246,3 @@ module _ (ws : List ℕ) (max : ℕ) (form : Form) where
       → (markOf form ≤ getD ws 0 0) × (getD ws 0 0 - markOf form ≤ max) × (length (rowBytes form (frontRow ws)) ≡ idSize form + 1 + octets (getD ws 0 0 - markOf form))
   unfolding frontRow
   front-parts w small = (w .mark, w .fits, row-size form (frontRow ws) (omega (arith, w .fits)))
-
--- ---- a turn of the loop that fills
-
-module _ (max : ℕ) (form : Form) (rows d₀ : List ℕ) (at to : ℕ) (d : List ℕ) (h : Filled (writeStep max form) (rowBytes form) tt rows d₀ tt at to d) (lt : at < length rows) where
-  fill-took : (writeStep max form tt (drop at rows) ≡ took 6 (frontRow (drop at rows)) tt) × (6 ≤ length (drop at rows)) × Writable max form (frontRow (drop at rows))
-  fill-took =
-      let t = fill-takes (writeStep max form) (write-sound max form) (rowBytes form) tt rows d₀ tt at to d h lt in
-      let w = write-took max form tt (t .2) (drop at rows) (t .0) (t .1) (t .3) in
-      (took-write max form tt (drop at rows) (w .there) (w .good), w .there, w .good)
-
-  -- the row there can be written and has room
-  pub fill-row : (6 ≤ length (drop at rows)) × (writable max form (frontRow (drop at rows)) ≡ true) × (to + length (rowBytes form (frontRow (drop at rows))) ≤ length d)
-  fill-row =
-      let t = fill-took in
-      (t .1, writable-is max form (frontRow (drop at rows)) (t .2), fill-fits (writeStep max form) (write-sound max form) (rowBytes form) tt rows d₀ tt at to d h tt 6 (frontRow (drop at rows)) (t .0) .2)
-
-  -- and after its bytes the loop's head is reached again
-  pub fill-next : Filled (writeStep max form) (rowBytes form) tt rows d₀ tt (at + 6) (to + length (rowBytes form (frontRow (drop at rows)))) (laid d to (rowBytes form (frontRow (drop at rows))))
-  fill-next = fill-step (writeStep max form) (write-sound max form) (rowBytes form) tt rows d₀ tt at to d h tt 6 (frontRow (drop at rows)) (fill-took .0)

@@ -4,11 +4,11 @@ use Prim.Native.Nat.{ℕ}
 use native.Mathlib.Omega.{arith}
 use lib.ListN.{drop}
 use Rattle.wire.specs.Number.{toBe}
-use Rattle.route_writer.specs.Encode.{fourWords, allZero}
-use Rattle.route_writer.specs.EncodeLaws.{halves, zero-late, zero-none}
+use Rattle.route_sizes.specs.Encode.{fourWords, allZero}
+use Rattle.route_sizes.specs.EncodeLaws.{halves, zero-late, zero-none}
 use borrow.Author.Needs.{needs}
-use Rattle.route_writer.proofs.clear_past.Statement.{statement}
-use Rattle.route_writer.proofs.clear_past.Tie as tie
+use Rattle.route_sizes.proofs.clear_past.Statement.{statement}
+use Rattle.route_sizes.proofs.clear_past.Tie as tie
 
 joined-requires : tie.Need-joined-requires
 joined-requires c κs = search needs

@@ -1,9 +1,9 @@
 use native.Mathlib.Omega.{arith}
 use mathlib.Core.Path.{sym}
-use Rattle.route_writer.specs.EncodeLaws.{half-past}
+use Rattle.route_sizes.specs.EncodeLaws.{half-past}
 use borrow.Author.Needs.{needs}
-use Rattle.route_writer.proofs.clear_half.Statement.{statement}
-use Rattle.route_writer.proofs.clear_half.Tie as tie
+use Rattle.route_sizes.proofs.clear_half.Statement.{statement}
+use Rattle.route_sizes.proofs.clear_half.Tie as tie
 
 mul-result : tie.Need-mul-result
 mul-result c = search needs

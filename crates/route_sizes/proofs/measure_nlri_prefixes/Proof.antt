@@ -2,10 +2,10 @@ use mathlib.Core.Path.{ap, _∙_}
 use Prim.Native.Nat.{ℕ}
 use native.Mathlib.Omega.{arith}
 use Rattle.families.specs.FamilyLaws.{max-small}
-use Rattle.route_writer.specs.Promises.{measured}
+use Rattle.route_sizes.specs.Promises.{measured}
 use borrow.Author.Needs.{needs}
-use Rattle.route_writer.proofs.measure_nlri_prefixes.Statement.{statement}
-use Rattle.route_writer.proofs.measure_nlri_prefixes.Tie as tie
+use Rattle.route_sizes.proofs.measure_nlri_prefixes.Statement.{statement}
+use Rattle.route_sizes.proofs.measure_nlri_prefixes.Tie as tie
 
 max-len-requires : tie.Need-max-len-requires
 max-len-requires c κs = search needs

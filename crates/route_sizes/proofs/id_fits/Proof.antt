@@ -1,6 +1,6 @@
 use borrow.Author.Needs.{needs}
-use Rattle.route_writer.proofs.id_fits.Statement.{statement}
-use Rattle.route_writer.proofs.id_fits.Tie as tie
+use Rattle.route_sizes.proofs.id_fits.Statement.{statement}
+use Rattle.route_sizes.proofs.id_fits.Tie as tie
 
 enum-told : tie.Need-enum-told
 enum-told c = search needs

@@ -6,11 +6,11 @@ use lib.ListN.{length, drop}
 use Rattle.wire.specs.Walk.{took}
 use Rattle.wire.specs.Turn.{Counted, count-start, count-step, count-stop, count-done}
 use Rattle.routes.specs.declared.Row.{Row}
-use Rattle.route_writer.specs.Encode.{rowBytes, writeStep, writing}
-use Rattle.route_writer.specs.EncodeLaws.{write-sound, write-light}
-use Rattle.route_writer.specs.PromiseLaws.{turn-took, turn-refused, measured-good, measured-bad}
-use Rattle.route_writer.proofs.size_within.Statement.{statement}
-use Rattle.route_writer.proofs.size_within.Tie as tie
+use Rattle.route_sizes.specs.Encode.{rowBytes, writeStep, writing}
+use Rattle.route_sizes.specs.EncodeLaws.{write-sound, write-light}
+use Rattle.route_sizes.specs.PromiseLaws.{turn-took, turn-refused, measured-good, measured-bad}
+use Rattle.route_sizes.proofs.size_within.Statement.{statement}
+use Rattle.route_sizes.proofs.size_within.Tie as tie
 
 abbrev Inv-loop : tie.InvT-loop
 Inv-loop rows max form at₀ total₀ at total = Counted (writeStep max form) (λ row. length (rowBytes form row)) 4 tt rows tt at total

@@ -1,9 +1,9 @@
 use mathlib.Core.Path.{sym, _∙_}
 use native.Mathlib.Omega.{arith}
-use Rattle.route_writer.specs.EncodeLaws.{early-set, early-clear}
+use Rattle.route_sizes.specs.EncodeLaws.{early-set, early-clear}
 use borrow.Author.Needs.{needs}
-use Rattle.route_writer.proofs.clear_early.Statement.{statement}
-use Rattle.route_writer.proofs.clear_early.Tie as tie
+use Rattle.route_sizes.proofs.clear_early.Statement.{statement}
+use Rattle.route_sizes.proofs.clear_early.Tie as tie
 
 returns : tie.Need-returns
 returns c = let a = c .before .args in sym (early-set (a .n) (a .x) (a .y) (omega arith) (omega arith) (c .if1 .taken))

@@ -1,17 +1,17 @@
 use lib.ListN.{drop, getD}
 use Rattle.families.specs.FamilyLaws.{id-small}
-use Rattle.route_writer.specs.EncodeLaws.{low-mark, long-prefix, strange-id, set-octets, front-writable}
-use Rattle.route_writer.specs.Encode.{fourWords, allZero}
-use Rattle.route_writer.specs.declared.WriteAnswer.the-variants.{Bytes}
+use Rattle.route_sizes.specs.EncodeLaws.{low-mark, long-prefix, strange-id, set-octets, front-writable}
+use Rattle.route_sizes.specs.Encode.{fourWords, allZero}
+use Rattle.route_sizes.specs.declared.WriteAnswer.the-variants.{Bytes}
 use mathlib.Core.Path.{_≡_, sym, ap, ap₂, _∙_}
 use Prim.Native.Nat.{ℕ, _+_, _-_, _<_}
 use native.Mathlib.Omega.{arith}
 use borrow.Author.Tests.{not-true, not-false}
 use Rattle.families.specs.Family.{markOf, octets}
-use Rattle.route_writer.specs.PromiseLaws.{size-short, size-refused, size-good}
+use Rattle.route_sizes.specs.PromiseLaws.{size-short, size-refused, size-good}
 use borrow.Author.Needs.{needs}
-use Rattle.route_writer.proofs.row_size.Statement.{statement}
-use Rattle.route_writer.proofs.row_size.Tie as tie
+use Rattle.route_sizes.proofs.row_size.Statement.{statement}
+use Rattle.route_sizes.proofs.row_size.Tie as tie
 
 returns : tie.Need-returns
 returns c = let a = c .before .before .args in size-short (a .ws .now) (a .max) (a .form) (c .if1 .taken)

@@ -1,0 +1,5 @@
+pub mod Encode
+pub mod EncodeLaws
+pub mod Promises
+pub mod PromiseLaws
+pub mod Tight

@@ -1,0 +1,24 @@
+-- What measuring answers, from the store of rows and from the writing of it that `Encode` defines.
+use Prim.Native.Nat.{ℕ, zero, suc}
+use mathlib.Core.List.{List}
+use lib.ListN.{length}
+use Rattle.wire.specs.Walk.{Step, took, stop}
+use Rattle.families.specs.declared.Form.{Form}
+use Rattle.routes.specs.declared.Row.{Row}
+use Rattle.route_sizes.specs.Encode.{rowBytes, writing, bytesOf}
+use Rattle.route_sizes.specs.declared.WriteAnswer.{WriteAnswer}
+use Rattle.route_sizes.specs.declared.WriteAnswer.the-variants.{Bytes, Refused}
+
+-- one row: its bytes, or why it is refused
+abbrev pub sizeBy : Form → Step (Unit {0}) Row → WriteAnswer
+sizeBy form (took used row st) = Bytes (length (rowBytes form row))
+sizeBy form (stop n) = Refused n
+
+-- the bytes where the verdict is 0, and else the verdict
+abbrev pub answerBy : ℕ → ℕ → WriteAnswer
+answerBy zero size = Bytes size
+answerBy (suc n) size = Refused (suc n)
+
+-- measuring: 14 row by row
+unfoldable pub measured : List ℕ → ℕ → Form → WriteAnswer
+measured ws max form = answerBy (writing ws max form .verdict) (length (bytesOf ws max form))
