@@ -1,10 +1,9 @@
-use native.Mathlib.Omega.{arith}
 use borrow.Author.Needs.{needs}
 use Prim.Native.Nat.{_-_, _≤_}
 use lib.ListN.{length}
 use mathlib.Core.Path.{_≡_}
-use Rattle.answers.proofs.line.first_words.Statement.{statement}
-use Rattle.answers.proofs.line.first_words.Tie as tie
+use Rattle.records.proofs.line.first_bytes.Statement.{statement}
+use Rattle.records.proofs.line.first_bytes.Tie as tie
 
 abbrev Inv-loop : tie.InvT-loop
 Inv-loop out₀ at s next₀ i₀ out next i = (length out ≡ length out₀) × (i ≤ length s)
@@ -21,11 +20,11 @@ same-length c = search needs
 returns : tie.Need-returns Inv-loop μ-loop
 returns c = search needs
 
-mul-wider : tie.Need-mul-wider Inv-loop μ-loop
-mul-wider c = search needs
+shared-slice-read-wide : tie.Need-shared-slice-read-wide Inv-loop μ-loop
+shared-slice-read-wide c = search needs
 
-shared-slice-read-wider : tie.Need-shared-slice-read-wider Inv-loop μ-loop
-shared-slice-read-wider c = search needs
+wide-requires : tie.Need-wide-requires Inv-loop μ-loop
+wide-requires c κs = search needs
 
 wider-requires : tie.Need-wider-requires Inv-loop μ-loop
 wider-requires c κs = search needs
@@ -48,8 +47,8 @@ same-length-2 c = search needs
 returns-2 : tie.Need-returns-2 Inv-loop μ-loop
 returns-2 c = search needs
 
-pub first-words-spec : {M : Type 1} → statement M
-first-words-spec =
+pub first-bytes-spec : {M : Type 1} → statement M
+first-bytes-spec =
     tie.close
     (tie.spec
     Inv-loop
@@ -57,8 +56,8 @@ first-words-spec =
     loop-holds
     same-length
     returns
-    mul-wider
-    shared-slice-read-wider
+    shared-slice-read-wide
+    wide-requires
     wider-requires
     number-requires
     add-i

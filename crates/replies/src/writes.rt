@@ -1,9 +1,9 @@
 // Ops 13 to 17: the writers.
-use crate::line;
-use crate::numbers;
-use crate::request;
-use crate::request::Head;
-use crate::store;
+use records::line;
+use records::numbers;
+use records::request;
+use records::request::Head;
+use records::store;
 use route_sizes::WriteAnswer;
 
 // The answers of the other writers in the same form.

@@ -1,31 +1,30 @@
-use native.Mathlib.Omega.{arith}
 use borrow.Author.Needs.{needs}
 use Prim.Native.Nat.{_-_, _≤_}
 use lib.ListN.{length}
 use mathlib.Core.Path.{_≡_}
-use Rattle.answers.proofs.store.decode.Statement.{statement}
-use Rattle.answers.proofs.store.decode.Tie as tie
+use Rattle.records.proofs.store.fill_words.Statement.{statement}
+use Rattle.records.proofs.store.fill_words.Tie as tie
 
 abbrev Inv-loop : tie.InvT-loop
-Inv-loop s store₀ at₀ i₀ store at i = (length store ≡ length store₀) × (i ≤ length store₀)
+Inv-loop store₀ i₀ store i = (length store ≡ length store₀) × (i ≤ length store₀)
 
 abbrev μ-loop : tie.MeasureT-loop
-μ-loop s store₀ at₀ i₀ store at i = length store₀ - i
+μ-loop store₀ i₀ store i = length store₀ - i
 
 loop-holds : tie.Need-loop-holds Inv-loop μ-loop
 loop-holds c = search needs
 
-u32-at-requires : tie.Need-u32-at-requires Inv-loop μ-loop
-u32-at-requires c κs = search needs
+cast-store : tie.Need-cast-store Inv-loop μ-loop
+cast-store c = search needs
+
+add-store : tie.Need-add-store Inv-loop μ-loop
+add-store c = search needs
 
 mul-store : tie.Need-mul-store Inv-loop μ-loop
 mul-store c = search needs
 
 slice-write-store : tie.Need-slice-write-store Inv-loop μ-loop
 slice-write-store c = search needs
-
-plus-requires : tie.Need-plus-requires Inv-loop μ-loop
-plus-requires c κs = search needs
 
 add-i : tie.Need-add-i Inv-loop μ-loop
 add-i c = search needs
@@ -42,17 +41,17 @@ same-length c = search needs
 returns : tie.Need-returns Inv-loop μ-loop
 returns c = search needs
 
-pub decode-spec : {M : Type 1} → statement M
-decode-spec =
+pub fill-words-spec : {M : Type 1} → statement M
+fill-words-spec =
     tie.close
     (tie.spec
     Inv-loop
     μ-loop
     loop-holds
-    u32-at-requires
+    cast-store
+    add-store
     mul-store
     slice-write-store
-    plus-requires
     add-i
     loop-less
     loop-again

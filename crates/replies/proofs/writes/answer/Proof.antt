@@ -1,7 +1,7 @@
-use Rattle.answers.specs.Lent.{lent}
+use Rattle.replies.specs.Lent.{lent}
 use borrow.Author.Needs.{needs}
-use Rattle.answers.proofs.writes.answer.Statement.{statement}
-use Rattle.answers.proofs.writes.answer.Tie as tie
+use Rattle.replies.proofs.writes.answer.Statement.{statement}
+use Rattle.replies.proofs.writes.answer.Tie as tie
 
 least-requires : tie.Need-least-requires
 least-requires c κs = search needs

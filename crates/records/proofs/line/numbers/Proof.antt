@@ -2,8 +2,8 @@ use borrow.Author.Needs.{needs}
 use Prim.Native.Nat.{_-_, _≤_}
 use lib.ListN.{length}
 use mathlib.Core.Path.{_≡_}
-use Rattle.answers.proofs.line.numbers.Statement.{statement}
-use Rattle.answers.proofs.line.numbers.Tie as tie
+use Rattle.records.proofs.line.numbers.Statement.{statement}
+use Rattle.records.proofs.line.numbers.Tie as tie
 
 abbrev Inv-loop : tie.InvT-loop
 Inv-loop out₀ at n values next₀ i₀ out next i = (length out ≡ length out₀) × (i ≤ 9)

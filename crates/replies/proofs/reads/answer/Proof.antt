@@ -1,7 +1,7 @@
-use Rattle.answers.specs.Lent.{lent}
+use Rattle.replies.specs.Lent.{lent}
 use borrow.Author.Needs.{needs}
-use Rattle.answers.proofs.reads.answer.Statement.{statement}
-use Rattle.answers.proofs.reads.answer.Tie as tie
+use Rattle.replies.proofs.reads.answer.Statement.{statement}
+use Rattle.replies.proofs.reads.answer.Tie as tie
 
 stores-lent-requires : tie.Need-stores-lent-requires
 stores-lent-requires c κs = search needs

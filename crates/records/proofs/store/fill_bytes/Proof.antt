@@ -1,10 +1,9 @@
-use native.Mathlib.Omega.{arith}
 use borrow.Author.Needs.{needs}
 use Prim.Native.Nat.{_-_, _≤_}
 use lib.ListN.{length}
 use mathlib.Core.Path.{_≡_}
-use Rattle.answers.proofs.store.fill_words.Statement.{statement}
-use Rattle.answers.proofs.store.fill_words.Tie as tie
+use Rattle.records.proofs.store.fill_bytes.Statement.{statement}
+use Rattle.records.proofs.store.fill_bytes.Tie as tie
 
 abbrev Inv-loop : tie.InvT-loop
 Inv-loop store₀ i₀ store i = (length store ≡ length store₀) × (i ≤ length store₀)
@@ -17,12 +16,6 @@ loop-holds c = search needs
 
 cast-store : tie.Need-cast-store Inv-loop μ-loop
 cast-store c = search needs
-
-add-store : tie.Need-add-store Inv-loop μ-loop
-add-store c = search needs
-
-mul-store : tie.Need-mul-store Inv-loop μ-loop
-mul-store c = search needs
 
 slice-write-store : tie.Need-slice-write-store Inv-loop μ-loop
 slice-write-store c = search needs
@@ -42,16 +35,14 @@ same-length c = search needs
 returns : tie.Need-returns Inv-loop μ-loop
 returns c = search needs
 
-pub fill-words-spec : {M : Type 1} → statement M
-fill-words-spec =
+pub fill-bytes-spec : {M : Type 1} → statement M
+fill-bytes-spec =
     tie.close
     (tie.spec
     Inv-loop
     μ-loop
     loop-holds
     cast-store
-    add-store
-    mul-store
     slice-write-store
     add-i
     loop-less

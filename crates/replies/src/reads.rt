@@ -1,11 +1,11 @@
 // Ops 1 to 12: the readers.
-use crate::line;
-use crate::numbers;
-use crate::numbers::Numbers;
-use crate::request;
-use crate::request::Head;
-use crate::store;
 use families::Afi;
+use records::line;
+use records::numbers;
+use records::numbers::Numbers;
+use records::request;
+use records::request::Head;
+use records::store;
 
 // Ops 3, 5, 7 and 11.
 fn counted(op: u8, settings: u8, s: &[u8]) -> Numbers {
@@ -29,6 +29,16 @@ fn message(settings: u8, s: &[u8]) -> Numbers {
     numbers::of_message(messages::parse_bgp_message(s), messages::message_body(s))
 }
 
+// Op 12.
+fn parts(s: &[u8]) -> Numbers {
+    numbers::of_parts(
+        updates::update_parts(s),
+        updates::withdrawn_part(s),
+        updates::attribute_part(s),
+        updates::announced_part(s),
+    )
+}
+
 // The ops that lend no store.
 fn plain(op: u8, settings: u8, s: &[u8]) -> Numbers {
     match op {
@@ -39,7 +49,7 @@ fn plain(op: u8, settings: u8, s: &[u8]) -> Numbers {
         )),
         8 => numbers::of_aggregator(asns::parse_aggregator(s, request::width(settings))),
         9 => message(settings, s),
-        12 => numbers::of_parts(s),
+        12 => parts(s),
         _ => counted(op, settings, s),
     }
 }

@@ -174,14 +174,11 @@ fn parts_refusal(a: PartsAnswer) -> usize {
 }
 
 // The length and the sum of each part of an UPDATE, which are empty where the body is refused.
-pub fn of_parts(s: &[u8]) -> Numbers {
-    let withdrawn = updates::withdrawn_part(s);
-    let attributes = updates::attribute_part(s);
-    let announced = updates::announced_part(s);
+pub fn of_parts(a: PartsAnswer, withdrawn: &[u8], attributes: &[u8], announced: &[u8]) -> Numbers {
     Numbers {
         count: 7,
         values: [
-            parts_refusal(updates::update_parts(s)),
+            parts_refusal(a),
             withdrawn.len(),
             store::sum_of_bytes(withdrawn),
             attributes.len(),
