@@ -1,6 +1,7 @@
 // The settings of a list of routes: the family, how an item stands, Add-Path; and the numbers that they fix (RFC 4271 section 4.3,
 // RFC 7911 section 3). Each call answers one number, so two results that it allows are equal: `tight-number` of wire.
 ghost use mathlib.Core.Path.{_≡_};
+ghost use Prim.Native.Nat.{_+_};
 ghost use Rattle.families.specs.Family.{maxOf, idSize, markOf, octets};
 
 // The family of a route.
@@ -15,10 +16,10 @@ pub enum Form {
     Tagged,
 }
 
-// The Add-Path setting of a list: on, off, or off with the guess.
+// The Add-Path setting of a list: off, on, or off with the guess.
 pub enum AddPath {
-    On,
     Off,
+    On,
     Guess,
 }
 
@@ -57,4 +58,11 @@ pub fn octet_count(len: u8) -> usize
     ensures { λ r. ⌜ r ≡ octets len ⌝ }
 {
     (len as usize + 7) / 8
+}
+
+// The bytes of an item of a form with a prefix of that many bits: its id, the length byte and the octets.
+pub fn item_size(len: u8, form: Form) -> usize
+    ensures { λ r. ⌜ r ≡ idSize form + 1 + octets len ⌝ }
+{
+    (len as usize + 8 * id_size(form) + 15) / 8
 }

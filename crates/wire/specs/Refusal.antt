@@ -57,6 +57,10 @@ wideNumber = 13
 abbrev pub notWritable : ℕ
 notWritable = 14
 
+-- past every refusal number: an answer in one number is a refusal number, or a count from here on
+abbrev pub pastAll : ℕ
+pastAll = 16
+
 -- ---- the limits behind number 1
 
 -- the most bytes of a list or an attribute value

@@ -27,3 +27,6 @@ pub const LONG_SEGMENT: u8 = 12;
 pub const WIDE_NUMBER: u8 = 13;
 
 pub const NOT_WRITABLE: u8 = 14;
+
+// Past every refusal number. An answer in one number is a refusal number, or a count from here on.
+pub const PAST_ALL: usize = 16;
