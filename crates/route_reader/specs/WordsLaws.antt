@@ -1,23 +1,28 @@
--- Laws of address words: read whole and cut to the octets of the item, and as halves of two words.
+-- Laws of address words: read whole, and cut to the octets of the item.
 -- Assumes nothing.
 use Prim.Native.Nat.{ℕ, zero, suc, _+_, _-_, _*_, _^_, _/_, _%_, _≤_, _<_}
 use mathlib.Core.Path.{_≡_, refl, sym, ap, ap₂, _∙_}
 use mathlib.Core.List.{List, [], _∷_, _++_}
-use native.Mathlib.Nat.{mod-eq-of-lt, div-eq-of-lt, div-one, mul-one, pow-succ', lt-of-not-le, le-of-lt, sub-zero}
+use native.Mathlib.Nat.{mod-eq-of-lt, div-one, mul-one, pow-succ', lt-of-not-le, le-of-lt, lt-of-lt-of-le, add-comm, add-zero, add-mul, mul-assoc, mul-lt-mul-of-pos-right}
 use native.Mathlib.Decide.{decLe}
 use native.Mathlib.Omega.{arith}
-use lib.Arith.{digits-div, digits-mod}
-use lib.ListN.{length, take, drop, replicate, drop-of-length-le, length-take}
-use lib.Pow.{pow-add}
-use lib.Seq.{drop-drop}
+use borrow.Author.Tests.{eqb-true}
+use lib.Arith.{digits-mod}
+use lib.Bits.{bitAnd, and-high}
+use lib.Dec.{eqb}
+use lib.ListN.{length, take, drop, replicate, drop-of-length-le, length-drop, length-take, length-replicate, take-append-drop}
+use lib.Pow.{pow-add, pow-mono, shl-lt, shr-lt}
+use lib.Seq.{drop-drop, take-all, length-take-le}
+use Rattle.wire.specs.Choice.{below-at}
 use Rattle.wire.specs.Number.{be, beAt, padded, Bytes}
-use Rattle.wire.specs.NumberLaws.{be-append, be-cut, be-lt, bytes-drop, bytes-take, bytes-padded, length-padded, padded-add, padded-of-take, padded-of-more}
+use Rattle.wire.specs.NumberLaws.{pow-pos256, be-append, be-cut, be-lt, be-zeros, bytes-drop, bytes-padded, length-padded, padded-all, padded-take, padded-of-take, padded-of-more}
 use Rattle.wire.specs.Parts.{drop-take}
+use Rattle.wire.specs.Turn.{rest}
 use Rattle.families.specs.Family.{idSize}
 use Rattle.families.specs.declared.Form.{Form}
 use Rattle.routes.specs.Prefix.{wordAt, rowOf, itemRow, words}
 use Rattle.routes.specs.PrefixLaws.{Bounded, item-row}
-use Rattle.route_reader.specs.Words.{head, address, octetsIn}
+use Rattle.route_reader.specs.Words.{head, address, between, masks, Octets}
 
 -- ---- a number of w bytes with all but its first m cleared
 
@@ -55,84 +60,109 @@ pub cut-at : (w i n : ℕ) (t : List ℕ) → Bytes t → beAt t i w / 2 ^ (8 * 
 unfolding beAt
 cut-at w i n t h = cut-bits w (n - i) (drop i t) (bytes-drop i t h) ∙ ap (λ (o : List ℕ). be (padded w o)) (sym (drop-take i n t))
 
--- no bit kept, and every bit
-pub cut-none : (x k : ℕ) → x < 18446744073709551616 → k ≡ 64 → 0 ≡ x / 2 ^ k * 2 ^ k
-cut-none x k h e = rw e (rw (div-eq-of-lt h) refl)
-
-pub cut-all : (x k : ℕ) → k ≡ 0 → x ≡ x / 2 ^ k * 2 ^ k
-cut-all x k e = rw e (sym (mul-one (x / 1) ∙ div-one x))
-
--- the bits past n octets in the second half, as code counts them
-pub past-second : (n : ℕ) → 8 < n → n ≤ 16 → (64 - n % 8 * 8) % 64 ≡ 64 - 8 * (n - 8)
-past-second n low high =
-    elim (decLe n 15) [
-      | yes le ↦ (let q : n % 8 ≡ n - 8 = omega arith in rw q (let same : 64 - (n - 8) * 8 ≡ 64 - 8 * (n - 8) = omega arith in rw same (mod-eq-of-lt (omega arith))))
-      | no gt ↦ (let e : n ≡ 16 = omega (arith, lt-of-not-le gt) in rw e refl)
-    ]
-
--- ---- a half is two words
-
-pub half-of : (o : List ℕ) (i : ℕ) → beAt o i 8 ≡ beAt o i 4 * 4294967296 + beAt o (i + 4) 4
-unfolding beAt
-half-of o i =
-    let p : List ℕ = padded 4 (drop i o) in
-    let q : List ℕ = padded 4 (drop 4 (drop i o)) in
-    ap be (sym (padded-add 4 4 (drop i o)))
-    ∙ be-append p q
-    ∙ ap (λ (n : ℕ). be p * 256 ^ n + be q) (length-padded 4 (drop 4 (drop i o)))
-    ∙ ap (λ (t : List ℕ). be p * 4294967296 + be (padded 4 t)) (drop-drop 4 i o)
-
 pub word-lt : (o : List ℕ) (i : ℕ) → Bytes o → beAt o i 4 < 4294967296
 unfolding beAt
 word-lt o i h = let n = length-padded 4 (drop i o) in rw n at (be-lt (padded 4 (drop i o)) (bytes-padded 4 (drop i o) (bytes-drop i o h)))
 
-half : (o : List ℕ) (i : ℕ) → Bytes o → (beAt o i 8 / 4294967296 ≡ beAt o i 4) × (beAt o i 8 % 4294967296 ≡ beAt o (i + 4) 4)
-half o i h = (
-  ap (λ (x : ℕ). x / 4294967296) (half-of o i) ∙ digits-div (beAt o i 4) (word-lt o (i + 4) h),
-  ap (λ (x : ℕ). x % 4294967296) (half-of o i) ∙ digits-mod (beAt o i 4) (word-lt o (i + 4) h),
-)
+-- ---- a word under the mask of the first n octets
 
--- a half read at octet i after b bytes of s, and cut to m of the n octets
-pub half-cut : (s : List ℕ) (b i n at m : ℕ) → Bytes s → at ≡ b + i → m ≡ n - i → (read cut : ℕ) → read ≡ beAt s at 8 → cut ≡ read / 2 ^ (64 - 8 * m) * 2 ^ (64 - 8 * m)
-    → cut ≡ beAt (take n (drop b s)) i 8
+mask-word : (d : ℕ) → d < 29 → beAt masks d 4 ≡ 4294967296 - 2 ^ (32 - 8 * (16 - d))
 unfolding beAt
-half-cut s b i n at m h place few read cut e f =
-    f
-    ∙ ap₂ (λ (x k : ℕ). x / 2 ^ (64 - 8 * k) * 2 ^ (64 - 8 * k)) (e ∙ ap (λ (j : ℕ). be (padded 8 (drop j s))) place ∙ ap (λ (t : List ℕ). be (padded 8 t)) (sym (drop-drop i b s))) few
-    ∙ cut-at 8 i n (drop b s) (bytes-drop b s h)
+mask-word d lt = eqb-true _ _ (below-at (λ (d : ℕ). eqb (be (padded 4 (drop d masks))) (4294967296 - 2 ^ (32 - 8 * (16 - d)))) 29 d refl lt)
 
--- ---- the address words of octets, from words that were read, and from words or halves that were cut
+pub masked : (t : List ℕ) (n i x y : ℕ) → Bytes t → n ≤ 16 → i ≤ 12 → x ≡ beAt t i 4 → y ≡ beAt masks (16 - n + i) 4 → bitAnd x y ≡ beAt (take n t) i 4
+masked t n i x y h few place e f =
+    let j : ℕ = 32 - (32 - 8 * (n - i)) in
+    let k : ℕ = 32 - 8 * (n - i) in
+    let all : j + k ≡ 32 = omega arith in
+    let left : 16 - (16 - n + i) ≡ n - i = omega arith in
+    let small : x < 2 ^ (j + k) = rw (all, e) (word-lt t i h) in
+    let mask : y ≡ 2 ^ (j + k) - 2 ^ k =
+    f ∙ mask-word (16 - n + i) (omega arith) ∙ ap₂ (λ (a b : ℕ). 2 ^ a - 2 ^ (32 - 8 * b)) (sym all) left in
+    ap (bitAnd x) mask
+    ∙ and-high x j k
+    ∙ ap (λ (q : ℕ). q * 2 ^ k) (mod-eq-of-lt (shr-lt j k small))
+    ∙ ap (λ (q : ℕ). q / 2 ^ k * 2 ^ k) e
+    ∙ cut-at 4 i n t h
+
+-- as a reader has the two: s from `seam` on, and a table of masks from the place of the mask on
+pub mask-there : (table : List ℕ) (n k : ℕ) → table ≡ masks → k ≤ 16 → k ≤ length (take (length table - (16 - n)) (drop (16 - n) table))
+mask-there table n k e le = rw rest (omega (arith, ap length e, length-drop (16 - n) table))
+
+pub masked-at : (s table : List ℕ) (seam n : ℕ) → Bytes s → table ≡ masks → n ≤ 16 → (i x y : ℕ) → i ≤ 12
+    → x ≡ beAt (take (length s - seam) (drop seam s)) i 4 → y ≡ beAt (take (length table - (16 - n)) (drop (16 - n) table)) i 4 → bitAnd x y ≡ beAt (take n (drop seam s)) i 4
+unfolding beAt
+masked-at s table seam n h e few i x y le f g =
+    masked (drop seam s) n i x y (bytes-drop seam s h) few le
+    (f ∙ ap (λ (t : List ℕ). be (padded 4 (drop i t))) (rest s seam))
+    (g ∙ ap (λ (t : List ℕ). be (padded 4 (drop i t))) (rest table (16 - n)) ∙ ap (λ (t : List ℕ). be (padded 4 t)) (drop-drop i (16 - n) table) ∙ ap (λ (t : List ℕ). be (padded 4 (drop (16 - n + i) t))) e)
+
+-- ---- the last octets of a list
+
+-- n of four, shifted up over the others
+last-four : (t : List ℕ) (m n : ℕ) → Bytes t → length t ≡ 4 → m + n ≡ 4 → be t * 256 ^ m % 256 ^ 4 ≡ be (padded 4 (drop m t))
+last-four t m n h four e =
+    let p : List ℕ = take m t in
+    let q : List ℕ = drop m t in
+    let nq : length q ≡ n = omega (arith, length-drop m t) in
+    let parts : be t ≡ be p * 256 ^ n + be q =
+    ap be (sym (take-append-drop m t)) ∙ be-append p q ∙ ap (λ (j : ℕ). be p * 256 ^ j + be q) nq in
+    let all : 256 ^ n * 256 ^ m ≡ 256 ^ 4 = sym (pow-add 256 n m) ∙ ap (λ (j : ℕ). 256 ^ j) (add-comm n m ∙ e) in
+    let up : be t * 256 ^ m ≡ be p * 256 ^ 4 + be q * 256 ^ m =
+    ap (λ (x : ℕ). x * 256 ^ m) parts ∙ add-mul (be p * 256 ^ n) (be q) (256 ^ m) ∙ ap (λ (x : ℕ). x + be q * 256 ^ m) (mul-assoc (be p) (256 ^ n) (256 ^ m) ∙ ap (λ (x : ℕ). be p * x) all) in
+    let small : be q * 256 ^ m < 256 ^ 4 =
+    rw (← all) (mul-lt-mul-of-pos-right {m = be q} {n = 256 ^ n} {k = 256 ^ m} (rw nq at (be-lt q (bytes-drop m t h))) (pow-pos256 m)) in
+    let zeros : padded 4 q ≡ q ++ replicate m 0 =
+    ap₂ padded (sym (add-comm n m ∙ e)) (sym (take-all n q (omega arith)))
+    ∙ padded-of-take n m q
+    ∙ ap (λ (l : List ℕ). l ++ replicate m 0) (ap (λ (j : ℕ). take j (padded (n + m) q)) (sym nq) ∙ padded-all q (n + m) (omega arith)) in
+    ap (λ (x : ℕ). x % 256 ^ 4) up
+    ∙ digits-mod (be p) small
+    ∙ sym (ap be zeros ∙ be-append q (replicate m 0) ∙ ap₂ (λ (j x : ℕ). be q * 256 ^ j + x) (length-replicate m 0) (be-zeros m) ∙ add-zero (be q * 256 ^ m))
+
+pub last-octets : (s : List ℕ) (n w : ℕ) → Bytes s → 4 ≤ length s → n ≤ 4 → w ≡ beAt s (length s - 4) 4 → w * 2 ^ (8 * (4 - n)) % 18446744073709551616 % 4294967296 ≡ beAt s (length s - n) 4
+unfolding beAt
+last-octets s n w h long few e =
+    let at : ℕ = length s - 4 in
+    let t : List ℕ = drop at s in
+    let k : ℕ = 8 * (4 - n) in
+    let four : length t ≡ 4 = omega (arith, length-drop at s) in
+    let whole : padded 4 t ≡ t = padded-take 4 t (omega arith) ∙ take-all 4 t (omega arith) in
+    let same : at + (4 - n) ≡ length s - n = omega arith in
+    let small : w * 2 ^ k < 18446744073709551616 =
+    lt-of-lt-of-le (shl-lt 32 k (rw e (word-lt s at h))) (pow-mono {i = 32 + k} {j = 64} (omega arith)) in
+    ap (λ (x : ℕ). x % 4294967296) (mod-eq-of-lt small)
+    ∙ ap₂ (λ (x y : ℕ). x * y % 4294967296) (e ∙ ap be whole) (bits-bytes (4 - n))
+    ∙ last-four t (4 - n) n (bytes-drop at s h) four (omega arith)
+    ∙ ap (λ (l : List ℕ). be (padded 4 l)) (drop-drop (4 - n) at s ∙ ap (λ (j : ℕ). drop j s) same)
+
+-- a word past the end
+pub beyond : (o : List ℕ) (i : ℕ) → length o ≤ i → 0 ≡ beAt o i 4
+unfolding beAt
+beyond o i le = ap (λ (p : List ℕ). be (padded 4 p)) (sym (drop-of-length-le o le))
+
+-- ---- the address words of octets, from words that were read
 
 pub address-parts : (o : List ℕ) (w0 w1 w2 w3 : ℕ) → w0 ≡ beAt o 0 4 → w1 ≡ beAt o 4 4 → w2 ≡ beAt o 8 4 → w3 ≡ beAt o 12 4 → w0 ∷ w1 ∷ w2 ∷ w3 ∷ [] ≡ address o
 unfolding wordAt
 address-parts o w0 w1 w2 w3 e f g h = cc
 
-pub address-short : (t : List ℕ) (n : ℕ) → Bytes t → n ≤ 4 → beAt t 0 4 / 2 ^ (32 - 8 * n) * 2 ^ (32 - 8 * n) ∷ 0 ∷ 0 ∷ 0 ∷ [] ≡ address (take n t)
-unfolding wordAt beAt
-address-short t n h le =
-    let o : List ℕ = take n t in
-    let short : length o ≤ 4 = omega (arith, length-take n t) in
-    let first : beAt t 0 4 / 2 ^ (32 - 8 * n) * 2 ^ (32 - 8 * n) ≡ beAt o 0 4 =
-    ap (λ (m : ℕ). beAt t 0 4 / 2 ^ (32 - 8 * m) * 2 ^ (32 - 8 * m)) (sym (sub-zero n)) ∙ cut-at 4 0 n t h in
-    ap₂ (λ (w : ℕ) (l : List ℕ). w ∷ l) first
-    (ap₂ (λ (p : ℕ) (l : List ℕ). p ∷ l) (none 4 short) (ap₂ (λ (p q : ℕ). p ∷ q ∷ []) (none 8 (omega arith)) (none 12 (omega arith))))
-  where
-    none : (i : ℕ) → length (take n t) ≤ i → 0 ≡ be (padded 4 (drop i (take n t)))
-    none i short = ap (λ (p : List ℕ). be (padded 4 p)) (sym (drop-of-length-le (take n t) short))
+-- of at most four, where the others are 0
+pub address-first : (o : List ℕ) (w : ℕ) → length o ≤ 4 → w ≡ beAt o 0 4 → w ∷ 0 ∷ 0 ∷ 0 ∷ [] ≡ address o
+address-first o w few e = address-parts o w 0 0 0 e (beyond o 4 few) (beyond o 8 (omega arith)) (beyond o 12 (omega arith))
 
-pub address-long : (t : List ℕ) (n x y : ℕ) → Bytes t → x ≡ beAt (take n t) 0 8 → y ≡ beAt (take n t) 8 8
-    → x / 4294967296 ∷ x % 4294967296 ∷ y / 4294967296 ∷ y % 4294967296 ∷ [] ≡ address (take n t)
-unfolding wordAt
-address-long t n x y h e f =
-    let first = half (take n t) 0 (bytes-take n t h) in
-    let second = half (take n t) 8 (bytes-take n t h) in
-    ap₂ (λ (p q : ℕ). p / 4294967296 ∷ p % 4294967296 ∷ q / 4294967296 ∷ q % 4294967296 ∷ []) e f
-    ∙ ap₂ (λ (p q : ℕ). p ∷ q ∷ beAt (take n t) 8 8 / 4294967296 ∷ beAt (take n t) 8 8 % 4294967296 ∷ []) (first .0) (first .1)
-    ∙ ap₂ (λ (p q : ℕ). beAt (take n t) 0 4 ∷ beAt (take n t) 4 4 ∷ p ∷ q ∷ []) (second .0) (second .1)
+-- of at most four between two places, from the last word up to the second
+pub last-between : (s : List ℕ) (seam end w : ℕ) → Octets 4 seam end s → w ≡ beAt (take end s) (length (take end s) - (end - seam)) 4 → w ∷ 0 ∷ 0 ∷ 0 ∷ [] ≡ address (between seam end s)
+unfolding beAt
+last-between s seam end w o e =
+    let long : length (take end s) ≡ end = length-take-le end s (o .there) in
+    let place : length (take end s) - (end - seam) ≡ seam = omega (arith, o .front) in
+    let same : drop (length (take end s) - (end - seam)) (take end s) ≡ between seam end s = ap (λ (j : ℕ). drop j (take end s)) place ∙ drop-take seam end s in
+    address-first (between seam end s) w (omega (arith, o .few, length-take (end - seam) (drop seam s))) (e ∙ ap (λ (t : List ℕ). be (padded 4 t)) same)
 
 -- ---- the words of an item's row are its head and its address
 
-pub item-words : (form : Form) (e : ℕ) (s : List ℕ) → Bounded form e s → words (itemRow form (take e s)) ≡ head form s ++ address (octetsIn form e s)
+pub item-words : (form : Form) (e : ℕ) (s : List ℕ) → Bounded form e s → words (itemRow form (take e s)) ≡ head form s ++ address (between (idSize form + 1) e s)
 unfolding rowOf
 item-words form e s b =
     sym (ap words (item-row s form e (idSize form) _ _ refl refl refl (b .front) (b .within)))

@@ -1,10 +1,11 @@
 -- A choice by a test, and its laws.
 -- Assumes nothing.
-use Prim.Native.Nat.{ℕ, _≤_, _<_}
+use Prim.Native.Nat.{ℕ, zero, suc, _≤_, _<_}
 use mathlib.Core.Path.{_≡_, refl, sym, subst}
-use mathlib.Core.Bool.{Bool, true, false}
+use mathlib.Core.Bool.{Bool, true, false, _&&_}
 use native.Mathlib.Nat.{lt-of-not-le}
 use native.Mathlib.Decide.{decLe}
+use native.Mathlib.Omega.{arith}
 use borrow.Author.Tests.{le-leb, lt-leb, eqb-true, eqb-false}
 use lib.Dec.{leb, eqb}
 
@@ -36,3 +37,21 @@ pick-eqb P a b x y f g = by-test (eqb a b) refl
 pub pick-unless {ℓ} : {X : Type 0} (P : X → Type ℓ) (t : Bool) (x y : X) → P x → (t ≡ false → P y) → P (pick t x y)
 pick-unless P true x y p q = p
 pick-unless P false x y p q = q refl
+
+-- each part of what is true
+pub and-true : (a b : Bool) → a && b ≡ true → (a ≡ true) × (b ≡ true)
+and-true true b e = (refl, e)
+and-true false b e = let z : _≡_ {A = ℕ} 0 1 = cc in absurd (omega arith)
+
+-- a test of each number below n, which computes: what it says holds of each
+abbrev pub below : (ℕ → Bool) → ℕ → Bool
+below f zero = true
+below f (suc n) = f n && below f n
+
+pub below-at : (f : ℕ → Bool) (n d : ℕ) → below f n ≡ true → d < n → f d ≡ true
+below-at f zero d h lt = absurd (omega arith)
+below-at f (suc n) d h lt =
+    elim (decLe n d) [
+      | yes le ↦ (let e : d ≡ n = omega arith in rw e (and-true (f n) (below f n) h .0))
+      | no gt ↦ below-at f n d (and-true (f n) (below f n) h .1) (lt-of-not-le gt)
+    ]

@@ -191,7 +191,7 @@ toBe-append m n a b h k =
     ∙ ap (λ (x : ℕ). a * 256 ^ n + x) (be-toBe n b k) in
     sym (toBe-be s (bytes-append (toBe m a) (toBe n b) (bytes-toBe m a h) (bytes-toBe n b k))) ∙ ap₂ toBe size number
 
-be-zeros : (k : ℕ) → be (replicate k 0) ≡ 0
+pub be-zeros : (k : ℕ) → be (replicate k 0) ≡ 0
 be-zeros zero = refl
 be-zeros (suc k) = let z : List ℕ = replicate k 0 in rw (zero-mul (256 ^ length z), be-zeros k)
 

@@ -1,33 +1,41 @@
-use borrow.Author.Needs.{needs}
-use Prim.Native.Nat.{_-_}
+use Prim.Native.Nat.{ℕ, _+_, _-_}
+use mathlib.Core.Path.{refl, sym, ap, _∙_}
 use native.Mathlib.Omega.{arith}
 use lib.ListN.{length}
-use Rattle.wire.specs.Turn.{Filled, fill-start}
+use Rattle.wire.specs.Store.{laid}
+use Rattle.wire.specs.Turn.{Filled, fill-start, fill-done}
+use Rattle.wire.specs.Walk.{Reading, flat}
 use Rattle.families.specs.Family.{maxOf}
+use Rattle.families.specs.FamilyLaws.{id-small}
 use Rattle.families.specs.declared.Afi.the-variants.{Ipv4}
 use Rattle.routes.specs.Prefix.{words}
 use Rattle.routes.specs.List.{fixed, stepOf}
-use Rattle.routes.specs.ListLaws.{sound, fixed-form}
-use Rattle.route_reader.specs.FillLaws.{far-there, Turn, turn-chosen}
+use Rattle.routes.specs.ListLaws.{sound, fixed-form, list-fixed}
+use Rattle.routes.specs.declared.Row.{Row}
+use Rattle.route_reader.specs.Words.{Octets}
+use Rattle.route_reader.specs.FillLaws.{Turn, turn-chosen, front-there, fitting-form}
+use borrow.Author.Needs.{needs}
 use Rattle.route_reader.proofs.fill_short.Statement.{statement}
 use Rattle.route_reader.proofs.fill_short.Tie as tie
 
 abbrev Inv-loop : tie.InvT-loop
-Inv-loop s form store₀ at₀ to₀ store at to = Filled (stepOf (maxOf Ipv4) (fixed form)) words form s store₀ form at to store
+Inv-loop s form store₀ b at₀ to₀ store at to = Filled (stepOf (maxOf Ipv4) (fixed form)) words form s store₀ form at to store
 
 abbrev μ-loop : tie.MeasureT-loop
-μ-loop s form store₀ at₀ to₀ store at to = length s - at
+μ-loop s form store₀ b at₀ to₀ store at to = length s - at
+
+id-size-requires : tie.Need-id-size-requires Inv-loop μ-loop
+id-size-requires c κs = search needs
+
+add-b : tie.Need-add-b Inv-loop μ-loop
+add-b c = omega (arith, c .id-size .ensures, id-small (c .before .before .before .args .form))
 
 loop-holds : tie.Need-loop-holds Inv-loop μ-loop
 loop-holds c =
-    let g = c .before .before in
-    fill-start (stepOf (maxOf Ipv4) (fixed (g .args .form))) (sound (maxOf Ipv4) (fixed (g .args .form))) words (g .args .form) (g .args .s .now) (g .args .store .now) (g .pre .good) (g .pre .room)
-
-add-loop : tie.Need-add-loop Inv-loop μ-loop
-add-loop c = search needs
-
-sub-loop : tie.Need-sub-loop Inv-loop μ-loop
-sub-loop c = c .loop .inv .within
+    let g = c .before .before .before in
+    let a = g .args in
+    let f = fitting-form (a .s .now) (maxOf Ipv4) (a .form) (a .store .now) (g .pre) in
+    fill-start (stepOf (maxOf Ipv4) (fixed (a .form))) (sound (maxOf Ipv4) (fixed (a .form))) words (a .form) (a .s .now) (a .store .now) (f .good) (f .room)
 
 sub-item-end : tie.Need-sub-item-end Inv-loop μ-loop
 sub-item-end c = c .before .loop .inv .within
@@ -39,17 +47,29 @@ part-item-end-end : tie.Need-part-item-end-end Inv-loop μ-loop
 part-item-end-end c = search needs
 
 item-end-requires : tie.Need-item-end-requires Inv-loop μ-loop
-item-end-requires c κs = let a = c .before .before .before .before .before .args in far-there (a .s .now) (c .before .before .loop .at) 4 (a .form) (c .before .loop-test .taken)
+item-end-requires c κs =
+    let l = c .before .before in
+    let a = l .before .before .before .before .args in
+    front-there (maxOf Ipv4) (fixed (a .form)) (a .form) (a .s .now) (a .store .now) (a .form) (l .loop .at) (l .loop .to) (l .loop .store) (l .loop .inv) (c .before .loop-test .taken) (a .form) (fixed-form (maxOf Ipv4) (a .form) (a .form) _)
 
 -- the item that the turn takes
 item : (c : tie.After-item-end Inv-loop μ-loop) →
     let l = c .before .before .before in
-    let a = l .before .before .before .args in
+    let a = l .before .before .before .before .args in
     Turn (maxOf Ipv4) (fixed (a .form)) (a .form) (a .s .now) (a .store .now) (l .loop .at) (l .loop .to) (l .loop .store) (c .item-end .result) (a .form)
 item c =
     let l = c .before .before .before in
-    let a = l .before .before .before .args in
-    turn-chosen (maxOf Ipv4) (fixed (a .form)) (a .form) (a .s .now) (a .store .now) (a .form) (l .loop .at) (l .loop .to) (l .loop .store) (l .loop .inv) (omega (arith, c .before .before .loop-test .taken)) (a .form) (fixed-form (maxOf Ipv4) (a .form) (a .form) _) _ (c .item-end .ensures)
+    let a = l .before .before .before .before .args in
+    turn-chosen (maxOf Ipv4) (fixed (a .form)) (a .form) (a .s .now) (a .store .now) (a .form) (l .loop .at) (l .loop .to) (l .loop .store) (l .loop .inv) (c .before .before .loop-test .taken) (a .form) (fixed-form (maxOf Ipv4) (a .form) (a .form) _) _ (c .item-end .ensures)
+
+-- and where its octets are
+spot : (c : tie.After-item-end Inv-loop μ-loop) →
+    let l = c .before .before .before in
+    Octets 4 (l .loop .at + (l .before .id-size .result + 1)) (l .loop .at + c .item-end .result) (l .before .before .before .before .args .s .now)
+spot c = let l = c .before .before .before in item c .place 4 _ _ (omega arith) (ap (λ (k : ℕ). l .loop .at + (k + 1)) (l .before .id-size .ensures)) refl
+
+add-end : tie.Need-add-end Inv-loop μ-loop
+add-end c = omega (arith, item c .inside)
 
 sub-put-head : tie.Need-sub-put-head Inv-loop μ-loop
 sub-put-head c = c .before .before .before .before .loop .inv .within
@@ -61,43 +81,37 @@ part-put-head-end : tie.Need-part-put-head-end Inv-loop μ-loop
 part-put-head-end c = search needs
 
 put-head-requires : tie.Need-put-head-requires Inv-loop μ-loop
-put-head-requires c κs =
-    let a = c .before .before .before .before .before .before .before .before .args in
-    let l = c .before .before .before .before .before .loop in
-    (omega (arith, item (c .before .before) .room), far-there (a .s .now) (l .at) 4 (a .form) (c .before .before .before .before .loop-test .taken))
+put-head-requires c κs = let i = item (c .before .before) in (omega (arith, i .room), i .front)
 
 add-put-short : tie.Need-add-put-short Inv-loop μ-loop
 add-put-short c = omega (arith, item (c .before .before .before .before .before .before) .room)
 
-sub-put-short : tie.Need-sub-put-short Inv-loop μ-loop
-sub-put-short c = c .before .before .before .before .before .before .before .before .before .loop .inv .within
-
-part-put-short-start : tie.Need-part-put-short-start Inv-loop μ-loop
-part-put-short-start c = search needs
-
-part-put-short-end : tie.Need-part-put-short-end Inv-loop μ-loop
-part-put-short-end c = search needs
+add-put-short-2 : tie.Need-add-put-short-2 Inv-loop μ-loop
+add-put-short-2 c = let o = spot (c .before .before .before .before .before .before) in omega (arith, o .front, o .there)
 
 put-short-requires : tie.Need-put-short-requires Inv-loop μ-loop
-put-short-requires c κs = let i = item (c .before .before .before .before .before .before .before) in (i .more _ (c .before .before .before .before .put-head .ensures), i .ahead 4 (omega arith) (c .before .before .before .before .before .before .before .before .before .loop-test .taken))
-
-add-at : tie.Need-add-at Inv-loop μ-loop
-add-at c = omega (arith, item (c .before .before .before .before .before .before .before .before .before .before) .inside)
+put-short-requires c κs = (item (c .before .before .before .before .before .before) .more _ (c .before .before .before .put-head .ensures), spot (c .before .before .before .before .before .before))
 
 add-to : tie.Need-add-to Inv-loop μ-loop
-add-to c = omega (arith, item (c .before .before .before .before .before .before .before .before .before .before) .room)
+add-to c = omega (arith, item (c .before .before .before .before .before .before .before .before .before) .room)
 
 loop-less : tie.Need-loop-less Inv-loop μ-loop
-loop-less c = let i = item (c .before .before .before .before .before .before .before .before .before .before) in omega (arith, i .some, i .inside)
+loop-less c = let i = item (c .before .before .before .before .before .before .before .before .before) in omega (arith, i .some, i .inside)
 
 loop-again : tie.Need-loop-again Inv-loop μ-loop
-loop-again c = item (c .before .before .before .before .before .before .before .before .before .before) .next _ _ (c .before .before .before .before .before .before .before .put-head .ensures) (c .before .before .put-short .ensures)
+loop-again c =
+    let l = c .before .before .before .before .before .before .before .before .before .before .before .before in
+    item (c .before .before .before .before .before .before .before .before .before) .next _ _ _ _ (ap (λ (k : ℕ). l .loop .at + (k + 1)) (l .before .id-size .ensures)) refl (c .before .before .before .before .before .before .put-head .ensures) (c .before .before .put-short .ensures)
 
 same-length : tie.Need-same-length Inv-loop μ-loop
 same-length c = c .before .loop .inv .long
 
 returns : tie.Need-returns Inv-loop μ-loop
-returns c = c .before .loop .inv
+returns c =
+    let l = c .before in
+    let a = l .before .before .before .before .args in
+    fill-done (stepOf (maxOf Ipv4) (fixed (a .form))) (sound (maxOf Ipv4) (fixed (a .form))) words (a .form) (a .s .now) (a .store .now) (a .form) (l .loop .at) (l .loop .to) (l .loop .store) (l .loop .inv) (c .loop-test .left)
+    ∙ ap (λ (r : Reading Row). laid (a .store .now) 0 (flat words (r .rows))) (sym (list-fixed (a .s .now) (maxOf Ipv4) (a .form)))
 
 pub fill-short-spec : {M : Type 1} → statement M
 fill-short-spec =
@@ -105,23 +119,21 @@ fill-short-spec =
     (tie.spec
     Inv-loop
     μ-loop
+    id-size-requires
+    add-b
     loop-holds
-    add-loop
-    sub-loop
     sub-item-end
     part-item-end-start
     part-item-end-end
     item-end-requires
+    add-end
     sub-put-head
     part-put-head-start
     part-put-head-end
     put-head-requires
     add-put-short
-    sub-put-short
-    part-put-short-start
-    part-put-short-end
+    add-put-short-2
     put-short-requires
-    add-at
     add-to
     loop-less
     loop-again

@@ -1,4 +1,7 @@
-use native.Mathlib.Omega.{arith}
+use Prim.Native.Nat.{ℕ, _+_}
+use mathlib.Core.Path.{ap, _∙_}
+use lib.ListN.{getD}
+use Rattle.families.specs.Family.{idSize, octets}
 use borrow.Author.Needs.{needs}
 use Rattle.route_reader.proofs.item_end.Statement.{statement}
 use Rattle.route_reader.proofs.item_end.Tie as tie
@@ -6,28 +9,17 @@ use Rattle.route_reader.proofs.item_end.Tie as tie
 id-size-requires : tie.Need-id-size-requires
 id-size-requires c κs = search needs
 
-add-result : tie.Need-add-result
-add-result c = search needs
+shared-slice-read-item-size : tie.Need-shared-slice-read-item-size
+shared-slice-read-item-size c = search needs
 
-shared-slice-read-octet-count : tie.Need-shared-slice-read-octet-count
-shared-slice-read-octet-count c = search needs
-
-octet-count-requires : tie.Need-octet-count-requires
-octet-count-requires c κs = search needs
-
-add-result-2 : tie.Need-add-result-2
-add-result-2 c = omega (arith, c .before .before .id-size .ensures, c .octet-count .ensures, c .before .before .before .before .pre, c .before .shared-slice-known2 .given (c .before .before .id-size .result) .fits)
+item-size-requires : tie.Need-item-size-requires
+item-size-requires c κs = search needs
 
 returns : tie.Need-returns
-returns c = rw (← c .before .before .id-size .ensures, ← c .octet-count .ensures)
+returns c =
+    let a = c .before .before .before .before .args in
+    c .item-size .ensures ∙ ap (λ (k : ℕ). idSize (a .form) + 1 + octets (getD (a .s .now) k 0)) (c .before .before .id-size .ensures)
 
 pub item-end-spec : {M : Type 1} → statement M
 item-end-spec =
-    tie.close
-    (tie.spec
-    id-size-requires
-    add-result
-    shared-slice-read-octet-count
-    octet-count-requires
-    add-result-2
-    returns)
+    tie.close (tie.spec id-size-requires shared-slice-read-item-size item-size-requires returns)

@@ -1,94 +1,130 @@
-use mathlib.Core.Path.{_≡_, refl, ap, _∙_}
-use Prim.Native.Nat.{ℕ, _+_, _-_}
+use Prim.Native.Nat.{_-_}
+use mathlib.Core.Path.{ap, _∙_}
 use native.Mathlib.Omega.{arith}
-use lib.ListN.{take, drop}
-use Rattle.wire.specs.Number.{beAt, Bytes}
-use Rattle.wire.specs.NumberLaws.{bytes-drop}
+use lib.ListN.{length}
+use Rattle.wire.specs.Number.{Bytes}
 use Rattle.wire.specs.Store.{laid}
-use Rattle.route_reader.specs.Words.{address}
-use Rattle.route_reader.specs.WordsLaws.{half-cut, address-long}
+use Rattle.route_reader.specs.WordsLaws.{mask-there, masked-at, address-parts}
 use borrow.Author.Needs.{needs}
 use Rattle.route_reader.proofs.put_long.Statement.{statement}
 use Rattle.route_reader.proofs.put_long.Tie as tie
 
-id-size-requires : tie.Need-id-size-requires
-id-size-requires c κs = search needs
+sub-if1 : tie.Need-sub-if1
+sub-if1 c = search needs
 
-add-b : tie.Need-add-b
-add-b c = search needs
+sub-put-exact : tie.Need-sub-put-exact
+sub-put-exact c = search needs
 
-half-at-requires : tie.Need-half-at-requires
-half-at-requires c κs = search needs
+part-put-exact-start : tie.Need-part-put-exact-start
+part-put-exact-start c = search needs
 
-sub-first-half : tie.Need-sub-first-half
-sub-first-half c = search needs
+part-put-exact-end : tie.Need-part-put-exact-end
+part-put-exact-end c = search needs
 
-first-half-requires : tie.Need-first-half-requires
-first-half-requires c κs = search needs
-
-add-half-at : tie.Need-add-half-at
-add-half-at c = search needs
-
-half-at-requires-2 : tie.Need-half-at-requires-2
-half-at-requires-2 c κs = search needs
-
-sub-second-half : tie.Need-sub-second-half
-sub-second-half c = search needs
-
-second-half-requires : tie.Need-second-half-requires
-second-half-requires c κs = search needs
-
-cast-put-words : tie.Need-cast-put-words
-cast-put-words c = search needs
-
-cast-put-words-2 : tie.Need-cast-put-words-2
-cast-put-words-2 c = search needs
-
-cast-put-words-3 : tie.Need-cast-put-words-3
-cast-put-words-3 c = search needs
-
-cast-put-words-4 : tie.Need-cast-put-words-4
-cast-put-words-4 c = search needs
-
-put-words-requires : tie.Need-put-words-requires
-put-words-requires c κs = search needs
+put-exact-requires : tie.Need-put-exact-requires
+put-exact-requires c κs = search needs
 
 same-length : tie.Need-same-length
 same-length c = search needs
 
 returns : tie.Need-returns
-returns c =
-    let g = c .before .before .before .before .before .before .before .before .before .before .before in
+returns c = search needs
+
+sub-m : tie.Need-sub-m
+sub-m c = search needs
+
+sub-m-2 : tie.Need-sub-m-2
+sub-m-2 c = search needs
+
+sub-t : tie.Need-sub-t
+sub-t c = search needs
+
+part-t-start : tie.Need-part-t-start
+part-t-start c = search needs
+
+part-t-end : tie.Need-part-t-end
+part-t-end c = search needs
+
+sub-u : tie.Need-sub-u
+sub-u c = omega (arith, ap length (c .before .before .before .before .before .pre .1 .1))
+
+part-u-start : tie.Need-part-u-start
+part-u-start c = omega (arith, ap length (c .before .before .before .before .before .pre .1 .1))
+
+part-u-end : tie.Need-part-u-end
+part-u-end c = search needs
+
+word-at-requires : tie.Need-word-at-requires
+word-at-requires c κs = search needs
+
+word-at-requires-2 : tie.Need-word-at-requires-2
+word-at-requires-2 c κs = let a = c .before .before .before .before .before .before .before .before .args in mask-there (a .table .now) (a .end - a .seam) 4 (c .before .before .before .before .before .before .before .before .pre .1 .1) (omega arith)
+
+word-at-requires-3 : tie.Need-word-at-requires-3
+word-at-requires-3 c κs = search needs
+
+word-at-requires-4 : tie.Need-word-at-requires-4
+word-at-requires-4 c κs = let a = c .before .before .before .before .before .before .before .before .before .before .args in mask-there (a .table .now) (a .end - a .seam) 8 (c .before .before .before .before .before .before .before .before .before .before .pre .1 .1) (omega arith)
+
+word-at-requires-5 : tie.Need-word-at-requires-5
+word-at-requires-5 c κs = search needs
+
+word-at-requires-6 : tie.Need-word-at-requires-6
+word-at-requires-6 c κs = let a = c .before .before .before .before .before .before .before .before .before .before .before .before .args in mask-there (a .table .now) (a .end - a .seam) 12 (c .before .before .before .before .before .before .before .before .before .before .before .before .pre .1 .1) (omega arith)
+
+word-at-requires-7 : tie.Need-word-at-requires-7
+word-at-requires-7 c κs = search needs
+
+word-at-requires-8 : tie.Need-word-at-requires-8
+word-at-requires-8 c κs = let a = c .before .before .before .before .before .before .before .before .before .before .before .before .before .before .args in mask-there (a .table .now) (a .end - a .seam) 16 (c .before .before .before .before .before .before .before .before .before .before .before .before .before .before .pre .1 .1) (omega arith)
+
+put-words-requires : tie.Need-put-words-requires
+put-words-requires c κs = search needs
+
+same-length-2 : tie.Need-same-length-2
+same-length-2 c = search needs
+
+returns-2 : tie.Need-returns-2
+returns-2 c =
+    let g = c .before .before .before .before .before .before .before .before .before .before .before .before .before .before .before .before .before .before in
     let a = g .args in
-    let k = c .before .before .before .before .before .before .before .before .id-size in
-    let b = k .result + 1 in
-    let n = a .e - b in
-    let bytes : Bytes (a .s .now) = λ i. c .before .before .before .before .before .before .before .before .before .shared-slice-known .given i .fits in
-    let x : c .before .before .before .before .before .before .first-half .result ≡ beAt (take n (drop b (a .s .now))) 0 8 =
-    half-cut (a .s .now) b 0 n b n bytes (omega arith) (omega arith) _ _ (c .before .before .before .before .before .before .before .half-at .ensures) (c .before .before .before .before .before .before .first-half .ensures) in
-    let y : c .before .before .before .before .second-half .result ≡ beAt (take n (drop b (a .s .now))) 8 8 =
-    half-cut (a .s .now) b 8 n (b + 8) (n - 8) bytes refl refl _ _ (c .before .before .before .before .before .half-at2 .ensures) (c .before .before .before .before .second-half .ensures) in
+    let o = g .pre .1 .0 in
+    let bytes : Bytes (a .s .now) = λ i. c .before .before .before .before .before .before .before .before .before .before .before .before .before .before .before .before .shared-slice-known .given i .fits in
+    let word = masked-at (a .s .now) (a .table .now) (a .seam) (a .end - a .seam) bytes (g .pre .1 .1) (omega (arith, o .few)) in
     c .before .before .put-words .ensures
-    ∙ ap (laid (a .store .now) (a .to)) (address-long (drop b (a .s .now)) n _ _ (bytes-drop b (a .s .now) bytes) x y)
-    ∙ ap (λ (j : ℕ). laid (a .store .now) (a .to) (address (take (a .e - (j + 1)) (drop (j + 1) (a .s .now))))) (k .ensures)
+    ∙ ap (laid (a .store .now) (a .to)) (address-parts _ _ _ _ _
+    (word 0 _ _ (omega arith) (c .before .before .before .before .before .before .before .before .before .before .word-at .ensures) (c .before .before .before .before .before .before .before .before .before .word-at2 .ensures))
+    (word 4 _ _ (omega arith) (c .before .before .before .before .before .before .before .before .word-at3 .ensures) (c .before .before .before .before .before .before .before .word-at4 .ensures))
+    (word 8 _ _ (omega arith) (c .before .before .before .before .before .before .word-at5 .ensures) (c .before .before .before .before .before .word-at6 .ensures))
+    (word 12 _ _ (omega arith) (c .before .before .before .before .word-at7 .ensures) (c .before .before .before .word-at8 .ensures)))
 
 pub put-long-spec : {M : Type 1} → statement M
 put-long-spec =
     tie.close
     (tie.spec
-    id-size-requires
-    add-b
-    half-at-requires
-    sub-first-half
-    first-half-requires
-    add-half-at
-    half-at-requires-2
-    sub-second-half
-    second-half-requires
-    cast-put-words
-    cast-put-words-2
-    cast-put-words-3
-    cast-put-words-4
-    put-words-requires
+    sub-if1
+    sub-put-exact
+    part-put-exact-start
+    part-put-exact-end
+    put-exact-requires
     same-length
-    returns)
+    returns
+    sub-m
+    sub-m-2
+    sub-t
+    part-t-start
+    part-t-end
+    sub-u
+    part-u-start
+    part-u-end
+    word-at-requires
+    word-at-requires-2
+    word-at-requires-3
+    word-at-requires-4
+    word-at-requires-5
+    word-at-requires-6
+    word-at-requires-7
+    word-at-requires-8
+    put-words-requires
+    same-length-2
+    returns-2)
