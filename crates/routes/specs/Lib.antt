@@ -4,4 +4,5 @@ pub mod Promises
 pub mod Size
 pub mod PrefixLaws
 pub mod ListLaws
+pub mod Seat
 pub mod Tight

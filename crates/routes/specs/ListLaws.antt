@@ -10,15 +10,15 @@ use native.Mathlib.Nat.{not-suc-le-zero}
 use borrow.Author.Tests.{le-leb, lt-leb}
 use lib.ListN.{length, getD, take, drop}
 use Rattle.wire.specs.Choice.{pick-leb}
-use Rattle.wire.specs.Refusal.{tooLong, oneByteSection, noRoom, listLimit}
+use Rattle.wire.specs.Refusal.{tooLong, oneByteSection, noRoom, pastAll, listLimit}
 use Rattle.wire.specs.Store.{laid}
-use Rattle.wire.specs.Turn.{rest, Light, Counted, turn-fits, count-step, count-stop}
+use Rattle.wire.specs.Turn.{rest, Light, Counted, turn-fits, count-start, count-step, count-stop, count-done}
 use Rattle.wire.specs.Walk.{readAll, Step, took, stop, Reading, refused, tally, flat}
 use Rattle.wire.specs.WalkLaws.{Sound, tally-one, flat-length, all-blind}
 use Rattle.routes.specs.Prefix.{itemRow, words, prefixOf}
 use Rattle.routes.specs.PrefixLaws.{Took, prefix-took, prefix-names}
 use Rattle.routes.specs.List.{asStep, inForm, plainHere, tried, guessForm, formBy, fixed, stepOf, listOf, strange, sectionOf}
-use Rattle.routes.specs.Promises.{answerBy, countAnswer, readAnswer, filled, storeAfter}
+use Rattle.routes.specs.Promises.{answerBy, countAnswer, unpacked, readAnswer, filled, storeAfter}
 use Rattle.routes.specs.Size.{sizeOf, sized, kept}
 use Rattle.families.specs.declared.Form.{Form}
 use Rattle.families.specs.declared.Form.the-variants.{Plain, Tagged}
@@ -47,7 +47,7 @@ form-took s max form (P.Prefix u r) used row st e f =
     rw here at (prefix-took s max form used row (e ∙ ap₂ P.Prefix size same))
 form-took s max form (P.Refused n) used row st e f = let z : _≡_ {A = ℕ} 0 1 = cc in absurd (zero-ne-one z)
 
-form-names : (s : List ℕ) (max : ℕ) (form : Form) (a : PrefixAnswer) (n : ℕ) → prefixOf s max form ≡ a → asStep form a ≡ stop n → 0 < n
+form-names : (s : List ℕ) (max : ℕ) (form : Form) (a : PrefixAnswer) (n : ℕ) → prefixOf s max form ≡ a → asStep form a ≡ stop n → (0 < n) × (n < pastAll)
 form-names s max form (P.Prefix u r) n e f = let z : _≡_ {A = ℕ} 0 1 = cc in absurd (zero-ne-one z)
 form-names s max form (P.Refused m) n e f = let same : m ≡ n = cc in prefix-names s max form n (e ∙ ap P.Refused same)
 
@@ -69,7 +69,7 @@ pub sound : (max : ℕ) (mode : AddPath) → Sound (stepOf max mode)
 unfolding stepOf inForm
 sound max mode = record {
   takes = λ st st′ s used row e. (let t = form-took s max (formBy max mode st s) _ used row st′ refl e in (omega (arith, t .size), t .room));
-  names = λ st s n e. form-names s max (formBy max mode st s) _ n refl e;
+  names = λ st s n e. form-names s max (formBy max mode st s) _ n refl e .0;
 }
 
 -- a row weighs one in a count
@@ -143,11 +143,9 @@ fixed-form max Tagged st s = refl
 pub size-fixed : (max : ℕ) (form : Form) (s : List ℕ) (size : SizeAnswer) → size ≡ sizeOf (prefixOf s max form) → kept size form ≡ sized (stepOf max (fixed form) form s)
 size-fixed max form s size e = size-step max (fixed form) form form s size e (fixed-form max form form s)
 
--- and so is the state that a step under it leaves
-pub fixed-next : (max : ℕ) (form st next : Form) (s : List ℕ) (used : ℕ) → sized (stepOf max (fixed form) st s) ≡ S.Item used next → next ≡ form
-fixed-next max form st next s used e =
-    let u = unsize (stepOf max (fixed form) st s) used next e in
-    sym (step-form max (fixed form) st next s used (u .0) (u .1)) ∙ fixed-form max form st s
+pub fixed-step : (max : ℕ) (form st : Form) (s : List ℕ) → stepOf max (fixed form) st s ≡ asStep form (prefixOf s max form)
+unfolding stepOf inForm
+fixed-step max form st s = ap (λ (f : Form). asStep f (prefixOf s max f)) (fixed-form max form st s)
 
 -- so that its walk may as well start in that form
 pub list-fixed : (s : List ℕ) (max : ℕ) (form : Form) → listOf s max (fixed form) ≡ readAll (stepOf max (fixed form)) form s
@@ -169,6 +167,14 @@ answer-rows (suc v) n m e = let z : _≡_ {A = ℕ} 0 1 = cc in absurd (zero-ne-
 answer-refused : (n m : ℕ) → 0 < n → answerBy n m ≡ L.Refused n
 answer-refused zero m h = absurd (not-suc-le-zero h)
 answer-refused (suc n) m h = refl
+
+pub unpacked-count : (v : ℕ) → pastAll ≤ v → unpacked v ≡ L.Rows (v - pastAll)
+unfolding unpacked
+unpacked-count v h = rw (le-leb pastAll v h)
+
+pub unpacked-refused : (v : ℕ) → v < pastAll → unpacked v ≡ L.Refused v
+unfolding unpacked
+unpacked-refused v h = rw (lt-leb pastAll v h)
 
 module _ (s : List ℕ) (r : Reading Row) where
   pub count-long : listLimit < length s → countAnswer s r ≡ L.Refused tooLong
@@ -224,20 +230,40 @@ module _ (s : List ℕ) (at max : ℕ) (mode : AddPath) (st : Form) (r : StepAns
   pub turn-refused : (n : ℕ) → r ≡ S.Refused n → stepOf max mode st (drop at s) ≡ stop n
   turn-refused n f = unsize-stop (stepOf max mode st (drop at s)) n (here ∙ f)
 
-  -- of a loop that counts
-  module _ (st₀ : Form) (count : ℕ) (h : Counted (stepOf max mode) (λ _. 1) 1 st₀ s st at count) where
-    pub counted-next : (used : ℕ) (form : Form) → r ≡ S.Item used form
-        → (0 < used) × (at + used ≤ length s) × Counted (stepOf max mode) (λ _. 1) 1 st₀ s form (at + used) (count + 1)
-    counted-next used form f =
-        let step = turn-took used form f in
-        let fits = turn-fits (stepOf max mode) (sound max mode) s st at form used _ step (h .within) in
-        (fits .0, fits .1, count-step (stepOf max mode) (sound max mode) (λ _. 1) 1 (light max mode) st₀ s st at count h form used _ step)
+-- ---- a loop that counts in one number
 
-    pub counted-refused : (n : ℕ) → length s ≤ listLimit → at < length s → r ≡ S.Refused n → countAnswer s (readAll (stepOf max mode) st₀ s) ≡ L.Refused n
-    counted-refused n small lt f =
-        let step = turn-refused n f in
-        count-bad s (readAll (stepOf max mode) st₀ s) n small (count-stop (stepOf max mode) (sound max mode) (λ _. 1) 1 (light max mode) st₀ s st at count h n lt step)
-        (sound max mode .names st (drop at s) n step)
+-- at its head: the count is `pastAll` and the rows before `at`
+pub record Packed (max : ℕ) (mode : AddPath) (st₀ : Form) (s : List ℕ) (st : Form) (at count : ℕ) : Type 0 where
+  pub past : pastAll ≤ count
+  pub counted : Counted (stepOf max mode) (λ _. 1) 1 st₀ s st at (count - pastAll)
+
+module _ (max : ℕ) (mode : AddPath) (st₀ : Form) (s : List ℕ) where
+  pub packed-start : Packed max mode st₀ s st₀ 0 pastAll
+  packed-start = record { past = omega arith; counted = count-start (stepOf max mode) (sound max mode) (λ _. 1) 1 (light max mode) st₀ s }
+
+  module _ (st : Form) (at count : ℕ) (h : Packed max mode st₀ s st at count) where
+    pub packed-step : (used : ℕ) (row : Row) (st′ : Form) → stepOf max mode st (drop at s) ≡ took used row st′
+        → (0 < used) × (at + used ≤ length s) × Packed max mode st₀ s st′ (at + used) (count + 1)
+    packed-step used row st′ e =
+        let fits = turn-fits (stepOf max mode) (sound max mode) s st at st′ used row e (h .counted .within) in
+        let more : count - pastAll + 1 ≡ count + 1 - pastAll = omega (arith, h .past) in
+        let next = count-step (stepOf max mode) (sound max mode) (λ _. 1) 1 (light max mode) st₀ s st at (count - pastAll) (h .counted) st′ used row e in
+        (fits .0, fits .1, record { past = omega (arith, h .past); counted = rw more at next })
+
+    module _ (small : length s ≤ listLimit) where
+      pub packed-stop : (n : ℕ) → at < length s → stepOf max mode st (drop at s) ≡ stop n → unpacked n ≡ countAnswer s (readAll (stepOf max mode) st₀ s)
+      unfolding stepOf inForm
+      packed-stop n lt e =
+          let named = form-names (drop at s) max (formBy max mode st (drop at s)) _ n refl e in
+          unpacked-refused n (named .1)
+          ∙ sym (count-bad s (readAll (stepOf max mode) st₀ s) n small
+          (count-stop (stepOf max mode) (sound max mode) (λ _. 1) 1 (light max mode) st₀ s st at (count - pastAll) (h .counted) n lt e) (named .0))
+
+      pub packed-done : length s ≤ at → unpacked count ≡ countAnswer s (readAll (stepOf max mode) st₀ s)
+      packed-done le =
+          unpacked-count count (h .past)
+          ∙ sym (count-good s (readAll (stepOf max mode) st₀ s) (count - pastAll) small
+          (count-done (stepOf max mode) (sound max mode) (λ _. 1) 1 (light max mode) st₀ s st at (count - pastAll) (h .counted) le))
 
 -- ---- a section
 

@@ -11,7 +11,7 @@ use Rattle.wire.specs.Choice.{pick-leb}
 use Rattle.wire.specs.Number.{be, beAt, padded}
 use Rattle.wire.specs.NumberLaws.{padded-take}
 use Rattle.wire.specs.Parts.{drop-take}
-use Rattle.wire.specs.Refusal.{truncated, prefixLength}
+use Rattle.wire.specs.Refusal.{truncated, prefixLength, pastAll}
 use Rattle.families.specs.Family.{idSize, markOf, octets}
 use Rattle.routes.specs.Prefix.{wordAt, itemEnd, rowOf, itemRow, prefixOf}
 use Rattle.families.specs.declared.Form.{Form}
@@ -96,12 +96,12 @@ prefix-short s max form there fits h =
     let l : ℕ = getD s k 0 in
     simp (lt-ltb k (length s) there, le-leb l max fits, lt-leb (k + 1 + octets l) (length s) h)
 
--- a refusal has a number
-pub prefix-names : (s : List ℕ) (max : ℕ) (form : Form) (n : ℕ) → prefixOf s max form ≡ Refused n → 0 < n
+-- a refusal has a number, and one that is told from a count
+pub prefix-names : (s : List ℕ) (max : ℕ) (form : Form) (n : ℕ) → prefixOf s max form ≡ Refused n → (0 < n) × (n < pastAll)
 prefix-names s max form n =
-    prefix-cases s max form (λ a. a ≡ Refused n → 0 < n)
-    (λ e. let same : truncated ≡ n = cc in omega arith)
-    (λ e. let same : prefixLength ≡ n = cc in omega arith)
+    prefix-cases s max form (λ a. a ≡ Refused n → (0 < n) × (n < pastAll))
+    (λ e. let same : truncated ≡ n = cc in (omega arith, omega arith))
+    (λ e. let same : prefixLength ≡ n = cc in (omega arith, omega arith))
     (λ u r t e. let z : _≡_ {A = ℕ} 0 1 = cc in absurd (zero-ne-one z))
 
 -- ---- the row of an item, from where its parts stand

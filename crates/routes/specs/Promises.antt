@@ -1,11 +1,11 @@
 -- What the calls on a list or a section answer and leave, from the bytes and from the reading of them that `List` defines.
-use Prim.Native.Nat.{ℕ, zero, suc, _/_, _≤_}
+use Prim.Native.Nat.{ℕ, zero, suc, _-_, _/_, _≤_}
 use mathlib.Core.Path.{_≡_}
 use mathlib.Core.List.{List}
 use lib.ListN.{length}
 use lib.Dec.{leb}
 use Rattle.wire.specs.Choice.{pick}
-use Rattle.wire.specs.Refusal.{tooLong, noRoom, listLimit}
+use Rattle.wire.specs.Refusal.{tooLong, noRoom, pastAll, listLimit}
 use Rattle.wire.specs.Store.{laid}
 use Rattle.wire.specs.Walk.{Reading, flat}
 use Rattle.routes.specs.Prefix.{words}
@@ -21,6 +21,10 @@ answerBy (suc n) count = Refused (suc n)
 -- counting: 1 first, then what the reading says
 unfoldable pub countAnswer : List ℕ → Reading Row → ListAnswer
 countAnswer s r = pick (leb (length s) listLimit) (answerBy (r .verdict) (length (r .rows))) (Refused tooLong)
+
+-- the answer that one number stands for: a refusal number, or the count from `pastAll` on
+unfoldable pub unpacked : ℕ → ListAnswer
+unpacked v = pick (leb pastAll v) (Rows (v - pastAll)) (Refused v)
 
 -- reading into a store of so many places: 11 last; room is a sixth of the places, rounded down
 abbrev pub roomed : ListAnswer → ℕ → ListAnswer

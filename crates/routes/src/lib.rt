@@ -9,7 +9,7 @@ ghost use Rattle.routes.specs.Prefix.{itemRow, prefixOf};
 ghost use Rattle.routes.specs.PrefixLaws.{Bounded};
 ghost use Rattle.routes.specs.List.{plainHere, fixed, stepOf, listOf, sectionOf, strange};
 ghost use Rattle.routes.specs.Size.{sizeOf, sized, kept};
-ghost use Rattle.routes.specs.Promises.{countAnswer};
+ghost use Rattle.routes.specs.Promises.{countAnswer, unpacked};
 use families::AddPath;
 use families::Afi;
 use families::Form;
@@ -50,7 +50,7 @@ pub enum StepAnswer {
 }
 
 // How many bytes the item at the front takes.
-fn item_size(s: &[u8], max: u8, form: Form) -> SizeAnswer
+fn front_size(s: &[u8], max: u8, form: Form) -> SizeAnswer
     ensures { λ r. ⌜ r ≡ sizeOf (prefixOf (now (s .entry)) max form) ⌝ }
 {
     let k = families::id_size(form);
@@ -61,7 +61,7 @@ fn item_size(s: &[u8], max: u8, form: Form) -> SizeAnswer
     if max < l {
         return SizeAnswer::Refused(refusal::PREFIX_LENGTH);
     }
-    let e = k + 1 + families::octet_count(l);
+    let e = families::item_size(l, form);
     if s.len() < e {
         return SizeAnswer::Refused(refusal::TRUNCATED);
     }
@@ -101,7 +101,7 @@ pub fn try_parse_prefix(s: &[u8], afi: Afi, form: Form) -> PrefixAnswer
     ensures answer { λ r. ⌜ r ≡ prefixOf (now (s .entry)) (maxOf afi) form ⌝ }
 {
     let max = families::max_len(afi);
-    match item_size(s, max, form) {
+    match front_size(s, max, form) {
         SizeAnswer::Size(used) => PrefixAnswer::Prefix {
             used,
             row: row_of(s, used, form),
@@ -135,14 +135,14 @@ fn guess_size(s: &[u8], max: u8, form: Form) -> StepAnswer
     ensures { λ r. ⌜ r ≡ sized (stepOf max AddPath.Guess form (now (s .entry))) ⌝ }
 {
     if plain_here(s, form) {
-        return keep_size(item_size(s, max, Form::Plain), Form::Plain);
+        return keep_size(front_size(s, max, Form::Plain), Form::Plain);
     }
-    match item_size(s, max, Form::Tagged) {
+    match front_size(s, max, Form::Tagged) {
         SizeAnswer::Size(used) => StepAnswer::Item {
             used,
             form: Form::Tagged,
         },
-        SizeAnswer::Refused(_) => keep_size(item_size(s, max, Form::Plain), Form::Plain),
+        SizeAnswer::Refused(_) => keep_size(front_size(s, max, Form::Plain), Form::Plain),
     }
 }
 
@@ -150,7 +150,7 @@ fn guess_size(s: &[u8], max: u8, form: Form) -> StepAnswer
 fn form_size(s: &[u8], max: u8, form: Form) -> StepAnswer
     ensures { λ r. ⌜ r ≡ sized (stepOf max (fixed form) form (now (s .entry))) ⌝ }
 {
-    keep_size(item_size(s, max, form), form)
+    keep_size(front_size(s, max, form), form)
 }
 
 // A step under a setting.
@@ -164,34 +164,37 @@ pub fn item_step(s: &[u8], max: u8, mode: AddPath, form: Form) -> StepAnswer
     }
 }
 
-// How many rows a list has whose items all stand in one form.
-fn count_form(s: &[u8], max: u8, form: Form) -> ListAnswer
+// How many rows a list has whose items all stand in one form, in one number. It goes from length byte to length byte: an item that is
+// not all there is the last, and alone leaves the place elsewhere than at the end.
+fn count_form(s: &[u8], max: u8, form: Form) -> usize
     requires { ⌜ length (now s) ≤ listLimit ⌝ }
-    ensures { λ r. ⌜ r ≡ countAnswer (now (s .entry)) (listOf (now (s .entry)) max (fixed form)) ⌝ }
+    ensures { λ r. ⌜ unpacked r ≡ countAnswer (now (s .entry)) (listOf (now (s .entry)) max (fixed form)) ⌝ }
 {
-    let mut at: usize = 0;
-    let mut count: usize = 0;
-    while at < s.len() {
-        match form_size(&s[at..], max, form) {
-            StepAnswer::Item { used, form: _ } => {
-                at = at + used;
-                count = count + 1;
-            }
-            StepAnswer::Refused(n) => {
-                return ListAnswer::Refused(n);
-            }
+    let k = families::id_size(form);
+    let mut seat: usize = k;
+    let mut count: usize = refusal::PAST_ALL;
+    while seat < s.len() {
+        let len = s[seat];
+        if max < len {
+            return refusal::PREFIX_LENGTH as usize;
         }
+        seat = seat + families::item_size(len, form);
+        count = count + 1;
     }
-    ListAnswer::Rows(count)
+    if seat == s.len() + k {
+        count
+    } else {
+        refusal::TRUNCATED as usize
+    }
 }
 
-// How many rows a list has by the guess.
-fn count_guess(s: &[u8], max: u8) -> ListAnswer
+// How many rows a list has by the guess, in one number.
+fn count_guess(s: &[u8], max: u8) -> usize
     requires { ⌜ length (now s) ≤ listLimit ⌝ }
-    ensures { λ r. ⌜ r ≡ countAnswer (now (s .entry)) (listOf (now (s .entry)) max AddPath.Guess) ⌝ }
+    ensures { λ r. ⌜ unpacked r ≡ countAnswer (now (s .entry)) (listOf (now (s .entry)) max AddPath.Guess) ⌝ }
 {
     let mut at: usize = 0;
-    let mut count: usize = 0;
+    let mut count: usize = refusal::PAST_ALL;
     let mut form = Form::Plain;
     while at < s.len() {
         match guess_size(&s[at..], max, form) {
@@ -201,24 +204,26 @@ fn count_guess(s: &[u8], max: u8) -> ListAnswer
                 form = next;
             }
             StepAnswer::Refused(n) => {
-                return ListAnswer::Refused(n);
+                return n as usize;
             }
         }
     }
-    ListAnswer::Rows(count)
+    count
 }
 
-// How many rows a list has under a setting.
-fn count_rows(s: &[u8], max: u8, mode: AddPath) -> ListAnswer
-    ensures { λ r. ⌜ r ≡ countAnswer (now (s .entry)) (listOf (now (s .entry)) max mode) ⌝ }
+// How many rows a list has under a setting, in one number.
+fn count_rows(s: &[u8], max: u8, mode: AddPath) -> usize
+    ensures { λ r. ⌜ unpacked r ≡ countAnswer (now (s .entry)) (listOf (now (s .entry)) max mode) ⌝ }
 {
-    if wire::LIST_LIMIT < s.len() {
-        return ListAnswer::Refused(refusal::TOO_LONG);
+    // So that the slice is handed on in registers.
+    let whole = &s[..];
+    if wire::LIST_LIMIT < whole.len() {
+        return refusal::TOO_LONG as usize;
     }
     match mode {
-        AddPath::On => count_form(s, max, Form::Tagged),
-        AddPath::Off => count_form(s, max, Form::Plain),
-        AddPath::Guess => count_guess(s, max),
+        AddPath::On => count_form(whole, max, Form::Tagged),
+        AddPath::Off => count_form(whole, max, Form::Plain),
+        AddPath::Guess => count_guess(whole, max),
     }
 }
 
@@ -226,7 +231,15 @@ fn count_rows(s: &[u8], max: u8, mode: AddPath) -> ListAnswer
 pub fn count_nlri_list(s: &[u8], afi: Afi, mode: AddPath) -> ListAnswer
     ensures answer { λ r. ⌜ r ≡ countAnswer (now (s .entry)) (listOf (now (s .entry)) (maxOf afi) mode) ⌝ }
 {
-    count_rows(s, families::max_len(afi), mode)
+    // Two calls: so this function is copied into its callers, and the number stays in a register.
+    let n = match afi {
+        Afi::Ipv4 => count_rows(s, families::max_len(Afi::Ipv4), mode),
+        Afi::Ipv6 => count_rows(s, families::max_len(Afi::Ipv6), mode),
+    };
+    if n < refusal::PAST_ALL {
+        return ListAnswer::Refused(n as u8);
+    }
+    ListAnswer::Rows(n - refusal::PAST_ALL)
 }
 
 // Whether a section is one byte, and not 0.

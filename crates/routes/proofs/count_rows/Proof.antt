@@ -1,12 +1,17 @@
-use mathlib.Core.Path.{sym}
+use mathlib.Core.Path.{sym, _∙_}
+use native.Mathlib.Omega.{arith}
+use Rattle.wire.specs.Refusal.{tooLong}
 use Rattle.routes.specs.List.{listOf}
-use Rattle.routes.specs.ListLaws.{count-long}
+use Rattle.routes.specs.ListLaws.{unpacked-refused, count-long}
 use borrow.Author.Needs.{needs}
 use Rattle.routes.proofs.count_rows.Statement.{statement}
 use Rattle.routes.proofs.count_rows.Tie as tie
 
+cast-result : tie.Need-cast-result
+cast-result c = search needs
+
 returns : tie.Need-returns
-returns c = let a = c .before .before .args in sym (count-long (a .s .now) (listOf (a .s .now) (a .max) (a .mode)) (c .if1 .taken))
+returns c = let a = c .before .before .args in unpacked-refused tooLong (omega arith) ∙ sym (count-long (a .s .now) (listOf (a .s .now) (a .max) (a .mode)) (c .if1 .taken))
 
 enum-told : tie.Need-enum-told
 enum-told c = search needs
@@ -39,6 +44,7 @@ pub count-rows-spec : {M : Type 1} → statement M
 count-rows-spec =
     tie.close
     (tie.spec
+    cast-result
     returns
     enum-told
     count-form-requires

@@ -4,14 +4,14 @@ use borrow.Author.Needs.{needs}
 use Rattle.routes.proofs.form_size.Statement.{statement}
 use Rattle.routes.proofs.form_size.Tie as tie
 
-item-size-requires : tie.Need-item-size-requires
-item-size-requires c κs = search needs
+front-size-requires : tie.Need-front-size-requires
+front-size-requires c κs = search needs
 
 keep-size-requires : tie.Need-keep-size-requires
 keep-size-requires c κs = search needs
 
 returns : tie.Need-returns
-returns c = let a = c .before .before .before .args in c .keep-size .ensures ∙ size-fixed (a .max) (a .form) (a .s .now) _ (c .before .item-size .ensures)
+returns c = let a = c .before .before .before .args in c .keep-size .ensures ∙ size-fixed (a .max) (a .form) (a .s .now) _ (c .before .front-size .ensures)
 
 pub form-size-spec : {M : Type 1} → statement M
-form-size-spec = tie.close (tie.spec item-size-requires keep-size-requires returns)
+form-size-spec = tie.close (tie.spec front-size-requires keep-size-requires returns)

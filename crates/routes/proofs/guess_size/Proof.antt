@@ -9,8 +9,8 @@ use Rattle.routes.proofs.guess_size.Tie as tie
 plain-here-requires : tie.Need-plain-here-requires
 plain-here-requires c κs = search needs
 
-item-size-requires : tie.Need-item-size-requires
-item-size-requires c κs = search needs
+front-size-requires : tie.Need-front-size-requires
+front-size-requires c κs = search needs
 
 keep-size-requires : tie.Need-keep-size-requires
 keep-size-requires c κs = search needs
@@ -19,11 +19,11 @@ returns : tie.Need-returns
 returns c =
     let a = c .before .before .before .before .before .args in
     c .keep-size .ensures
-    ∙ size-step (a .max) Guess (a .form) Plain (a .s .now) _ (c .before .item-size .ensures)
+    ∙ size-step (a .max) Guess (a .form) Plain (a .s .now) _ (c .before .front-size .ensures)
     (guess-plain (a .max) (a .form) (a .s .now) (sym (c .before .before .before .plain-here .ensures) ∙ c .before .before .if1 .taken))
 
-item-size-requires-2 : tie.Need-item-size-requires-2
-item-size-requires-2 c κs = search needs
+front-size-requires-2 : tie.Need-front-size-requires-2
+front-size-requires-2 c κs = search needs
 
 enum-known-used : tie.Need-enum-known-used
 enum-known-used c = search needs
@@ -31,8 +31,8 @@ enum-known-used c = search needs
 enum-told : tie.Need-enum-told
 enum-told c = search needs
 
-item-size-requires-3 : tie.Need-item-size-requires-3
-item-size-requires-3 c κs = search needs
+front-size-requires-3 : tie.Need-front-size-requires-3
+front-size-requires-3 c κs = search needs
 
 keep-size-requires-2 : tie.Need-keep-size-requires-2
 keep-size-requires-2 c κs = search needs
@@ -40,16 +40,16 @@ keep-size-requires-2 c κs = search needs
 returns-2 : tie.Need-returns-2
 returns-2 c =
     let a = c .before .before .before .before .before .before .before .args in
-    let tried = sym (c .before .before .before .item-size2 .ensures) ∙ c .before .used .given .1 in
+    let tried = sym (c .before .before .before .front-size2 .ensures) ∙ c .before .used .given .1 in
     size-step (a .max) Guess (a .form) Tagged (a .s .now) _ (sym tried)
     (guess-tagged (a .max) (a .form) (a .s .now) _ (sym (c .before .before .before .before .before .plain-here .ensures) ∙ c .before .before .before .before .if1 .left) tried)
 
 returns-3 : tie.Need-returns-3
 returns-3 c =
     let a = c .before .before .before .before .before .before .before .before .args in
-    let tried = sym (c .before .before .before .before .item-size2 .ensures) ∙ c .before .before .enum-told .given .1 in
+    let tried = sym (c .before .before .before .before .front-size2 .ensures) ∙ c .before .before .enum-told .given .1 in
     c .keep-size2 .ensures
-    ∙ size-step (a .max) Guess (a .form) Plain (a .s .now) _ (c .before .item-size3 .ensures)
+    ∙ size-step (a .max) Guess (a .form) Plain (a .s .now) _ (c .before .front-size3 .ensures)
     (guess-else (a .max) (a .form) (a .s .now) _ (sym (c .before .before .before .before .before .before .plain-here .ensures) ∙ c .before .before .before .before .before .if1 .left) tried)
 
 pub guess-size-spec : {M : Type 1} → statement M
@@ -57,13 +57,13 @@ guess-size-spec =
     tie.close
     (tie.spec
     plain-here-requires
-    item-size-requires
+    front-size-requires
     keep-size-requires
     returns
-    item-size-requires-2
+    front-size-requires-2
     enum-known-used
     enum-told
-    item-size-requires-3
+    front-size-requires-3
     keep-size-requires-2
     returns-2
     returns-3)
