@@ -1,12 +1,12 @@
 -- Laws of the header: its marker as words, and the checks one after another.
 -- Assumes nothing.
-use Prim.Native.Nat.{ℕ, _+_, _-_, _≤_, _<_}
+use Prim.Native.Nat.{ℕ, zero, suc, _+_, _-_, _*_, _^_, _/_, _%_, _≤_, _<_}
 use mathlib.Core.Path.{_≡_, refl, sym, ap, _∙_}
 use mathlib.Core.List.{List, [], _∷_, _++_}
 use mathlib.Core.Bool.{Bool, true, false, not}
 use native.Mathlib.Nat.{le-min, min-le-right}
 use native.Mathlib.Omega.{arith}
-use borrow.Author.Tests.{eq-eqb, ne-eqb, le-ltb, ltb-false, not-false}
+use borrow.Author.Tests.{eq-eqb, ne-eqb, lt-ltb, le-ltb, ltb-false, not-false}
 use denote.Ref.{RefT}
 use lib.ListN.{length, getD, drop}
 use lib.Dec.{eqb, ltb}
@@ -72,39 +72,50 @@ marker-words s long = ap allFF (sym (padded-take markerSize s long) ∙ sym (pad
 
 -- ---- lengths of a type
 
--- no type has a limit under that of RFC 4271, or a least length over an OPEN's
+-- no type has a limit under that of RFC 4271
 pub limit-least : (kind : ℕ) → messageLimit ≤ crateLimit kind
 unfolding crateLimit
 limit-least kind =
     let P : ℕ → Type 0 = λ n. messageLimit ≤ n in
     pick-any P (eqb kind openKind) messageLimit _ (omega arith) (pick-any P (eqb kind keepaliveKind) messageLimit extendedLimit (omega arith) (omega arith))
 
-pub least-most : (kind : ℕ) → leastLength kind ≤ 29
+-- the least lengths of the types 0 to 5, one to a byte, the lowest first
+abbrev pub leastLengths : ℕ
+leastLengths = 25370725653779
+
+pub least-shifted : (kind : ℕ) → kind ≤ routeRefreshKind → leastLengths / 2 ^ (8 * kind) % 256 ≡ leastLength kind
 unfolding leastLength
-least-most kind =
-    let P : ℕ → Type 0 = λ n. n ≤ 29 in
-    pick-any P (eqb kind openKind) 29 _ (omega arith)
-    (pick-any P (eqb kind updateKind) 23 _ (omega arith)
-    (pick-any P (eqb kind notificationKind) 21 _ (omega arith)
-    (pick-any P (eqb kind routeRefreshKind) 23 headerSize (omega arith) (omega arith))))
+least-shifted zero h = refl
+least-shifted (suc zero) h = refl
+least-shifted (suc (suc zero)) h = refl
+least-shifted (suc (suc (suc zero))) h = refl
+least-shifted (suc (suc (suc (suc zero)))) h = refl
+least-shifted (suc (suc (suc (suc (suc zero))))) h = refl
+least-shifted (suc (suc (suc (suc (suc (suc kind)))))) h = absurd (omega arith)
+
+pub least-other : (kind : ℕ) → routeRefreshKind < kind → leastLength kind ≡ headerSize
+unfolding leastLength
+least-other kind h =
+    simp (
+      ne-eqb kind openKind (λ e. omega arith),
+      ne-eqb kind updateKind (λ e. omega arith),
+      ne-eqb kind notificationKind (λ e. omega arith),
+      ne-eqb kind routeRefreshKind (λ e. omega arith),
+    )
 
 -- all types but a KEEPALIVE are held to the crate's limit
 pub most-limit : (kind : ℕ) → eqb kind keepaliveKind ≡ false → mostLength kind ≡ crateLimit kind
 unfolding mostLength
 most-limit kind e = rw e
 
--- of two bounds, the one that can be passed tells
+-- over the lower bound the upper one tells, and under it nothing else does
 pub outside-high : (lo hi n : ℕ) → lo ≤ n → isOutside lo hi n ≡ ltb hi n
 unfolding isOutside
 outside-high lo hi n h = rw (le-ltb n lo h)
 
-pub outside-low : (lo hi n : ℕ) → n ≤ hi → isOutside lo hi n ≡ ltb n lo
+pub outside-low : (lo hi n : ℕ) → n < lo → isOutside lo hi n ≡ true
 unfolding isOutside
-outside-low lo hi n h = rw (le-ltb hi n h) (by-test (ltb n lo))
-  where
-    by-test : (t : Bool) → pick t true false ≡ t
-    by-test true = refl
-    by-test false = refl
+outside-low lo hi n h = rw (lt-ltb n lo h)
 
 -- ---- the checks
 

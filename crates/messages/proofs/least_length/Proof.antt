@@ -1,27 +1,27 @@
-use Rattle.messages.specs.Header.{leastLength}
-use borrow.Author.Tests.{eq-eqb, ne-eqb}
+use mathlib.Core.Path.{sym}
+use Rattle.messages.specs.HeaderLaws.{least-shifted, least-other}
+use borrow.Author.Needs.{needs}
 use Rattle.messages.proofs.least_length.Statement.{statement}
 use Rattle.messages.proofs.least_length.Tie as tie
 
 returns : tie.Need-returns
-unfolding leastLength
-returns c = simp (eq-eqb _ _ (c .if1 .taken))
+returns c = sym (least-other (c .before .args .kind) (c .if1 .taken))
+
+mul-result : tie.Need-mul-result
+mul-result c = search needs
+
+cast-result : tie.Need-cast-result
+cast-result c = search needs
+
+cast-result-2 : tie.Need-cast-result-2
+cast-result-2 c = search needs
+
+shr-result : tie.Need-shr-result
+shr-result c = search needs
 
 returns-2 : tie.Need-returns-2
-unfolding leastLength
-returns-2 c = simp (ne-eqb _ _ (c .before .if1 .left), eq-eqb _ _ (c .if2 .taken))
-
-returns-3 : tie.Need-returns-3
-unfolding leastLength
-returns-3 c = simp (ne-eqb _ _ (c .before .before .if1 .left), ne-eqb _ _ (c .before .if2 .left), eq-eqb _ _ (c .if3 .taken))
-
-returns-4 : tie.Need-returns-4
-unfolding leastLength
-returns-4 c = simp (ne-eqb _ _ (c .before .before .before .if1 .left), ne-eqb _ _ (c .before .before .if2 .left), ne-eqb _ _ (c .before .if3 .left), eq-eqb _ _ (c .if4 .taken))
-
-returns-5 : tie.Need-returns-5
-unfolding leastLength
-returns-5 c = simp (ne-eqb _ _ (c .before .before .before .if1 .left), ne-eqb _ _ (c .before .before .if2 .left), ne-eqb _ _ (c .before .if3 .left), ne-eqb _ _ (c .if4 .left))
+returns-2 c = least-shifted (c .before .args .kind) (c .if1 .left)
 
 pub least-length-spec : {M : Type 1} → statement M
-least-length-spec = tie.close (tie.spec returns returns-2 returns-3 returns-4 returns-5)
+least-length-spec =
+    tie.close (tie.spec returns mul-result cast-result cast-result-2 shr-result returns-2)

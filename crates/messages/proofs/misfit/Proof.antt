@@ -4,7 +4,7 @@ use native.Mathlib.Omega.{arith}
 use lib.Dec.{ltb}
 use borrow.Author.Tests.{ne-eqb}
 use Rattle.messages.specs.Header.{leastLength, mostLength}
-use Rattle.messages.specs.HeaderLaws.{limit-least, least-most, most-limit, outside-high, outside-low}
+use Rattle.messages.specs.HeaderLaws.{most-limit, outside-high, outside-low}
 use borrow.Author.Needs.{needs}
 use Rattle.messages.proofs.misfit.Statement.{statement}
 use Rattle.messages.proofs.misfit.Tie as tie
@@ -16,28 +16,24 @@ returns : tie.Need-returns
 unfolding leastLength mostLength
 returns c = rw (c .before .if1 .taken) (c .outside .ensures)
 
-over-limit-requires : tie.Need-over-limit-requires
-over-limit-requires c κs = search needs
+least-length-requires : tie.Need-least-length-requires
+least-length-requires c κs = search needs
 
 returns-2 : tie.Need-returns-2
 returns-2 c =
     let a = c .before .before .before .args in
-    let n = a .n in
-    let most = most-limit (a .kind) (ne-eqb _ _ (c .before .before .if1 .left)) in
-    c .over-limit .ensures
-    ∙ ap (λ (m : ℕ). ltb m n) (sym most)
-    ∙ sym (outside-high (leastLength (a .kind)) (mostLength (a .kind)) n (omega (arith, least-most (a .kind), c .before .if2 .taken)))
+    sym (outside-low (leastLength (a .kind)) (mostLength (a .kind)) (a .n) (omega (arith, c .before .least-length .ensures, c .if2 .taken)))
 
-least-length-requires : tie.Need-least-length-requires
-least-length-requires c κs = search needs
+over-limit-requires : tie.Need-over-limit-requires
+over-limit-requires c κs = search needs
 
 returns-3 : tie.Need-returns-3
 returns-3 c =
-    let a = c .before .before .before .args in
-    let n = a .n in
-    let most = most-limit (a .kind) (ne-eqb _ _ (c .before .before .if1 .left)) in
-    ap (ltb n) (c .least-length .ensures)
-    ∙ sym (outside-low (leastLength (a .kind)) (mostLength (a .kind)) n (omega (arith, most, limit-least (a .kind), c .before .if2 .left)))
+    let a = c .before .before .before .before .args in
+    let most = most-limit (a .kind) (ne-eqb _ _ (c .before .before .before .if1 .left)) in
+    c .over-limit .ensures
+    ∙ ap (λ (m : ℕ). ltb m (a .n)) (sym most)
+    ∙ sym (outside-high (leastLength (a .kind)) (mostLength (a .kind)) (a .n) (omega (arith, c .before .before .least-length .ensures, c .before .if2 .left)))
 
 pub misfit-spec : {M : Type 1} → statement M
 misfit-spec =
@@ -45,7 +41,7 @@ misfit-spec =
     (tie.spec
     outside-requires
     returns
-    over-limit-requires
-    returns-2
     least-length-requires
+    returns-2
+    over-limit-requires
     returns-3)
