@@ -4,9 +4,10 @@ use Prim.Native.Nat.{ℕ, zero, suc, _+_, _-_, _*_, _/_, _%_, _^_, _≤_, _<_}
 use mathlib.Core.Path.{_≡_, refl, sym, ap, ap₂, _∙_}
 use mathlib.Core.List.{List, [], _∷_, _++_, append-assoc}
 use mathlib.Core.Bool.{Bool, true, false, _&&_}
-use native.Mathlib.Nat.{mod-lt, not-suc-le-zero, zero-mul, suc-mul, sub-zero, suc-sub-suc, mod-eq-of-lt, add-sub-of-le, pow-succ', mul-mod-left}
+use native.Mathlib.Nat.{mod-lt, not-suc-le-zero, zero-mul, suc-mul, sub-zero, suc-sub-suc, mod-eq-of-lt, add-sub-of-le, pow-succ', mul-mod-left, lt-of-not-le}
+use native.Mathlib.Decide.{decLe}
 use native.Mathlib.Omega.{arith}
-use borrow.Author.Tests.{le-leb, lt-leb, leb-true, eq-eqb, ne-eqb}
+use borrow.Author.Tests.{le-leb, lt-leb, leb-true, ne-eqb}
 use lib.ListN.{length, getD, take, drop, length-append, drop-of-length-le}
 use lib.Seq.{length-take-le}
 use lib.Dec.{leb, eqb}
@@ -49,6 +50,11 @@ zero-append (b ∷ s) t = ap (λ (r : Bool). eqb b 0 && r) (zero-append s t) ∙
 digit-zero : (b r c : ℕ) → 0 < c → eqb b 0 && eqb r 0 ≡ eqb (b * c + r) 0
 digit-zero zero r c h = let e : 0 * c + r ≡ r = omega (arith, zero-mul c) in ap (λ (k : ℕ). eqb k 0) (sym e)
 digit-zero (suc b) r c h = rw (ne-eqb (suc b) 0 (λ z. omega arith)) (sym (ne-eqb (suc b * c + r) 0 (λ z. omega (arith, suc-mul b c))))
+
+-- so of two words it does not matter how they are joined
+pub zero-sum : (a b : ℕ) → eqb (a + b) 0 ≡ eqb (a * 4294967296 + b) 0
+zero-sum zero b = refl
+zero-sum (suc a) b = ne-eqb (suc a + b) 0 (λ z. omega arith) ∙ sym (ne-eqb (suc a * 4294967296 + b) 0 (λ z. omega arith))
 
 zero-be : (s : List ℕ) → allZero s ≡ eqb (be s) 0
 unfolding allZero
@@ -106,17 +112,11 @@ module _ (n x y : ℕ) where
   zero-halves = ap allZero (drop-append n (toBe 8 x) (toBe 8 y)) ∙ zero-append (drop n (toBe 8 x)) (drop (n - 8) (toBe 8 y))
 
   -- with n in the first
-  zero-early : n < 8 → y < 256 ^ 8 → allZero (drop n (toBe 8 x ++ toBe 8 y)) ≡ allZero (drop n (toBe 8 x)) && eqb y 0
+  pub zero-early : n < 8 → y < 256 ^ 8 → allZero (drop n (toBe 8 x ++ toBe 8 y)) ≡ allZero (drop n (toBe 8 x)) && eqb y 0
   zero-early h k =
       let z : n - 8 ≡ 0 = omega arith in
       let whole : allZero (drop (n - 8) (toBe 8 y)) ≡ eqb y 0 = ap (λ (j : ℕ). allZero (drop j (toBe 8 y))) z ∙ zero-be (toBe 8 y) ∙ ap (λ (v : ℕ). eqb v 0) (be-toBe 8 y k) in
       zero-halves ∙ ap (λ (t : Bool). allZero (drop n (toBe 8 x)) && t) whole
-
-  pub early-set : n < 8 → y < 256 ^ 8 → (y ≡ 0 → ⊥) → allZero (drop n (toBe 8 x ++ toBe 8 y)) ≡ false
-  early-set h k e = zero-early h k ∙ ap (λ (t : Bool). allZero (drop n (toBe 8 x)) && t) (ne-eqb y 0 e) ∙ no-and (allZero (drop n (toBe 8 x)))
-
-  pub early-clear : n < 8 → y < 256 ^ 8 → y ≡ 0 → allZero (drop n (toBe 8 x ++ toBe 8 y)) ≡ allZero (drop n (toBe 8 x))
-  early-clear h k e = zero-early h k ∙ ap (λ (t : Bool). allZero (drop n (toBe 8 x)) && t) (eq-eqb y 0 e) ∙ and-yes (allZero (drop n (toBe 8 x)))
 
   -- in the second
   pub zero-late : 8 ≤ n → allZero (drop n (toBe 8 x ++ toBe 8 y)) ≡ allZero (drop (n - 8) (toBe 8 y))
@@ -218,13 +218,21 @@ module _ (max : ℕ) (form : Form) where
 
 module _ (ws : List ℕ) (max : ℕ) (form : Form) where
   -- what makes it one that cannot be written
-  pub low-mark : getD ws 0 0 < markOf form → writable max form (frontRow ws) ≡ false
+  low-mark : getD ws 0 0 < markOf form → writable max form (frontRow ws) ≡ false
   unfolding writable frontRow
   low-mark h = rw (lt-leb (markOf form) (getD ws 0 0) h)
 
-  pub long-prefix : max < getD ws 0 0 - markOf form → writable max form (frontRow ws) ≡ false
+  long-prefix : max < getD ws 0 0 - markOf form → writable max form (frontRow ws) ≡ false
   unfolding writable frontRow
   long-prefix h = simp (lt-leb (getD ws 0 0 - markOf form) max h, no-and)
+
+  -- the length by a difference that wraps
+  pub far-length : (len : ℕ) → (len + markOf form) % 4294967296 ≡ getD ws 0 0 → len < 4294967296 → max < len → writable max form (frontRow ws) ≡ false
+  far-length len e small over =
+      elim (decLe (markOf form) (getD ws 0 0)) [
+        | yes le ↦ long-prefix (omega arith)
+        | no gt ↦ low-mark (lt-of-not-le gt)
+      ]
 
   pub strange-id : idFits form (getD ws 1 0) ≡ false → writable max form (frontRow ws) ≡ false
   unfolding writable frontRow

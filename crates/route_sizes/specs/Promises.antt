@@ -1,7 +1,10 @@
 -- What measuring answers, from the store of rows and from the writing of it that `Encode` defines.
-use Prim.Native.Nat.{ℕ, zero, suc}
+use Prim.Native.Nat.{ℕ, zero, suc, _-_}
 use mathlib.Core.List.{List}
 use lib.ListN.{length}
+use lib.Dec.{leb}
+use Rattle.wire.specs.Choice.{pick}
+use Rattle.wire.specs.Refusal.{pastAll}
 use Rattle.wire.specs.Walk.{Step, took, stop}
 use Rattle.families.specs.declared.Form.{Form}
 use Rattle.routes.specs.declared.Row.{Row}
@@ -22,3 +25,7 @@ answerBy (suc n) size = Refused (suc n)
 -- measuring: 14 row by row
 unfoldable pub measured : List ℕ → ℕ → Form → WriteAnswer
 measured ws max form = answerBy (writing ws max form .verdict) (length (bytesOf ws max form))
+
+-- an answer that stands in one number: the bytes from `pastAll` on, and below it a refusal number
+unfoldable pub unpacked : ℕ → WriteAnswer
+unpacked v = pick (leb pastAll v) (Bytes (v - pastAll)) (Refused v)

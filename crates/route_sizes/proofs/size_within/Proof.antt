@@ -1,25 +1,22 @@
 use borrow.Author.Needs.{needs}
 use native.Mathlib.Omega.{arith}
-use Prim.Native.Nat.{_-_, _+_}
-use mathlib.Core.Path.{_≡_, sym}
-use lib.ListN.{length, drop}
-use Rattle.wire.specs.Walk.{took}
-use Rattle.wire.specs.Turn.{Counted, count-start, count-step, count-stop, count-done}
-use Rattle.routes.specs.declared.Row.{Row}
-use Rattle.route_sizes.specs.Encode.{rowBytes, writeStep, writing}
-use Rattle.route_sizes.specs.EncodeLaws.{write-sound, write-light}
-use Rattle.route_sizes.specs.PromiseLaws.{turn-took, turn-refused, measured-good, measured-bad}
+use Prim.Native.Nat.{_+_, _-_}
+use lib.ListN.{length-take, length-drop}
+use Rattle.route_sizes.specs.PromiseLaws.{Sizing, sizing-start, sizing-step, sizing-refused, sizing-cut, sizing-done}
 use Rattle.route_sizes.proofs.size_within.Statement.{statement}
 use Rattle.route_sizes.proofs.size_within.Tie as tie
 
 abbrev Inv-loop : tie.InvT-loop
-Inv-loop rows max form at₀ total₀ at total = Counted (writeStep max form) (λ row. length (rowBytes form row)) 4 tt rows tt at total
+Inv-loop rows max form ws count i₀ total₀ i total = Sizing ws max form i total
 
 abbrev μ-loop : tie.MeasureT-loop
-μ-loop rows max form at₀ total₀ at total = length rows - at
+μ-loop rows max form ws count i₀ total₀ i total = count - i
 
 loop-holds : tie.Need-loop-holds Inv-loop μ-loop
-loop-holds c = let a = c .before .args in count-start (writeStep (a .max) (a .form)) (write-sound (a .max) (a .form)) (λ row. length (rowBytes (a .form) row)) 4 (write-light (a .max) (a .form) (c .before .pre)) tt (a .rows .now)
+loop-holds c = let a = c .before .args in sizing-start (a .rows .now) (a .max) (a .form) (c .before .pre)
+
+mul-at : tie.Need-mul-at Inv-loop μ-loop
+mul-at c = search needs
 
 mul-row-size : tie.Need-mul-row-size Inv-loop μ-loop
 mul-row-size c = search needs
@@ -34,66 +31,65 @@ part-row-size-end : tie.Need-part-row-size-end Inv-loop μ-loop
 part-row-size-end c = search needs
 
 row-size-requires : tie.Need-row-size-requires Inv-loop μ-loop
-row-size-requires c κs = search needs
+row-size-requires c κs = (omega arith, simp (length-take, length-drop) (omega arith))
 
 enum-known-n : tie.Need-enum-known-n Inv-loop μ-loop
 enum-known-n c = search needs
 
--- the row that the turn took
-row : (c : tie.After-known-told Inv-loop μ-loop) →
-    let l = c .before .before .before .before .before .before in
-    let a = l .before .before .args in
-    (r : Row) × (writeStep (a .max) (a .form) tt (drop (l .loop .at) (a .rows .now)) ≡ took 6 r tt) × (length (rowBytes (a .form) r) ≡ c .before .n .given .0 .0)
-row c =
-    let l = c .before .before .before .before .before .before in
-    let a = l .before .before .args in
-    turn-took (a .rows .now) (l .loop .at) (a .max) (a .form) _ (c .before .before .before .row-size .ensures) _ (c .before .n .given .1)
-
 again : (c : tie.After-known-told Inv-loop μ-loop) →
     let l = c .before .before .before .before .before .before in
     let a = l .before .before .args in
-    Counted (writeStep (a .max) (a .form)) (λ r. length (rowBytes (a .form) r)) 4 tt (a .rows .now) tt (l .loop .at + 6) (l .loop .total + c .before .n .given .0 .0)
+    Sizing (a .rows .now) (a .max) (a .form) (l .loop .i + 1) (l .loop .total + c .before .n .given .0 .0)
 again c =
     let l = c .before .before .before .before .before .before in
-    let a = l .before .before .args in
-    let r = row c in
-    rw (← r .2) (count-step (writeStep (a .max) (a .form)) (write-sound (a .max) (a .form)) (λ q. length (rowBytes (a .form) q)) 4 (write-light (a .max) (a .form) (l .before .before .pre)) tt (a .rows .now)
-    tt (l .loop .at) (l .loop .total) (l .loop .inv) tt 6 (r .0) (r .1))
+    let s = l .before .before in
+    let a = s .args in
+    sizing-step (a .rows .now) (a .max) (a .form) (s .pre) (l .loop .i) (l .loop .total) (l .loop .inv) _ (c .before .before .before .row-size .ensures) _ (c .before .n .given .1)
 
-add-at : tie.Need-add-at Inv-loop μ-loop
-add-at c = omega (arith, again c .within)
+add-i : tie.Need-add-i Inv-loop μ-loop
+add-i c = search needs
 
 add-total : tie.Need-add-total Inv-loop μ-loop
 add-total c = omega (arith, again c .within, again c .few)
 
 loop-less : tie.Need-loop-less Inv-loop μ-loop
-loop-less c = omega (arith, again c .within)
+loop-less c = search needs
 
 loop-again : tie.Need-loop-again Inv-loop μ-loop
 loop-again c = again c
 
-enum-known-n-2 : tie.Need-enum-known-n-2 Inv-loop μ-loop
-enum-known-n-2 c = search needs
+enum-told : tie.Need-enum-told Inv-loop μ-loop
+enum-told c = search needs
+
+cast-result : tie.Need-cast-result Inv-loop μ-loop
+cast-result c = search needs
 
 returns : tie.Need-returns Inv-loop μ-loop
-unfolding writing
 returns c =
-    let l = c .before .before .before .before .before .before in
-    let a = l .before .before .args in
-    let e = turn-refused (a .rows .now) (l .loop .at) (a .max) (a .form) _ (c .before .before .before .row-size .ensures) _ (c .before .n2 .given .1) in
-    sym (measured-bad (a .rows .now) (a .max) (a .form) _
-    (count-stop (writeStep (a .max) (a .form)) (write-sound (a .max) (a .form)) (λ q. length (rowBytes (a .form) q)) 4 (write-light (a .max) (a .form) (l .before .before .pre)) tt (a .rows .now)
-    tt (l .loop .at) (l .loop .total) (l .loop .inv) _ (c .before .before .before .before .before .loop-test .taken) e)
-    (write-sound (a .max) (a .form) .names tt (drop (l .loop .at) (a .rows .now)) _ e))
+    let l = c .before .before .before .before .before in
+    let s = l .before .before in
+    let a = s .args in
+    sizing-refused (a .rows .now) (a .max) (a .form) (s .pre) (l .loop .i) (l .loop .total) (l .loop .inv) _ (c .before .before .row-size .ensures) _ (c .enum-told .given .1) (omega arith)
+
+cast-result-2 : tie.Need-cast-result-2 Inv-loop μ-loop
+cast-result-2 c = search needs
 
 returns-2 : tie.Need-returns-2 Inv-loop μ-loop
-unfolding writing
 returns-2 c =
-    let l = c .before in
-    let a = l .before .before .args in
-    sym (measured-good (a .rows .now) (a .max) (a .form) _
-    (count-done (writeStep (a .max) (a .form)) (write-sound (a .max) (a .form)) (λ q. length (rowBytes (a .form) q)) 4 (write-light (a .max) (a .form) (l .before .before .pre)) tt (a .rows .now)
-    tt (l .loop .at) (l .loop .total) (l .loop .inv) (c .loop-test .left)))
+    let l = c .before .before in
+    let s = l .before .before in
+    let a = s .args in
+    sizing-cut (a .rows .now) (a .max) (a .form) (s .pre) (l .loop .i) (l .loop .total) (l .loop .inv) (c .before .loop-test .left) (c .if1 .taken)
+
+add-result : tie.Need-add-result Inv-loop μ-loop
+add-result c = search needs
+
+returns-3 : tie.Need-returns-3 Inv-loop μ-loop
+returns-3 c =
+    let l = c .before .before in
+    let s = l .before .before in
+    let a = s .args in
+    sizing-done (a .rows .now) (a .max) (a .form) (s .pre) (l .loop .i) (l .loop .total) (l .loop .inv) (c .before .loop-test .left) (c .if1 .left)
 
 pub size-within-spec : {M : Type 1} → statement M
 size-within-spec =
@@ -102,16 +98,21 @@ size-within-spec =
     Inv-loop
     μ-loop
     loop-holds
+    mul-at
     mul-row-size
     sub-row-size
     part-row-size-start
     part-row-size-end
     row-size-requires
     enum-known-n
-    add-at
+    add-i
     add-total
     loop-less
     loop-again
-    enum-known-n-2
+    enum-told
+    cast-result
     returns
-    returns-2)
+    cast-result-2
+    returns-2
+    add-result
+    returns-3)
