@@ -207,3 +207,40 @@ module _ (d₀ : List ℕ) (start : ℕ) (all : List ℕ) (fits : start + length
 
     pub laying-done : left ≡ [] → d ≡ laid d₀ start all
     laying-done e = h .store ∙ ap (laid d₀ start) (sym (append-nil (h .done)) ∙ ap (λ (l : List ℕ). h .done ++ l) (sym e) ∙ h .parts)
+
+-- ---- values put with more after them, which later values overwrite
+
+-- a store that is like another but for what stands from place `to` up to place `total`
+pub record Like (total to : ℕ) (d c : List ℕ) : Type 0 where
+  pub long : length d ≡ length c
+  pub front : take to d ≡ take to c
+  pub back : drop total d ≡ drop total c
+
+pub like-same : (total to : ℕ) (d : List ℕ) → Like total to d d
+like-same total to d = record { long = refl; front = refl; back = refl }
+
+pub like-put : (total to : ℕ) (d c vs more : List ℕ) → Like total to d c → to + length (vs ++ more) ≤ total → total ≤ length d → Like total (to + length vs) (laid d to (vs ++ more)) (laid c to vs)
+like-put total to d c vs more h fits room =
+    let sum = length-append vs more in
+    let there : to + length (vs ++ more) ≤ length d = omega arith in
+    let same : to + length vs ≤ length c = omega (arith, h .long, sum) in
+    record {
+      long = length-laid d to (vs ++ more) there ∙ h .long ∙ sym (length-laid c to vs same);
+      front = take-laid-front d to vs more there ∙ ap (λ (l : List ℕ). l ++ vs) (h .front) ∙ sym (take-laid c to vs same);
+      back = drop-laid-past d to (vs ++ more) total fits there ∙ h .back ∙ sym (drop-laid-past c to vs total (omega (arith, sum)) same);
+    }
+
+-- where nothing is left to differ
+pub like-done : (total : ℕ) (d c : List ℕ) → Like total total d c → d ≡ c
+like-done total d c h = sym (take-append-drop total d) ∙ ap₂ _++_ (h .front) (h .back) ∙ take-append-drop total c
+
+-- values that were put, and perhaps more up to place `total`
+pub record PutAhead (total : ℕ) (d : List ℕ) (to : ℕ) (vs d′ : List ℕ) : Type 0 where
+  pub more : List ℕ
+  pub fits : to + length (vs ++ more) ≤ total
+  pub is : d′ ≡ laid d to (vs ++ more)
+
+pub put-alone : (total : ℕ) (d : List ℕ) (to : ℕ) (vs d′ : List ℕ) → to + length vs ≤ total → d′ ≡ laid d to vs → PutAhead total d to vs d′
+put-alone total d to vs d′ fits e =
+    let none : vs ++ [] ≡ vs = append-nil vs in
+    record { more = []; fits = omega (arith, ap length none); is = e ∙ ap (laid d to) (sym none) }
