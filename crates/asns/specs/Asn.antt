@@ -1,8 +1,8 @@
 -- AS numbers as bytes: of two octets, or of four (RFC 6793 section 4.1), the first byte highest (RFC 4271 section 4).
 use Prim.Native.Nat.{ℕ, zero, suc, _+_, _^_}
 use mathlib.Core.List.{List}
-use mathlib.Core.Bool.{Bool}
-use lib.Dec.{ltb}
+use mathlib.Core.Bool.{Bool, _&&_}
+use lib.Dec.{ltb, leb}
 use Rattle.wire.specs.Choice.{pick}
 use Rattle.wire.specs.Number.{toBe}
 use Rattle.wire.specs.Store.{laid, placed}
@@ -20,6 +20,10 @@ widthOf Bits32 = 4
 unfoldable pub span : ℕ → ℕ → ℕ
 span w zero = 0
 span w (suc n) = w + span w n
+
+-- whether eight numbers may go for n: no more are asked for, eight are there, and so are the bytes of eight
+unfoldable pub eightFor : ℕ → ℕ → ℕ → ℕ → Bool
+eightFor w n numbers bytes = leb n 8 && (leb 8 numbers && leb (span w 8) bytes)
 
 -- the width's bytes hold the number
 abbrev pub fitsWidth : ℕ → AsnLength → Bool

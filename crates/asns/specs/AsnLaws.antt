@@ -7,12 +7,14 @@ use mathlib.Core.Bool.{true, false}
 use native.Mathlib.Nat.{not-suc-le-zero, zero-mul, suc-mul}
 use native.Mathlib.Numerals.{sub-one}
 use native.Mathlib.Omega.{arith}
-use borrow.Author.Tests.{le-leb, ltb-true}
+use borrow.Author.Tests.{le-leb, lt-leb, leb-true, ltb-true}
+use lib.Dec.{leb}
 use lib.ListN.{length}
+use Rattle.wire.specs.Choice.{and-true}
 use Rattle.wire.specs.Number.{toBe}
 use Rattle.wire.specs.NumberLaws.{length-toBe}
 use Rattle.wire.specs.Store.{laid, placed, placed-fits}
-use Rattle.asns.specs.Asn.{widthOf, span, fitsWidth, withNumber}
+use Rattle.asns.specs.Asn.{widthOf, span, eightFor, fitsWidth, withNumber}
 use Rattle.asns.specs.declared.AsnLength.{AsnLength}
 use Rattle.asns.specs.declared.AsnLength.the-variants.{Bits16, Bits32}
 
@@ -73,3 +75,25 @@ pub put-room : (out : List ℕ) (to asn : ℕ) (width : AsnLength) → fitsWidth
     → withNumber out to asn width ≡ laid out to (toBe (widthOf width) asn)
 put-room out to asn width e h =
     sym (put-fits out to asn width e) ∙ placed-fits out to (toBe (widthOf width) asn) (omega (arith, length-toBe (widthOf width) asn))
+
+-- ---- eight numbers at once
+
+pub eight-says : (w n numbers bytes : ℕ) → eightFor w n numbers bytes ≡ true → (n ≤ 8) × (8 ≤ numbers) × (span w 8 ≤ bytes)
+unfolding eightFor
+eight-says w n numbers bytes e =
+    let f = and-true (leb n 8) _ e in
+    let g = and-true (leb 8 numbers) _ (f .1) in
+    (leb-true n 8 (f .0), leb-true 8 numbers (g .0), leb-true (span w 8) bytes (g .1))
+
+module _ (w n numbers bytes : ℕ) where
+  pub eight-many : 8 < n → false ≡ eightFor w n numbers bytes
+  unfolding eightFor
+  eight-many h = rw (lt-leb n 8 h)
+
+  pub eight-few : n ≤ 8 → numbers < 8 → false ≡ eightFor w n numbers bytes
+  unfolding eightFor
+  eight-few h k = rw (le-leb n 8 h, lt-leb 8 numbers k)
+
+  pub eight-fits : n ≤ 8 → 8 ≤ numbers → leb (span w 8) bytes ≡ eightFor w n numbers bytes
+  unfolding eightFor
+  eight-fits h k = rw (le-leb n 8 h, le-leb 8 numbers k)

@@ -3,7 +3,7 @@
 ghost use mathlib.Core.Path.{_≡_};
 ghost use lib.ListN.{length};
 ghost use Rattle.wire.specs.Number.{beAt};
-ghost use Rattle.asns.specs.Asn.{widthOf, span, fitsWidth, withNumber};
+ghost use Rattle.asns.specs.Asn.{widthOf, span, fitsWidth, withNumber, eightFor};
 ghost use Rattle.asns.specs.Aggregator.{unlike, aggregatorOf, aggregatorWritten, aggregatorLeft};
 use wire::refusal;
 
@@ -47,6 +47,22 @@ pub fn numbers_size(n: u16, width: AsnLength) -> usize
         AsnLength::Bits16 => n as usize * 2,
         AsnLength::Bits32 => n as usize * 4,
     }
+}
+
+// How many AS numbers go at once where that many are there: what is too much is overwritten by the numbers that follow.
+pub const AT_ONCE: usize = 8;
+
+// Whether that many may go for n, of so many numbers and bytes that are there.
+pub fn eight_for(n: usize, numbers: usize, bytes: usize, width: AsnLength) -> bool
+    ensures { λ r. ⌜ r ≡ eightFor (widthOf width) n numbers bytes ⌝ }
+{
+    if AT_ONCE < n {
+        return false;
+    }
+    if numbers < AT_ONCE {
+        return false;
+    }
+    numbers_size(8, width) <= bytes
 }
 
 // The AS number at a place.

@@ -14,7 +14,7 @@ use Rattle.wire.specs.Walk.{took, Reading, more, readAll, flat}
 use Rattle.wire.specs.WalkLaws.{all-nil, all-took, all-ind}
 use Rattle.paths.specs.Segment.{Segment, Rule, pairOf, asnsOf}
 use Rattle.path_writer.specs.Write.{addsUp, allFit, mostNumbers, lentOf, lentPath}
-use Rattle.path_writer.specs.WriteLaws.{holds, adds-pair, fault-none, none-fault, lent-took, took-lent, lent-names, lent-sound}
+use Rattle.path_writer.specs.WriteLaws.{fit-append, holds, adds-pair, fault-none, none-fault, lent-took, took-lent, lent-names, lent-sound}
 
 -- ---- segments that can be written
 
@@ -81,6 +81,17 @@ module _ (rule : Rule) (w : ℕ) where
       (λ st s n pos e _ v. absurd (let lt : 0 < n = lent-names rule w st s n e in omega (arith, lt, v)))
       (λ st st′ s used g pos e ih. back-took st st′ s used g e ih)
       numbers pairs
+
+  -- so each number fits
+  rows-fit : (rows : List Segment) → AllWritable rule w rows → allFit w (flat asnsOf rows) ≡ true
+  unfolding flat allFit
+  rows-fit [] none = refl
+  rows-fit (g ∷ rows) (one r rs) = fit-append w (g .asns) (flat asnsOf rows) (r .fit) (rows-fit rows rs)
+
+  pub lent-fit : (pairs numbers : List ℕ) → addsUp pairs (length numbers) ≡ true → lentPath rule w pairs numbers .verdict ≡ 0 → allFit w numbers ≡ true
+  lent-fit pairs numbers adds good =
+      let b = lent-back pairs numbers adds good in
+      sym (ap (allFit w) (b .2)) ∙ rows-fit (lentPath rule w pairs numbers .rows) (b .0)
 
   -- ---- segments that can be written, lent as pairs and numbers, are read back
 

@@ -2,15 +2,15 @@
 -- Assumes nothing.
 use Prim.Native.Nat.{ℕ, zero, suc, _+_, _-_, _^_, _≤_, _<_}
 use mathlib.Core.Path.{_≡_, refl, sym, ap, ap₂, _∙_}
-use mathlib.Core.List.{List, [], _∷_, _++_}
+use mathlib.Core.List.{List, [], _∷_, _++_, append-assoc}
 use mathlib.Core.Bool.{Bool, true, false}
 use native.Mathlib.Nat.{not-suc-le-zero, lt-of-not-le}
 use native.Mathlib.Numerals.{add-one, sub-one}
 use native.Mathlib.Omega.{arith}
 use native.Mathlib.Decide.{decLe}
 use borrow.Author.Tests.{le-leb, lt-leb, leb-true, lt-ltb, ltb-true}
-use lib.ListN.{length, getD, take, drop, length-append, length-drop, drop-of-length-le}
-use lib.Seq.{drop-cons, drop-drop, getD-drop}
+use lib.ListN.{length, getD, take, drop, length-append, length-drop, drop-of-length-le, take-append-drop}
+use lib.Seq.{drop-cons, drop-drop, getD-drop, take-take}
 use lib.Dec.{leb, ltb, eqb}
 use Rattle.wire.specs.Choice.{pick, pick-leb}
 use Rattle.wire.specs.Number.{toBe}
@@ -106,6 +106,10 @@ fit-here w v vs e = let b = holds (ltb v (256 ^ w)) (allFit w vs) e in (ltb-true
 pub fit-cons : (w : ℕ) (v : ℕ) (vs : List ℕ) → v < 256 ^ w → allFit w vs ≡ true → allFit w (v ∷ vs) ≡ true
 unfolding allFit
 fit-cons w v vs h e = rw (lt-ltb v (256 ^ w) h) e
+
+pub fit-append : (w : ℕ) (a b : List ℕ) → allFit w a ≡ true → allFit w b ≡ true → allFit w (a ++ b) ≡ true
+fit-append w [] b f g = g
+fit-append w (v ∷ a) b f g = let h = fit-here w v a f in fit-cons w v (a ++ b) (h .0) (fit-append w a b (h .1) g)
 
 -- and so each of some of them
 fit-drop : (w m : ℕ) (vs : List ℕ) → allFit w vs ≡ true → allFit w (drop m vs) ≡ true
@@ -229,3 +233,14 @@ module _ (rule : Rule) (w : ℕ) where
     takes = λ st st′ s used g e. let t = lent-took st s st′ used g e in (omega (arith, t .size), omega (arith, t .size, t .there));
     names = λ st s n e. lent-names st s n e;
   }
+
+-- ---- the bytes of some numbers begin those of more
+
+flat-parts : (w : ℕ) (a b : List ℕ) → flat (toBe w) (a ++ b) ≡ flat (toBe w) a ++ flat (toBe w) b
+unfolding flat
+flat-parts w [] b = refl
+flat-parts w (v ∷ a) b = ap (λ (l : List ℕ). toBe w v ++ l) (flat-parts w a b) ∙ sym (append-assoc (toBe w v) (flat (toBe w) a) (flat (toBe w) b))
+
+pub more-bytes : (w n m : ℕ) (ns : List ℕ) → n ≤ m → flat (toBe w) (take m ns) ≡ flat (toBe w) (take n ns) ++ flat (toBe w) (drop n (take m ns))
+more-bytes w n m ns le =
+    ap (flat (toBe w)) (sym (take-append-drop n (take m ns)) ∙ ap (λ (l : List ℕ). l ++ drop n (take m ns)) (take-take n m ns le)) ∙ flat-parts w (take n ns) (drop n (take m ns))

@@ -2,16 +2,16 @@
 -- Assumes nothing.
 use Prim.Native.Nat.{ℕ, _+_, _-_, _≤_, _<_}
 use mathlib.Core.Path.{_≡_, sym, ap, ap₂, subst, _∙_}
-use mathlib.Core.List.{List, [], _∷_}
+use mathlib.Core.List.{List, [], _∷_, _++_}
 use mathlib.Core.Bool.{true}
 use native.Mathlib.Nat.{add-zero}
 use native.Mathlib.Omega.{arith}
 use lib.ListN.{length, take, drop, getD, length-drop}
 use lib.Seq.{getD-drop, drop-drop, length-take-le}
 use Rattle.wire.specs.Number.{toBe}
-use Rattle.wire.specs.Store.{laid, laid-laid}
+use Rattle.wire.specs.Store.{laid, laid-laid, length-laid, Like, like-same, like-put, like-done, PutAhead}
 use Rattle.wire.specs.Walk.{took, stop, flat}
-use Rattle.wire.specs.Turn.{Light, Counted, count-start, count-step, count-stop, count-done, Filled, fill-start, fill-fits, fill-step, fill-takes, fill-done}
+use Rattle.wire.specs.Turn.{Light, Counted, count-start, count-step, count-stop, count-done, Filled, fill-start, fill-fits, fill-step, fill-takes, fill-sum, fill-end, fill-done}
 use Rattle.asns.specs.Asn.{span}
 use Rattle.paths.specs.Segment.{Segment, Rule}
 use Rattle.path_writer.specs.Write.{segmentBytes, addsUp, allFit, mostNumbers, writeFault, lentSegment, lentOf, lentPath, pathBytes}
@@ -153,3 +153,59 @@ module _ (rule : Rule) (w : ℕ) (pairs numbers : List ℕ) where
               subst (λ (l : List ℕ). Filled (lentOf rule w) (segmentBytes w) numbers pairs d₀ (drop (from + getD pairs (at + 1) 0) numbers) (at + 2) (to + (2 + span w (getD pairs (at + 1) 0))) l) same
                   (subst (λ (k : ℕ). Filled (lentOf rule w) (segmentBytes w) numbers pairs d₀ (drop (from + getD pairs (at + 1) 0) numbers) (at + 2) k (laid d to (segmentBytes w (segmentFrom at from)))) place next),
             )
+
+    -- ---- writing with more numbers than a segment's own, which the segments that follow overwrite
+
+    -- the bytes of all segments
+    abbrev pub total : ℕ
+    total = length (pathBytes w (lentPath rule w pairs numbers .rows))
+
+    -- at the head: the output is like one that has the bytes of what stands before `at`
+    pub record WritingAhead (at from to : ℕ) (d : List ℕ) : Type 0 where
+      pub clean : List ℕ
+      pub writing : Writing at from to clean
+      pub like : Like total to d clean
+      pub room : total ≤ length d₀
+
+    pub ahead-start : addsUp pairs (length numbers) ≡ true → lentPath rule w pairs numbers .verdict ≡ 0 → total ≤ length d₀ → WritingAhead 0 0 0 d₀
+    ahead-start e v r = record { clean = d₀; writing = writing-start e v r; like = like-same total 0 d₀; room = r }
+
+    module _ (at from to : ℕ) (d : List ℕ) (h : WritingAhead at from to d) where
+      pub ahead-long : length d ≡ length d₀
+      ahead-long = h .like .long ∙ h .writing .1 .long
+
+      pub ahead-done : length pairs ≤ at → d ≡ laid d₀ 0 (pathBytes w (lentPath rule w pairs numbers .rows))
+      unfolding lentPath pathBytes
+      ahead-done le =
+          let end : to ≡ total = fill-end (lentOf rule w) (lent-sound rule w) (segmentBytes w) numbers pairs d₀ (drop from numbers) at to (h .clean) (h .writing .1) le in
+          like-done total d (h .clean) (subst (λ (k : ℕ). Like total k d (h .clean)) end (h .like)) ∙ writing-done at from to (h .clean) (h .writing) le
+
+      module _ (lt : at < length pairs) where
+        abbrev head : List ℕ
+        head = getD pairs at 0 ∷ getD pairs (at + 1) 0 ∷ []
+
+        abbrev body : List ℕ
+        body = flat (toBe w) (take (getD pairs (at + 1) 0) (drop from numbers))
+
+        pub ahead-fits : (at + 2 ≤ length pairs) × (to + (2 + span w (getD pairs (at + 1) 0)) ≤ total) × (total ≤ length d)
+        unfolding lentPath pathBytes
+        ahead-fits =
+            let next = writing-next at from to (h .clean) (h .writing) lt in
+            let sum = fill-sum (lentOf rule w) (lent-sound rule w) (segmentBytes w) numbers pairs d₀ (drop (from + getD pairs (at + 1) 0) numbers) (at + 2) _ _ (next .1) in
+            (writing-fits at from to (h .clean) (h .writing) lt .0, omega (arith, sum), omega (arith, h .room, ahead-long))
+
+        pub ahead-next : (d₁ d₂ : List ℕ) → d₁ ≡ laid d to (getD pairs at 0 ∷ getD pairs (at + 1) 0 ∷ [])
+            → PutAhead total d₁ (to + 2) (flat (toBe w) (take (getD pairs (at + 1) 0) (drop from numbers))) d₂
+            → WritingAhead (at + 2) (from + getD pairs (at + 1) 0) (to + (2 + span w (getD pairs (at + 1) 0))) d₂
+        ahead-next d₁ d₂ e p =
+            let f = ahead-fits in
+            let one : Like total (to + 2) d₁ (laid (h .clean) to head) = rw e (like-put total to d (h .clean) head [] (h .like) (omega (arith, f .1)) (f .2)) in
+            let long : total ≤ length d₁ = omega (arith, f, ap length e, length-laid d to head (omega (arith, f))) in
+            let both = like-put total (to + 2) d₁ (laid (h .clean) to head) body (p .more) one (p .fits) long in
+            let place : to + 2 + length body ≡ to + (2 + span w (getD pairs (at + 1) 0)) = omega (arith, body-length at from to (h .clean) (h .writing) lt) in
+            record {
+              clean = laid (laid (h .clean) to head) (to + 2) body;
+              writing = writing-next at from to (h .clean) (h .writing) lt;
+              like = rw (p .is) (subst (λ (k : ℕ). Like total k (laid d₁ (to + 2) (body ++ p .more)) (laid (laid (h .clean) to head) (to + 2) body)) place both);
+              room = h .room;
+            }

@@ -6,7 +6,7 @@ ghost use Prim.Native.Nat.{_+_, _≤_, _<_};
 ghost use mathlib.Core.List.{[], _∷_};
 ghost use lib.ListN.{length, take, drop};
 ghost use Rattle.wire.specs.Number.{toBe};
-ghost use Rattle.wire.specs.Store.{laid};
+ghost use Rattle.wire.specs.Store.{laid, PutAhead};
 ghost use Rattle.wire.specs.Walk.{flat};
 ghost use Rattle.asns.specs.Asn.{widthOf};
 ghost use Rattle.paths.specs.Segment.{knownType};
@@ -223,11 +223,33 @@ fn put_numbers(
     }
 }
 
-// The bytes of a lent path that can be written and has room.
-fn write_segments(pairs: &[u32], numbers: &[u32], width: AsnLength, out: &mut [u8])
+// The same with more after them below `total`, where there are so many: a segment of a few numbers then takes no loop.
+fn put_ahead(
+    numbers: &[u32],
+    from: usize,
+    n: usize,
+    width: AsnLength,
+    out: &mut [u8],
+    to: usize,
+    total: usize,
+)
+    requires { ⌜ from + n ≤ length (now numbers) ⌝ }
+    requires { ⌜ allFit (widthOf width) (now numbers) ≡ true ⌝ }
+    requires { ⌜ (to + length (flat (toBe (widthOf width)) (take n (drop from (now numbers)))) ≤ total) × (total ≤ length (now out)) ⌝ }
+    ensures { λ _. ⌜ PutAhead total (now (out .entry)) to (flat (toBe (widthOf width)) (take n (drop from (now (numbers .entry))))) (now (out .exit)) ⌝ }
+{
+    if asns::eight_for(n, numbers.len() - from, total - to, width) {
+        put_numbers(numbers, from, asns::AT_ONCE, width, out, to);
+        return;
+    }
+    put_numbers(numbers, from, n, width, out, to);
+}
+
+// The bytes of a lent path that can be written and has room, `total` in all.
+fn write_segments(pairs: &[u32], numbers: &[u32], width: AsnLength, out: &mut [u8], total: usize)
     requires { ⌜ addsUp (now pairs) (length (now numbers)) ≡ true ⌝ }
     requires { ⌜ lentPath knownType (widthOf width) (now pairs) (now numbers) .verdict ≡ 0 ⌝ }
-    requires { ⌜ length (bytesOf knownType (widthOf width) (now pairs) (now numbers)) ≤ length (now out) ⌝ }
+    requires { ⌜ (total ≡ length (bytesOf knownType (widthOf width) (now pairs) (now numbers))) × (total ≤ length (now out)) ⌝ }
     ensures { λ _. ⌜ now (out .exit) ≡ laid (now (out .entry)) 0 (bytesOf knownType (widthOf width) (now (pairs .entry)) (now (numbers .entry))) ⌝ }
 {
     let mut at: usize = 0;
@@ -236,7 +258,7 @@ fn write_segments(pairs: &[u32], numbers: &[u32], width: AsnLength, out: &mut [u
     while at < pairs.len() {
         let count = pairs[at + 1];
         put_head(out, to, pairs[at], count);
-        put_numbers(numbers, from, count as usize, width, out, to + 2);
+        put_ahead(numbers, from, count as usize, width, out, to + 2, total);
         to = to + (2 + asns::numbers_size(count as u16, width));
         from = from + count as usize;
         at = at + 2;
@@ -273,6 +295,6 @@ pub fn encode_as_path(
     if out.len() < size {
         return WriteAnswer::Refused(refusal::NO_ROOM);
     }
-    write_segments(pairs, numbers, width, out);
+    write_segments(pairs, numbers, width, out, size);
     WriteAnswer::Written(size)
 }

@@ -136,6 +136,18 @@ module _ {S A : Type 0} (step : S → List ℕ → Step S A) (sound : Sound step
       pub fill-takes : at < length s → (used : ℕ) × (a : A) × (st′ : S) × (step st (drop at s) ≡ took used a st′)
       fill-takes lt = turn-by (step st (drop at s)) lt refl
 
+      -- the places before `to` and those of what is left are all
+      pub fill-sum : to + length (flat emit (readAll step st (drop at s) .rows)) ≡ length (flat emit (readAll step st₀ s .rows))
+      fill-sum =
+          let n : length (take to d) ≡ to = length-take-le to d (omega (arith, h .room, h .long)) in
+          omega (arith, ap length (h .front), length-append (take to d) (flat emit (readAll step st (drop at s) .rows)))
+
+      pub fill-end : length s ≤ at → to ≡ length (flat emit (readAll step st₀ s .rows))
+      unfolding flat
+      fill-end le =
+          let none : length (flat emit (readAll step st (drop at s) .rows)) ≡ 0 = ap (λ (r : Reading A). length (flat emit (r .rows))) (turn-end s st at le) in
+          omega (arith, fill-sum)
+
       pub fill-done : length s ≤ at → d ≡ laid d₀ 0 (flat emit (readAll step st₀ s .rows))
       unfolding flat
       fill-done le =

@@ -71,7 +71,7 @@ write-segments-requires c κs =
     let a = c .before .before .before .before .before .before .before .before .before .before .before .before .before .args in
     let w = whole (c .before .before .before .before .before .before .before .before) in
     let g = good (c .before .before .before .before .before .before) in
-    (w, (sym g, omega (arith, size-is knownType (widthOf (a .width)) (a .pairs .now) (a .numbers .now) (length (a .out .now)) w g, c .before .if6 .left, c .before .before .before .numbers-size .ensures)))
+    (w, (sym g, (ap (λ (k : ℕ). length (a .pairs .now) + k) (c .before .before .before .numbers-size .ensures) ∙ sym (size-is knownType (widthOf (a .width)) (a .pairs .now) (a .numbers .now) (length (a .out .now)) w g), omega (arith, c .before .if6 .left))))
 
 same-length : tie.Need-same-length
 same-length c = search needs
