@@ -15,11 +15,10 @@ use Rattle.wire.specs.Store.{laid, take-laid, length-laid, laid-laid, laid-befo
 use Rattle.wire.specs.Turn.{Filled, fill-start, fill-takes, fill-fits, fill-step, fill-done, turn-end}
 use Rattle.wire.specs.Walk.{Reading, took, flat}
 use Rattle.families.specs.Family.{idSize, octets}
-use Rattle.families.specs.FamilyLaws.{id-small}
 use Rattle.families.specs.declared.Form.{Form}
 use Rattle.routes.specs.declared.Row.{Row}
 use Rattle.route_sizes.specs.Encode.{fourWords, address, lengthOf, rowBytes, frontRow, writeStep, writing, bytesOf}
-use Rattle.route_sizes.specs.EncodeLaws.{Writable, address-length, row-size, write-took, took-write, write-sound}
+use Rattle.route_sizes.specs.EncodeLaws.{Writable, row-size, write-took, took-write, write-sound}
 
 -- a turn of a loop that fills
 module _ (max : ℕ) (form : Form) (rows d₀ : List ℕ) (at to : ℕ) (d : List ℕ) (h : Filled (writeStep max form) (rowBytes form) tt rows d₀ tt at to d) (lt : at < length rows) where
@@ -92,25 +91,22 @@ words-laid d to a b c e room =
     ∙ ap (λ (l : List ℕ). laid l (to + 12) (toBe 4 e)) (laid-laid d to two (toBe 4 c) (omega arith))
     ∙ laid-laid d to three (toBe 4 e) (omega arith)
 
--- a row put whole at the front of enough places has its bytes first
-pub row-front : (form : Form) (r : Row) (z b₁ b₂ : List ℕ) (k n : ℕ) → length z ≡ 21 → lengthOf form r ≤ 128 → k ≡ idSize form → n ≡ octets (lengthOf form r)
-    → b₁ ≡ laid z 0 (headBytes form r) → b₂ ≡ laid b₁ (k + 1) (address r) → (take (k + 1 + n) b₂ ≡ rowBytes form r) × (k + 1 + n ≡ length (rowBytes form r))
-row-front form r z b₁ b₂ k n long small ks ns e₁ e₂ =
+-- a row put as its head and its octets
+pub row-laid : (form : Form) (r : Row) (d d₁ d₂ : List ℕ) (to k n : ℕ) → to + length (rowBytes form r) ≤ length d → lengthOf form r ≤ 128 → k ≡ idSize form → n ≡ octets (lengthOf form r)
+    → d₁ ≡ laid d to (headBytes form r) → d₂ ≡ laid d₁ (to + k + 1) (take n (address r)) → (k + 1 + n ≡ length (rowBytes form r)) × (d₂ ≡ laid d to (rowBytes form r))
+unfolding rowBytes
+row-laid form r d d₁ d₂ to k n room small ks ns e₁ e₂ =
     let head : List ℕ = headBytes form r in
-    let words : List ℕ = address r in
-    let bytes : List ℕ = rowBytes form r in
-    let more : List ℕ = drop (octets (lengthOf form r)) words in
-    let seam : 0 + length head ≡ k + 1 = omega (arith, head-length form r) in
-    let size : k + 1 + n ≡ length bytes = ap₂ (λ (i j : ℕ). i + 1 + j) ks ns ∙ sym (row-size form r small) in
-    let front : k + 1 + n ≡ 0 + length bytes = omega arith in
-    let whole : head ++ words ≡ bytes ++ more = head-words form r words [] (sym (append-nil words)) (omega (arith, address-length r)) in
-    let all : length (head ++ words) ≤ 21 = omega (arith, length-append head words, head-length form r, address-length r, id-small form) in
-    let put : b₂ ≡ laid z 0 (bytes ++ more) =
-    e₂
-    ∙ ap₂ (λ (x : List ℕ) (j : ℕ). laid x j words) e₁ (sym seam)
-    ∙ laid-laid z 0 head words (omega (arith, length-append head words))
-    ∙ ap (laid z 0) whole in
-    (ap₂ take front put ∙ take-laid-front z 0 bytes more (omega (arith, ap length whole)), size)
+    let own : List ℕ = take (octets (lengthOf form r)) (address r) in
+    let seam : to + k + 1 ≡ to + length head = omega (arith, head-length form r) in
+    let whole : head ++ own ≡ rowBytes form r = append-assoc (toBe (idSize form) (r .id)) (lengthOf form r ∷ []) own in (
+      ap₂ (λ (i j : ℕ). i + 1 + j) ks ns ∙ sym (row-size form r small),
+      e₂
+          ∙ ap₂ (λ (i j : ℕ). laid d₁ i (take j (address r))) seam ns
+          ∙ ap (λ (l : List ℕ). laid l (to + length head) own) e₁
+          ∙ laid-laid d to head own (omega (arith, ap length whole, length-append head own))
+          ∙ ap (laid d to) whole,
+    )
 
 -- rows that can be written, with `total` bytes, which the output has room for
 pub record Fillable (rows : List ℕ) (max : ℕ) (form : Form) (out : List ℕ) (total : ℕ) : Type 0 where

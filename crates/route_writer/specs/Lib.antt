@@ -1,4 +1,5 @@
 pub mod Ahead
+pub mod Octets
 pub mod Promises
 pub mod PromiseLaws
 pub mod Pair

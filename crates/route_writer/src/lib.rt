@@ -1,7 +1,7 @@
 // The route list writer (RFC 4271 section 4.3, RFC 7911 section 3): rows of six words as the bytes of a list, the writing of encode_nlri_prefixes in utils.rs.
 ghost use mathlib.Core.Path.{_≡_};
 ghost use Prim.Native.Nat.{_+_, _≤_, _<_};
-ghost use lib.ListN.{length, getD};
+ghost use lib.ListN.{length, getD, take};
 ghost use Rattle.wire.specs.Number.{toBe};
 ghost use Rattle.wire.specs.Store.{laid};
 ghost use Rattle.families.specs.Family.{maxOf, idSize, markOf};
@@ -74,6 +74,26 @@ fn put_head(rows: &[u32], at: usize, form: Form, out: &mut [u8], to: usize) -> u
     len
 }
 
+// One of the four octets of a word.
+fn octet_of(w: u32, j: usize) -> u8
+    requires { ⌜ j < 4 ⌝ }
+    ensures { λ r. ⌜ r ≡ getD (toBe 4 w) j 0 ⌝ }
+{
+    ((w >> (24 - 8 * j) as u32) % 256) as u8
+}
+
+// The first n address octets of the row at a place, and no more, at a place of the output.
+fn put_octets(rows: &[u32], at: usize, n: usize, out: &mut [u8], to: usize)
+    requires { ⌜ (at + 6 ≤ length (now rows)) × (n ≤ 16) × (to + n ≤ length (now out)) ⌝ }
+    ensures { λ _. ⌜ now (out .exit) ≡ laid (now (out .entry)) to (take n (address (rowAt (now (rows .entry)) at))) ⌝ }
+{
+    let mut i: usize = 0;
+    while i < n {
+        out[to + i] = octet_of(rows[at + 2 + i / 4], i % 4);
+        i = i + 1;
+    }
+}
+
 // The bytes of the row at a place, and no more, at a place of the output; how many.
 fn put_row(rows: &[u32], at: usize, form: Form, out: &mut [u8], to: usize) -> usize
     requires { ⌜ (at + 6 ≤ length (now rows)) × (to + length (rowBytes form (rowAt (now rows) at)) ≤ length (now out)) ⌝ }
@@ -81,13 +101,11 @@ fn put_row(rows: &[u32], at: usize, form: Form, out: &mut [u8], to: usize) -> us
     ensures size { λ r. ⌜ r ≡ length (rowBytes form (rowAt (now (rows .entry)) at)) ⌝ }
     ensures out { λ _. ⌜ now (out .exit) ≡ laid (now (out .entry)) to (rowBytes form (rowAt (now (rows .entry)) at)) ⌝ }
 {
-    let mut whole = [0u8; 21];
-    let len = put_head(rows, at, form, &mut whole, 0);
+    let len = put_head(rows, at, form, out, to);
     let k = families::id_size(form);
-    put_words(rows, at, &mut whole, k + 1);
-    let size = k + 1 + families::octet_count(len);
-    outputs::copy_at(out, to, &whole[..size]);
-    size
+    let n = families::octet_count(len);
+    put_octets(rows, at, n, out, to + k + 1);
+    k + 1 + n
 }
 
 // The next row, and the place of its bytes.
@@ -141,16 +159,18 @@ fn fill_ahead(rows: &[u32], afi: Afi, form: Form, out: &mut [u8], total: usize) 
     }
 }
 
-// The bytes of rows that can be written, `total` in all, in an output that has room; of the last rows just their bytes.
+// The bytes of rows that can be written, `total` in all, in an output that has room; of the last rows just their bytes. With `&rows[..]` the
+// slice is handed on in registers.
 fn fill(rows: &[u32], afi: Afi, form: Form, out: &mut [u8], total: usize)
     requires { ⌜ Fillable (now rows) (maxOf afi) form (now out) total ⌝ }
     ensures { λ _. ⌜ now (out .exit) ≡ laid (now (out .entry)) 0 (bytesOf (now (rows .entry)) (maxOf afi) form) ⌝ }
 {
-    let r = fill_ahead(rows, afi, form, out, total);
+    let ws = &rows[..];
+    let r = fill_ahead(ws, afi, form, out, total);
     let mut at: usize = r.at;
     let mut to: usize = r.to;
-    while at < rows.len() {
-        let n = put_row(rows, at, form, out, to);
+    while at < ws.len() {
+        let n = put_row(ws, at, form, out, to);
         at = at + 6;
         to = to + n;
     }

@@ -10,10 +10,10 @@ use Rattle.route_writer.proofs.fill.Tie as tie
 
 -- over any maximum length and any first output, which the loop does not know
 abbrev Inv-loop : tie.InvT-loop
-Inv-loop rows form out₀ total at₀ to₀ out at to = (max : ℕ) (d₀ : List ℕ) → Ahead max form rows d₀ at₀ to₀ out₀ → Ahead max form rows d₀ at to out
+Inv-loop rows form out₀ total ws at₀ to₀ out at to = (max : ℕ) (d₀ : List ℕ) → Ahead max form ws d₀ at₀ to₀ out₀ → Ahead max form ws d₀ at to out
 
 abbrev μ-loop : tie.MeasureT-loop
-μ-loop rows form out₀ total at₀ to₀ out at to = length rows - at
+μ-loop rows form out₀ total ws at₀ to₀ out at to = length ws - at
 
 fill-ahead-requires : tie.Need-fill-ahead-requires Inv-loop μ-loop
 fill-ahead-requires c κs = c .before .before .before .pre
