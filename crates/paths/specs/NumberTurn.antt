@@ -2,15 +2,15 @@
 -- Assumes nothing.
 use Prim.Native.Nat.{ℕ, _+_, _-_, _≤_, _<_}
 use mathlib.Core.Path.{_≡_, sym, ap, _∙_}
-use mathlib.Core.List.{List, _∷_}
+use mathlib.Core.List.{List, _∷_, _++_}
 use native.Mathlib.Omega.{arith}
 use lib.ListN.{length, drop, set}
 use Rattle.wire.specs.Number.{beAt}
-use Rattle.wire.specs.Store.{Laying, laying-start, laying-long, laying-room, laying-set, laying-done, laid}
+use Rattle.wire.specs.Store.{Laying, laying-start, laying-long, laying-room, laying-set, laying-done, laid, PutAhead}
 use Rattle.asns.specs.Asn.{span}
 use Rattle.asns.specs.AsnLaws.{span-less}
 use Rattle.paths.specs.Segment.{numbersOf}
-use Rattle.paths.specs.SegmentLaws.{length-numbers, numbers-next}
+use Rattle.paths.specs.SegmentLaws.{length-numbers, numbers-next, numbers-add}
 
 -- n numbers of w bytes go from `from` to `start`; `left` of them are still to come, from `at`, to `to`
 pub record Numbering (s : List ℕ) (from w n : ℕ) (d₀ : List ℕ) (start at to left : ℕ) (d : List ℕ) : Type 0 where
@@ -57,3 +57,22 @@ module _ (s : List ℕ) (from w n : ℕ) (d₀ : List ℕ) (start : ℕ) (fits :
       let less : left - 1 - 1 ≡ left - 2 = omega arith in
       rw (← place, ← next, ← less)
       (numbering-next (at + w) (to + 1) (left - 1) (set d to v) (numbering-next at to left d h v (omega arith) e) u (omega arith) e₂)
+
+-- ---- more numbers than a segment has
+
+-- a segment of n numbers may be put by eight: its own are among them, and they have places and bytes
+pub record Eight (n left places w : ℕ) : Type 0 where
+  pub few : n ≤ 8
+  pub below : 8 ≤ places
+  pub there : span w 8 ≤ left
+
+-- the first n of k numbers that were put
+pub put-more : (total : ℕ) (d : List ℕ) (to w n k : ℕ) (s d′ : List ℕ) → n ≤ k → to + k ≤ total → d′ ≡ laid d to (numbersOf w k s) → PutAhead total d to (numbersOf w n s) d′
+put-more total d to w n k s d′ few fits e =
+    let sum : k ≡ n + (k - n) = omega arith in
+    let parts : numbersOf w k s ≡ numbersOf w n s ++ numbersOf w (k - n) (drop (span w n) s) = ap (λ (j : ℕ). numbersOf w j s) sum ∙ numbers-add w n (k - n) s in
+    record {
+      more = numbersOf w (k - n) (drop (span w n) s);
+      fits = omega (arith, ap length parts, length-numbers w k s);
+      is = e ∙ ap (laid d to) parts;
+    }

@@ -2,15 +2,15 @@
 -- Assumes nothing.
 use Prim.Native.Nat.{ℕ, _+_, _-_, _≤_, _<_}
 use mathlib.Core.Path.{_≡_, sym, ap, ap₂, subst, _∙_}
-use mathlib.Core.List.{List, [], _∷_}
+use mathlib.Core.List.{List, [], _∷_, _++_}
 use native.Mathlib.Omega.{arith}
-use lib.ListN.{length, take, drop, getD}
-use lib.Seq.{getD-drop, drop-drop}
+use lib.ListN.{length, take, drop, getD, length-append}
+use lib.Seq.{getD-drop, drop-drop, length-take-le}
 use native.Mathlib.Nat.{add-zero}
 use Rattle.wire.specs.Refusal.{listLimit}
-use Rattle.wire.specs.Walk.{took, flat}
-use Rattle.wire.specs.Store.{laid}
-use Rattle.wire.specs.Turn.{rest, Counted, count-start, count-step, count-stop, count-done, Filled, fill-start, fill-fits, fill-step, fill-takes, fill-done}
+use Rattle.wire.specs.Walk.{took, Reading, flat}
+use Rattle.wire.specs.Store.{laid, Like, like-same, like-put, like-done, PutAhead}
+use Rattle.wire.specs.Turn.{rest, turn-end, Counted, count-start, count-step, count-stop, count-done, Filled, fill-start, fill-fits, fill-step, fill-takes, fill-done}
 use Rattle.asns.specs.Asn.{span}
 use Rattle.paths.specs.Segment.{Segment, numbersOf, Rule, segmentAt, segmentOf, pathOf, pairOf, asnsOf}
 use Rattle.paths.specs.SegmentLaws.{segment-sound, segment-taken, counted-taken, counted-refused, light-segments, light-numbers, length-numbers}
@@ -72,14 +72,14 @@ FilledPath rule w s p₀ n₀ at pair to pairs numbers =
     Filled (segmentOf rule w) pairOf tt s p₀ tt at pair pairs × Filled (segmentOf rule w) asnsOf tt s n₀ tt at to numbers
 
 module _ (rule : Rule) (w : ℕ) (s p₀ n₀ : List ℕ) where
-  pub filling-start : pathOf rule w s .verdict ≡ 0 → length (flat pairOf (pathOf rule w s .rows)) ≤ length p₀ → length (flat asnsOf (pathOf rule w s .rows)) ≤ length n₀
+  filling-start : pathOf rule w s .verdict ≡ 0 → length (flat pairOf (pathOf rule w s .rows)) ≤ length p₀ → length (flat asnsOf (pathOf rule w s .rows)) ≤ length n₀
       → FilledPath rule w s p₀ n₀ 0 0 0 p₀ n₀
   unfolding pathOf
   filling-start v p n =
       (fill-start (segmentOf rule w) (segment-sound rule w) pairOf tt s p₀ v p, fill-start (segmentOf rule w) (segment-sound rule w) asnsOf tt s n₀ v n)
 
   module _ (at pair to : ℕ) (pairs numbers : List ℕ) (h : FilledPath rule w s p₀ n₀ at pair to pairs numbers) where
-    pub filling-done : length s ≤ at → (pairs ≡ laid p₀ 0 (flat pairOf (pathOf rule w s .rows))) × (numbers ≡ laid n₀ 0 (flat asnsOf (pathOf rule w s .rows)))
+    filling-done : length s ≤ at → (pairs ≡ laid p₀ 0 (flat pairOf (pathOf rule w s .rows))) × (numbers ≡ laid n₀ 0 (flat asnsOf (pathOf rule w s .rows)))
     unfolding pathOf
     filling-done le = (
       fill-done (segmentOf rule w) (segment-sound rule w) pairOf tt s p₀ tt at pair pairs (h .0) le,
@@ -109,13 +109,10 @@ module _ (rule : Rule) (w : ℕ) (s p₀ n₀ : List ℕ) where
       asns-length : length (asnsOf (segmentAt w (drop at s))) ≡ getD s (at + 1) 0
       asns-length = ap length asns-is ∙ length-numbers w (getD s (at + 1) 0) (drop (at + 2) s)
 
-      pub filling-fits : (at + (2 + span w (getD s (at + 1) 0)) ≤ length s) × (pair + 2 ≤ length pairs) × (to + getD s (at + 1) 0 ≤ length numbers)
-      filling-fits =
-          let p = fill-fits (segmentOf rule w) (segment-sound rule w) pairOf tt s p₀ tt at pair pairs (h .0) tt _ _ taken in
-          let n = fill-fits (segmentOf rule w) (segment-sound rule w) asnsOf tt s n₀ tt at to numbers (h .1) tt _ _ taken in
-          (p .1, p .2, omega (arith, n .2, asns-length))
+      filling-fits : (at + (2 + span w (getD s (at + 1) 0)) ≤ length s) × (pair + 2 ≤ length pairs)
+      filling-fits = let p = fill-fits (segmentOf rule w) (segment-sound rule w) pairOf tt s p₀ tt at pair pairs (h .0) tt _ _ taken in (p .1, p .2)
 
-      pub filling-next :
+      filling-next :
           FilledPath rule w s p₀ n₀ (at + (2 + span w (getD s (at + 1) 0))) (pair + 2) (to + getD s (at + 1) 0)
           (laid pairs pair (getD s at 0 ∷ getD s (at + 1) 0 ∷ [])) (laid numbers to (numbersOf w (getD s (at + 1) 0) (drop (at + 2) s)))
       filling-next =
@@ -126,3 +123,68 @@ module _ (rule : Rule) (w : ℕ) (s p₀ n₀ : List ℕ) where
             subst (λ (l : List ℕ). Filled (segmentOf rule w) asnsOf tt s n₀ tt (at + size) (to + getD s (at + 1) 0) (laid numbers to l)) asns-is
                 (subst (λ (k : ℕ). Filled (segmentOf rule w) asnsOf tt s n₀ tt (at + size) (to + k) (laid numbers to (asnsOf (segmentAt w (drop at s))))) asns-length n),
           )
+
+-- ---- filling ahead
+
+-- at the head: the same, but for what stands in the store of the numbers from `to` up to `total`, the number of all
+pub record AheadPath (rule : Rule) (w : ℕ) (s p₀ n₀ : List ℕ) (total at pair to : ℕ) (pairs numbers : List ℕ) : Type 0 where
+  -- with nothing put past `to`
+  pub clean : List ℕ
+  pub filled : FilledPath rule w s p₀ n₀ at pair to pairs clean
+  pub like : Like total to numbers clean
+  pub all : length (flat asnsOf (pathOf rule w s .rows)) ≡ total
+
+-- the numbers before `to` and those from `at` on are all
+filled-sum : (rule : Rule) (w : ℕ) (s p₀ n₀ : List ℕ) (at pair to : ℕ) (pairs numbers : List ℕ) → FilledPath rule w s p₀ n₀ at pair to pairs numbers
+    → to + length (flat asnsOf (pathOf rule w (drop at s) .rows)) ≡ length (flat asnsOf (pathOf rule w s .rows))
+unfolding pathOf
+filled-sum rule w s p₀ n₀ at pair to pairs numbers f =
+    let n : length (take to numbers) ≡ to = length-take-le to numbers (omega (arith, f .1 .room, f .1 .long)) in
+    omega (arith, ap length (f .1 .front), length-append (take to numbers) (flat asnsOf (pathOf rule w (drop at s) .rows)))
+
+module _ (rule : Rule) (w : ℕ) (s p₀ n₀ : List ℕ) (total : ℕ) where
+  pub ahead-start : pathOf rule w s .verdict ≡ 0 → length (flat pairOf (pathOf rule w s .rows)) ≤ length p₀ → length (flat asnsOf (pathOf rule w s .rows)) ≡ total → total ≤ length n₀
+      → AheadPath rule w s p₀ n₀ total 0 0 0 p₀ n₀
+  ahead-start v p all room = record { clean = n₀; filled = filling-start rule w s p₀ n₀ v p (omega arith); like = like-same total 0 n₀; all = all }
+
+  module _ (at pair to : ℕ) (pairs numbers : List ℕ) (h : AheadPath rule w s p₀ n₀ total at pair to pairs numbers) where
+    sum : to + length (flat asnsOf (pathOf rule w (drop at s) .rows)) ≡ total
+    sum = filled-sum rule w s p₀ n₀ at pair to pairs (h .clean) (h .filled) ∙ h .all
+
+    -- the stores are as long as they were, and that of the numbers has room for all
+    pub ahead-long : (length pairs ≡ length p₀) × (length numbers ≡ length n₀) × (total ≤ length numbers)
+    unfolding pathOf
+    ahead-long =
+        let long : length numbers ≡ length n₀ = h .like .long ∙ h .filled .1 .long in
+        (h .filled .0 .long, long, omega (arith, sum, h .filled .1 .room))
+
+    pub ahead-done : length s ≤ at → (pairs ≡ laid p₀ 0 (flat pairOf (pathOf rule w s .rows))) × (numbers ≡ laid n₀ 0 (flat asnsOf (pathOf rule w s .rows)))
+    unfolding pathOf flat
+    ahead-done le =
+        let none : length (flat asnsOf (pathOf rule w (drop at s) .rows)) ≡ 0 = ap (λ (r : Reading Segment). length (flat asnsOf (r .rows))) (turn-end (segmentOf rule w) (segment-sound rule w) s tt at le) in
+        let end : to ≡ total = omega (arith, sum) in
+        let d = filling-done rule w s p₀ n₀ at pair to pairs (h .clean) (h .filled) le in
+        (d .0, like-done total numbers (h .clean) (rw end at (h .like)) ∙ d .1)
+
+    module _ (lt : at < length s) where
+      pub ahead-fits : (at + (2 + span w (getD s (at + 1) 0)) ≤ length s) × (pair + 2 ≤ length pairs) × (to + getD s (at + 1) 0 ≤ total)
+      ahead-fits =
+          let f = filling-fits rule w s p₀ n₀ at pair to pairs (h .clean) (h .filled) lt in
+          let next = filled-sum rule w s p₀ n₀ _ _ _ _ _ (filling-next rule w s p₀ n₀ at pair to pairs (h .clean) (h .filled) lt) in
+          (f .0, f .1, omega (arith, next, h .all))
+
+      -- the segment's numbers are put, and perhaps more
+      pub ahead-next : (numbers′ : List ℕ) → PutAhead total numbers to (numbersOf w (getD s (at + 1) 0) (drop (at + 2) s)) numbers′
+          → AheadPath rule w s p₀ n₀ total (at + (2 + span w (getD s (at + 1) 0))) (pair + 2) (to + getD s (at + 1) 0)
+          (laid pairs pair (getD s at 0 ∷ getD s (at + 1) 0 ∷ [])) numbers′
+      ahead-next numbers′ p =
+          let vs : List ℕ = numbersOf w (getD s (at + 1) 0) (drop (at + 2) s) in
+          let put = like-put total to numbers (h .clean) vs (p .more) (h .like) (p .fits) (ahead-long .2) in
+          record {
+            clean = laid (h .clean) to vs;
+            filled = filling-next rule w s p₀ n₀ at pair to pairs (h .clean) (h .filled) lt;
+            like =
+                subst (λ (d : List ℕ). Like total (to + getD s (at + 1) 0) d (laid (h .clean) to vs)) (sym (p .is))
+                (subst (λ (k : ℕ). Like total (to + k) (laid numbers to (vs ++ p .more)) (laid (h .clean) to vs)) (length-numbers w (getD s (at + 1) 0) (drop (at + 2) s)) put);
+            all = h .all;
+          }

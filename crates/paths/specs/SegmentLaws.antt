@@ -2,8 +2,8 @@
 -- Assumes nothing.
 use Prim.Native.Nat.{ℕ, zero, suc, _+_, _-_, _≤_, _<_}
 use mathlib.Core.Path.{_≡_, refl, sym, ap, ap₂, _∙_}
-use mathlib.Core.List.{List, _∷_}
-use native.Mathlib.Nat.{not-suc-le-zero}
+use mathlib.Core.List.{List, _∷_, _++_}
+use native.Mathlib.Nat.{not-suc-le-zero, zero-add}
 use native.Mathlib.Numerals.{sub-one}
 use native.Mathlib.Omega.{arith}
 use borrow.Author.Tests.{le-leb}
@@ -32,6 +32,14 @@ pub numbers-next : (w n at : ℕ) (s : List ℕ) → 0 < n → numbersOf w n (dr
 unfolding numbersOf beAt
 numbers-next w zero at s h = absurd (not-suc-le-zero h)
 numbers-next w (suc n) at s h = rw (sub-one (suc n), drop-drop w at s)
+
+-- some, and those after them
+pub numbers-add : (w m n : ℕ) (s : List ℕ) → numbersOf w (m + n) s ≡ numbersOf w m s ++ numbersOf w n (drop (span w m) s)
+unfolding numbersOf span
+numbers-add w zero n s = rw (zero-add n)
+numbers-add w (suc m) n s =
+    let e : suc m + n ≡ suc (m + n) = omega arith in
+    rw e (ap (λ (l : List ℕ). beAt s 0 w ∷ l) (numbers-add w m n (drop w s) ∙ ap (λ (l : List ℕ). numbersOf w m (drop w s) ++ numbersOf w n l) (drop-drop (span w m) w s)))
 
 -- ---- types
 

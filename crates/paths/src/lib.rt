@@ -2,14 +2,16 @@
 // attr_02_17_as_path.rs.
 ghost use mathlib.Core.Path.{_≡_};
 ghost use Prim.Native.Nat.{_+_, _≤_, _<_};
+ghost use mathlib.Core.Bool.{true};
 ghost use mathlib.Core.List.{[], _∷_};
 ghost use lib.ListN.{length, drop};
 ghost use Rattle.wire.specs.Number.{beAt};
-ghost use Rattle.wire.specs.Store.{laid};
+ghost use Rattle.wire.specs.Store.{laid, PutAhead};
 ghost use Rattle.wire.specs.Walk.{flat};
 ghost use Rattle.asns.specs.Asn.{widthOf, span};
 ghost use Rattle.paths.specs.Segment.{numbersOf, typeFault, knownType, pairOf, asnsOf, segmentOf, pathOf};
 ghost use Rattle.paths.specs.Size.{countIn};
+ghost use Rattle.paths.specs.NumberTurn.{Eight};
 ghost use Rattle.paths.specs.Promises.{countAnswer, readAnswer, pairsAfter, numbersAfter};
 use asns::AsnLength;
 use wire::refusal;
@@ -18,6 +20,9 @@ use wire::refusal;
 const AS_SET: u32 = 1;
 
 const CONFED_SET: u32 = 4;
+
+// So many numbers are put at once for a segment that has no more: its count is then not looped over.
+const AHEAD: usize = 8;
 
 // A path: its segments and their numbers, or a refusal number.
 pub enum PathAnswer {
@@ -163,11 +168,47 @@ fn put_numbers(s: &[u8], from: usize, n: usize, width: AsnLength, numbers: &mut 
     }
 }
 
-// The segments of a good path that has room. No test of a segment is made again.
-fn fill(value: &[u8], width: AsnLength, pairs: &mut [u32], numbers: &mut [u32])
+// Whether a segment of n numbers may be put by eight: eight stand in the bytes left, and have places below the end.
+fn has_eight(n: usize, left: usize, places: usize, width: AsnLength) -> bool
+    ensures { λ r. ⌜ (r ≡ true → Eight n left places (widthOf width)) ⌝ }
+{
+    if AHEAD < n {
+        return false;
+    }
+    if places < AHEAD {
+        return false;
+    }
+    asns::numbers_size(AHEAD as u16, width) <= left
+}
+
+// The n numbers at a place of the bytes, to a place of the store, and perhaps more after them, below `total`.
+fn put_ahead(
+    value: &[u8],
+    at: usize,
+    n: usize,
+    width: AsnLength,
+    numbers: &mut [u32],
+    to: usize,
+    total: usize,
+)
+    requires { ⌜ at + span (widthOf width) n ≤ length (now value) ⌝ }
+    requires { ⌜ to + n ≤ total ⌝ }
+    requires { ⌜ total ≤ length (now numbers) ⌝ }
+    ensures { λ _. ⌜ PutAhead total (now (numbers .entry)) to (numbersOf (widthOf width) n (drop at (now (value .entry)))) (now (numbers .exit)) ⌝ }
+{
+    if has_eight(n, value.len() - at, total - to, width) {
+        put_numbers(value, at, AHEAD, width, numbers, to);
+        return;
+    }
+    put_numbers(value, at, n, width, numbers, to);
+}
+
+// The segments of a good path that has room, with `total` numbers. No test of a segment is made again.
+fn fill(value: &[u8], width: AsnLength, pairs: &mut [u32], numbers: &mut [u32], total: usize)
     requires { ⌜ pathOf knownType (widthOf width) (now value) .verdict ≡ 0 ⌝ }
     requires { ⌜ length (flat pairOf (pathOf knownType (widthOf width) (now value) .rows)) ≤ length (now pairs) ⌝ }
-    requires { ⌜ length (flat asnsOf (pathOf knownType (widthOf width) (now value) .rows)) ≤ length (now numbers) ⌝ }
+    requires { ⌜ length (flat asnsOf (pathOf knownType (widthOf width) (now value) .rows)) ≡ total ⌝ }
+    requires { ⌜ total ≤ length (now numbers) ⌝ }
     ensures pairs { λ _. ⌜ now (pairs .exit) ≡ laid (now (pairs .entry)) 0 (flat pairOf (pathOf knownType (widthOf width) (now (value .entry)) .rows)) ⌝ }
     ensures numbers { λ _. ⌜ now (numbers .exit) ≡ laid (now (numbers .entry)) 0 (flat asnsOf (pathOf knownType (widthOf width) (now (value .entry)) .rows)) ⌝ }
 {
@@ -177,7 +218,7 @@ fn fill(value: &[u8], width: AsnLength, pairs: &mut [u32], numbers: &mut [u32])
     while at < value.len() {
         let count = value[at + 1];
         put_pair(pairs, pair, wire::wide(value[at]), wire::wide(count));
-        put_numbers(value, at + 2, count as usize, width, numbers, to);
+        put_ahead(value, at + 2, count as usize, width, numbers, to, total);
         at = at + (2 + asns::numbers_size(count as u16, width));
         pair = pair + 2;
         to = to + count as usize;
@@ -206,7 +247,7 @@ pub fn parse_as_path(
             if numbers.len() < n {
                 return PathAnswer::Refused(refusal::NO_ROOM);
             }
-            fill(value, width, pairs, numbers);
+            fill(value, width, pairs, numbers, n);
             PathAnswer::Path {
                 segments,
                 numbers: n,

@@ -39,7 +39,7 @@ fill-requires c κs =
     let k = c .before .before .before .before in
     let a = c .before .before .before .before .before .before .before .before .before .before .before .args in
     let h = count-path (a .value .now) _ _ _ (counted k) in
-    (h .1, (omega (arith, h .2, c .before .before .before .if1 .left, pairs-length (pathOf knownType (widthOf (a .width)) (a .value .now) .rows)), omega (arith, h .3, c .before .before .if2 .left)))
+    (h .1, (omega (arith, h .2, c .before .before .before .if1 .left, pairs-length (pathOf knownType (widthOf (a .width)) (a .value .now) .rows)), (h .3, c .before .before .if2 .left)))
 
 enum-known-n : tie.Need-enum-known-n
 enum-known-n c = search needs
