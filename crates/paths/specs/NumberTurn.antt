@@ -60,12 +60,6 @@ module _ (s : List ℕ) (from w n : ℕ) (d₀ : List ℕ) (start : ℕ) (fits :
 
 -- ---- more numbers than a segment has
 
--- a segment of n numbers may be put by eight: its own are among them, and they have places and bytes
-pub record Eight (n left places w : ℕ) : Type 0 where
-  pub few : n ≤ 8
-  pub below : 8 ≤ places
-  pub there : span w 8 ≤ left
-
 -- the first n of k numbers that were put
 pub put-more : (total : ℕ) (d : List ℕ) (to w n k : ℕ) (s d′ : List ℕ) → n ≤ k → to + k ≤ total → d′ ≡ laid d to (numbersOf w k s) → PutAhead total d to (numbersOf w n s) d′
 put-more total d to w n k s d′ few fits e =

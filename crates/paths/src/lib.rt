@@ -11,7 +11,6 @@ ghost use Rattle.wire.specs.Walk.{flat};
 ghost use Rattle.asns.specs.Asn.{widthOf, span};
 ghost use Rattle.paths.specs.Segment.{numbersOf, typeFault, knownType, pairOf, asnsOf, segmentOf, pathOf};
 ghost use Rattle.paths.specs.Size.{countIn};
-ghost use Rattle.paths.specs.NumberTurn.{Eight};
 ghost use Rattle.paths.specs.Promises.{countAnswer, readAnswer, pairsAfter, numbersAfter};
 use asns::AsnLength;
 use wire::refusal;
@@ -20,9 +19,6 @@ use wire::refusal;
 const AS_SET: u32 = 1;
 
 const CONFED_SET: u32 = 4;
-
-// So many numbers are put at once for a segment that has no more: its count is then not looped over.
-const AHEAD: usize = 8;
 
 // A path: its segments and their numbers, or a refusal number.
 pub enum PathAnswer {
@@ -168,19 +164,6 @@ fn put_numbers(s: &[u8], from: usize, n: usize, width: AsnLength, numbers: &mut 
     }
 }
 
-// Whether a segment of n numbers may be put by eight: eight stand in the bytes left, and have places below the end.
-fn has_eight(n: usize, left: usize, places: usize, width: AsnLength) -> bool
-    ensures { λ r. ⌜ (r ≡ true → Eight n left places (widthOf width)) ⌝ }
-{
-    if AHEAD < n {
-        return false;
-    }
-    if places < AHEAD {
-        return false;
-    }
-    asns::numbers_size(AHEAD as u16, width) <= left
-}
-
 // The n numbers at a place of the bytes, to a place of the store, and perhaps more after them, below `total`.
 fn put_ahead(
     value: &[u8],
@@ -196,8 +179,8 @@ fn put_ahead(
     requires { ⌜ total ≤ length (now numbers) ⌝ }
     ensures { λ _. ⌜ PutAhead total (now (numbers .entry)) to (numbersOf (widthOf width) n (drop at (now (value .entry)))) (now (numbers .exit)) ⌝ }
 {
-    if has_eight(n, value.len() - at, total - to, width) {
-        put_numbers(value, at, AHEAD, width, numbers, to);
+    if asns::eight_for(n, total - to, value.len() - at, width) {
+        put_numbers(value, at, asns::AT_ONCE, width, numbers, to);
         return;
     }
     put_numbers(value, at, n, width, numbers, to);
