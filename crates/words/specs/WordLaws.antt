@@ -30,3 +30,7 @@ one-word f g h k e =
     let n : f .refusal ≡ g .refusal = sym (word-refusal f h) ∙ ap (λ (w : ℕ). w / 281474976710656) e ∙ word-refusal g k in
     let all : fields (f .a) (f .b) (f .c) (f .refusal) ≡ fields (g .a) (g .b) (g .c) (g .refusal) = cc in
     all
+
+-- the word of an answer is the word of what the answer equals
+pub told : {A : Type 0} (f : A → Fields) {r : ℕ} {a b : A} → r ≡ wordOf (f a) → a ≡ b → r ≡ wordOf (f b)
+told f e h = e ∙ ap (λ x. wordOf (f x)) h

@@ -1,3 +1,5 @@
+use Rattle.words.specs.WordLaws.{told}
+use Rattle.asn_words.specs.Fields.{asnsWritten}
 use Rattle.asn_words.specs.Bounds.{write-path-narrow}
 use borrow.Author.Needs.{needs}
 use Rattle.asn_words.proofs.encode_as_path.Statement.{statement}
@@ -16,7 +18,9 @@ same-length : tie.Need-same-length
 same-length c = search needs
 
 returns : tie.Need-returns
-returns c = let k = c .before .before .before .encode-as-path .ensures in rw (← c .before .before .before .before .before .asn-length-of .ensures, ← k .0) (c .asns-written .ensures, k .1)
+returns c =
+    let e = rw (c .before .before .before .before .before .asn-length-of .ensures) at (c .before .before .before .encode-as-path .ensures) in
+    (told asnsWritten (c .asns-written .ensures) (e .0), e .1)
 
 pub encode-as-path-spec : {M : Type 1} → statement M
 encode-as-path-spec =

@@ -1,3 +1,5 @@
+use Rattle.words.specs.WordLaws.{told}
+use Rattle.list_words.specs.Fields.{listFields}
 use Rattle.list_words.specs.Bounds.{count-list-narrow}
 use borrow.Author.Needs.{needs}
 use Rattle.list_words.proofs.count_nlri_list.Statement.{statement}
@@ -16,7 +18,9 @@ list-word-requires : tie.Need-list-word-requires
 list-word-requires c κs = rw (c .count-nlri-list .ensures) (count-list-narrow _ _ _)
 
 returns : tie.Need-returns
-returns c = rw (← c .before .before .before .family-of .ensures, ← c .before .before .mode-of .ensures, ← c .before .count-nlri-list .ensures) (c .list-word .ensures)
+returns c =
+    let e = rw (c .before .before .before .family-of .ensures, c .before .before .mode-of .ensures) at (c .before .count-nlri-list .ensures) in
+    told listFields (c .list-word .ensures) e
 
 pub count-nlri-list-spec : {M : Type 1} → statement M
 count-nlri-list-spec =

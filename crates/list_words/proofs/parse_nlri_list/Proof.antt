@@ -1,3 +1,5 @@
+use Rattle.words.specs.WordLaws.{told}
+use Rattle.list_words.specs.Fields.{listFields}
 use Rattle.list_words.specs.Bounds.{read-list-narrow}
 use borrow.Author.Needs.{needs}
 use Rattle.list_words.proofs.parse_nlri_list.Statement.{statement}
@@ -19,7 +21,9 @@ same-length : tie.Need-same-length
 same-length c = search needs
 
 returns : tie.Need-returns
-returns c = let k = c .before .before .before .parse-nlri-list .ensures in rw (← c .before .before .before .before .before .before .family-of .ensures, ← c .before .before .before .before .before .mode-of .ensures, ← k .0) (c .list-word .ensures, k .1)
+returns c =
+    let e = rw (c .before .before .before .before .before .before .family-of .ensures, c .before .before .before .before .before .mode-of .ensures) at (c .before .before .before .parse-nlri-list .ensures) in
+    (told listFields (c .list-word .ensures) (e .0), e .1)
 
 pub parse-nlri-list-spec : {M : Type 1} → statement M
 parse-nlri-list-spec =

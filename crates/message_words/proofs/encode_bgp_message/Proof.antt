@@ -1,3 +1,5 @@
+use Rattle.words.specs.WordLaws.{told}
+use Rattle.message_words.specs.Fields.{messageWritten}
 use Rattle.message_words.specs.Bounds.{write-message-narrow}
 use borrow.Author.Needs.{needs}
 use Rattle.message_words.proofs.encode_bgp_message.Statement.{statement}
@@ -13,7 +15,7 @@ same-length : tie.Need-same-length
 same-length c = search needs
 
 returns : tie.Need-returns
-returns c = let k = c .before .before .before .encode-bgp-message .ensures in rw (← k .0) (c .message-written .ensures, k .1)
+returns c = let e = c .before .before .before .encode-bgp-message .ensures in (told messageWritten (c .message-written .ensures) (e .0), e .1)
 
 pub encode-bgp-message-spec : {M : Type 1} → statement M
 encode-bgp-message-spec =

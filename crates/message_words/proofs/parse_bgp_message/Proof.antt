@@ -1,3 +1,5 @@
+use Rattle.words.specs.WordLaws.{told}
+use Rattle.message_words.specs.Fields.{messageFields}
 use Rattle.message_words.specs.Bounds.{message-narrow}
 use borrow.Author.Needs.{needs}
 use Rattle.message_words.proofs.parse_bgp_message.Statement.{statement}
@@ -10,7 +12,7 @@ message-word-requires : tie.Need-message-word-requires
 message-word-requires c κs = rw (c .parse-bgp-message .ensures) (message-narrow _)
 
 returns : tie.Need-returns
-returns c = rw (← c .before .parse-bgp-message .ensures) (c .message-word .ensures)
+returns c = told messageFields (c .message-word .ensures) (c .before .parse-bgp-message .ensures)
 
 pub parse-bgp-message-spec : {M : Type 1} → statement M
 parse-bgp-message-spec =

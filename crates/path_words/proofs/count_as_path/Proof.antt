@@ -1,3 +1,5 @@
+use Rattle.words.specs.WordLaws.{told}
+use Rattle.path_words.specs.Fields.{pathFields}
 use Rattle.path_words.specs.Bounds.{count-path-narrow}
 use borrow.Author.Needs.{needs}
 use Rattle.path_words.proofs.count_as_path.Statement.{statement}
@@ -13,7 +15,9 @@ path-word-requires : tie.Need-path-word-requires
 path-word-requires c κs = rw (c .count-as-path .ensures) (count-path-narrow _ (c .before .asn-length-of .result))
 
 returns : tie.Need-returns
-returns c = rw (← c .before .before .asn-length-of .ensures, ← c .before .count-as-path .ensures) (c .path-word .ensures)
+returns c =
+    let e = rw (c .before .before .asn-length-of .ensures) at (c .before .count-as-path .ensures) in
+    told pathFields (c .path-word .ensures) e
 
 pub count-as-path-spec : {M : Type 1} → statement M
 count-as-path-spec =

@@ -1,3 +1,5 @@
+use Rattle.words.specs.WordLaws.{told}
+use Rattle.path_words.specs.Fields.{pathFields}
 use Rattle.path_words.specs.Bounds.{read-path-narrow}
 use borrow.Author.Needs.{needs}
 use Rattle.path_words.proofs.parse_as_path.Statement.{statement}
@@ -19,7 +21,9 @@ same-length-2 : tie.Need-same-length-2
 same-length-2 c = search needs
 
 returns : tie.Need-returns
-returns c = let k = c .before .before .before .before .before .parse-as-path .ensures in rw (← c .before .before .before .before .before .before .before .before .asn-length-of .ensures, ← k .0) (c .path-word .ensures, (k .1 .0, k .1 .1))
+returns c =
+    let e = rw (c .before .before .before .before .before .before .before .before .asn-length-of .ensures) at (c .before .before .before .before .before .parse-as-path .ensures) in
+    (told pathFields (c .path-word .ensures) (e .0), (e .1 .0, e .1 .1))
 
 pub parse-as-path-spec : {M : Type 1} → statement M
 parse-as-path-spec =

@@ -1,3 +1,5 @@
+use Rattle.words.specs.WordLaws.{told}
+use Rattle.row_words.specs.Fields.{routesWritten}
 use Rattle.row_words.specs.Bounds.{write-update-narrow}
 use borrow.Author.Needs.{needs}
 use Rattle.row_words.proofs.encode_bgp_update_message.Statement.{statement}
@@ -16,7 +18,9 @@ same-length : tie.Need-same-length
 same-length c = search needs
 
 returns : tie.Need-returns
-returns c = let k = c .before .before .before .encode-bgp-update-message .ensures in rw (← c .before .before .before .before .before .form-of .ensures, ← k .0) (c .routes-written .ensures, k .1)
+returns c =
+    let e = rw (c .before .before .before .before .before .form-of .ensures) at (c .before .before .before .encode-bgp-update-message .ensures) in
+    (told routesWritten (c .routes-written .ensures) (e .0), rw (e .0) at (e .1))
 
 pub encode-bgp-update-message-spec : {M : Type 1} → statement M
 encode-bgp-update-message-spec =

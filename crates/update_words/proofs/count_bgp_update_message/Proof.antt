@@ -1,3 +1,5 @@
+use Rattle.words.specs.WordLaws.{told}
+use Rattle.update_words.specs.Fields.{updateFields}
 use Rattle.update_words.specs.Bounds.{count-update-narrow}
 use borrow.Author.Needs.{needs}
 use Rattle.update_words.proofs.count_bgp_update_message.Statement.{statement}
@@ -13,7 +15,9 @@ update-word-requires : tie.Need-update-word-requires
 update-word-requires c κs = rw (c .count-bgp-update-message .ensures) (count-update-narrow _ _)
 
 returns : tie.Need-returns
-returns c = rw (← c .before .before .mode-of .ensures, ← c .before .count-bgp-update-message .ensures) (c .update-word .ensures)
+returns c =
+    let e = rw (c .before .before .mode-of .ensures) at (c .before .count-bgp-update-message .ensures) in
+    told updateFields (c .update-word .ensures) e
 
 pub count-bgp-update-message-spec : {M : Type 1} → statement M
 count-bgp-update-message-spec =

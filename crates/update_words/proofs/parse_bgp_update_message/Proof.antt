@@ -1,3 +1,5 @@
+use Rattle.words.specs.WordLaws.{told}
+use Rattle.update_words.specs.Fields.{updateFields}
 use Rattle.update_words.specs.Bounds.{read-update-narrow}
 use borrow.Author.Needs.{needs}
 use Rattle.update_words.proofs.parse_bgp_update_message.Statement.{statement}
@@ -19,7 +21,9 @@ same-length-2 : tie.Need-same-length-2
 same-length-2 c = search needs
 
 returns : tie.Need-returns
-returns c = let k = c .before .before .before .before .before .parse-bgp-update-message .ensures in rw (← c .before .before .before .before .before .before .before .before .mode-of .ensures, ← k .0) (c .update-word .ensures, (k .1 .0, k .1 .1))
+returns c =
+    let e = rw (c .before .before .before .before .before .before .before .before .mode-of .ensures) at (c .before .before .before .before .before .parse-bgp-update-message .ensures) in
+    (told updateFields (c .update-word .ensures) (e .0), rw (e .0) at (e .1))
 
 pub parse-bgp-update-message-spec : {M : Type 1} → statement M
 parse-bgp-update-message-spec =
