@@ -9,7 +9,7 @@ use lib.ListN.{length, getD, take, drop, replicate, length-replicate, length-app
 use lib.Seq.{getD-drop, take-length}
 use lib.Arith.{digits-lt, digits-div, digits-mod}
 use lib.Pow.{pow-add}
-use Rattle.wire.specs.Number.{be, toBe, padded, Bytes}
+use Rattle.wire.specs.Number.{be, toBe, padded, beAt, Bytes}
 
 -- ---- reading and writing are inverse
 
@@ -171,6 +171,20 @@ padded-from s at k (suc n) =
 
 pub padded-cells : (s : List ℕ) (at n : ℕ) → padded n (drop at s) ≡ cells s at 0 n
 padded-cells s at n = ap (λ (j : ℕ). padded n (drop j s)) (sym (add-zero at)) ∙ padded-from s at 0 n
+
+-- the number of two and of four bytes at a place, from what code read there
+pub two-at : (s : List ℕ) (at : ℕ) {r a b : ℕ} → r ≡ be (a ∷ b ∷ []) → a ≡ getD s at 0 → b ≡ getD s (at + 1) 0 → r ≡ beAt s at 2
+unfolding beAt
+two-at s at e f g = e ∙ ap₂ (λ (a b : ℕ). be (a ∷ b ∷ [])) f g ∙ sym (ap be (padded-cells s at 2))
+
+pub four-at : (s : List ℕ) (at : ℕ) {r a b c d : ℕ} → r ≡ be (a ∷ b ∷ c ∷ d ∷ []) → a ≡ getD s at 0 → b ≡ getD s (at + 1) 0 → c ≡ getD s (at + 2) 0 → d ≡ getD s (at + 3) 0
+    → r ≡ beAt s at 4
+unfolding beAt
+four-at s at {c = c} {d = d} e f g h k =
+    e
+    ∙ ap₂ (λ (a b : ℕ). be (a ∷ b ∷ c ∷ d ∷ [])) f g
+    ∙ ap₂ (λ (c d : ℕ). be (getD s at 0 ∷ getD s (at + 1) 0 ∷ c ∷ d ∷ [])) h k
+    ∙ sym (ap be (padded-cells s at 4))
 
 -- ---- a number with its last bytes cleared
 

@@ -1,7 +1,7 @@
 use lib.ListN.{drop-of-length-le}
-use Rattle.wire.specs.Number.{be, beAt}
-use Rattle.wire.specs.NumberLaws.{padded-cells}
-use mathlib.Core.Path.{ap}
+use Rattle.wire.specs.Number.{beAt}
+use Rattle.wire.specs.NumberLaws.{two-at}
+use mathlib.Core.Path.{refl}
 use borrow.Author.Needs.{needs}
 use Rattle.wire.proofs.u16_at.Statement.{statement}
 use Rattle.wire.proofs.u16_at.Tie as tie
@@ -23,8 +23,7 @@ join2-requires : tie.Need-join2-requires
 join2-requires c κs = search needs
 
 returns-2 : tie.Need-returns-2
-unfolding beAt
-returns-2 c = let a = c .before .before .before .before .before .args in cc (ap be (padded-cells (a .s .now) (a .at) 2))
+returns-2 c = let a = c .before .before .before .before .before .args in two-at (a .s .now) (a .at) (c .join2 .ensures) refl (c .before .octet .ensures)
 
 pub u16-at-spec : {M : Type 1} → statement M
 u16-at-spec =

@@ -1,6 +1,6 @@
-use Rattle.wire.specs.Number.{be, beAt}
-use Rattle.wire.specs.NumberLaws.{padded-cells}
-use mathlib.Core.Path.{sym, ap, _∙_}
+use Rattle.wire.specs.Number.{beAt}
+use Rattle.wire.specs.NumberLaws.{four-at}
+use mathlib.Core.Path.{refl}
 use lib.ListN.{drop-of-length-le}
 use borrow.Author.Needs.{needs}
 use Rattle.wire.proofs.u32_at.Statement.{statement}
@@ -38,8 +38,7 @@ join4-requires : tie.Need-join4-requires
 join4-requires c κs = search needs
 
 returns-2 : tie.Need-returns-2
-unfolding beAt
-returns-2 c = let a = c .before .before .before .before .before .before .before .before .args in c .join4 .ensures ∙ sym (ap be (padded-cells (a .s .now) (a .at) 4))
+returns-2 c = let a = c .before .before .before .before .before .before .before .before .args in four-at (a .s .now) (a .at) (c .join4 .ensures) refl refl refl refl
 
 octet-requires : tie.Need-octet-requires
 octet-requires c κs = search needs
@@ -66,8 +65,9 @@ join4-requires-2 : tie.Need-join4-requires-2
 join4-requires-2 c κs = search needs
 
 returns-3 : tie.Need-returns-3
-unfolding beAt
-returns-3 c = let a = c .before .before .before .before .before .before .before .before .args in cc (ap be (padded-cells (a .s .now) (a .at) 4))
+returns-3 c =
+    let a = c .before .before .before .before .before .before .before .before .args in
+    four-at (a .s .now) (a .at) (c .join42 .ensures) (c .before .before .before .before .octet .ensures) (c .before .before .before .octet2 .ensures) (c .before .before .octet3 .ensures) (c .before .octet4 .ensures)
 
 pub u32-at-spec : {M : Type 1} → statement M
 u32-at-spec =

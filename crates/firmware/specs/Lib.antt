@@ -1,6 +1,0 @@
-pub mod Settings
-pub mod Word
-pub mod Answers
-pub mod WordLaws
-pub mod Bounds
-pub mod Tight

@@ -1,0 +1,5 @@
+pub mod Settings
+pub mod Word
+pub mod WordLaws
+pub mod Bounds
+pub mod Tight
