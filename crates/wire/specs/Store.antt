@@ -208,6 +208,14 @@ module _ (d₀ : List ℕ) (start : ℕ) (all : List ℕ) (fits : start + length
     pub laying-done : left ≡ [] → d ≡ laid d₀ start all
     laying-done e = h .store ∙ ap (laid d₀ start) (sym (append-nil (h .done)) ∙ ap (λ (l : List ℕ). h .done ++ l) (sym e) ∙ h .parts)
 
+-- ---- values put over others
+
+pub laid-over : (d : List ℕ) (at : ℕ) (vs ws : List ℕ) → length vs ≤ length ws → at + length ws ≤ length d → laid (laid d at vs) at ws ≡ laid d at ws
+laid-over d at vs ws le fits =
+    ap₂ (λ (a b : List ℕ). a ++ (ws ++ b))
+    (take-at (take at d) (vs ++ drop (at + length vs) d) at (length-take-le at d (omega arith)))
+    (drop-laid-past d at vs (at + length ws) (omega arith) (omega arith))
+
 -- ---- values put with more after them, which later values overwrite
 
 -- a store that is like another but for what stands from place `to` up to place `total`
