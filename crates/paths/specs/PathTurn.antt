@@ -4,13 +4,13 @@ use Prim.Native.Nat.{ℕ, _+_, _-_, _≤_, _<_}
 use mathlib.Core.Path.{_≡_, sym, ap, ap₂, subst, _∙_}
 use mathlib.Core.List.{List, [], _∷_, _++_}
 use native.Mathlib.Omega.{arith}
-use lib.ListN.{length, take, drop, getD, length-append}
-use lib.Seq.{getD-drop, drop-drop, length-take-le}
+use lib.ListN.{length, take, drop, getD}
+use lib.Seq.{getD-drop, drop-drop}
 use native.Mathlib.Nat.{add-zero}
 use Rattle.wire.specs.Refusal.{listLimit}
-use Rattle.wire.specs.Walk.{took, Reading, flat}
+use Rattle.wire.specs.Walk.{took, flat}
 use Rattle.wire.specs.Store.{laid, Like, like-same, like-put, like-done, PutAhead}
-use Rattle.wire.specs.Turn.{rest, turn-end, Counted, count-start, count-step, count-stop, count-done, Filled, fill-start, fill-fits, fill-step, fill-takes, fill-done}
+use Rattle.wire.specs.Turn.{rest, Counted, count-start, count-step, count-stop, count-done, Filled, fill-start, fill-fits, fill-step, fill-takes, fill-sum, fill-end, fill-done}
 use Rattle.asns.specs.Asn.{span}
 use Rattle.paths.specs.Segment.{Segment, numbersOf, Rule, segmentAt, segmentOf, pathOf, pairOf, asnsOf}
 use Rattle.paths.specs.SegmentLaws.{segment-sound, segment-taken, counted-taken, counted-refused, light-segments, light-numbers, length-numbers}
@@ -138,9 +138,7 @@ pub record AheadPath (rule : Rule) (w : ℕ) (s p₀ n₀ : List ℕ) (total at 
 filled-sum : (rule : Rule) (w : ℕ) (s p₀ n₀ : List ℕ) (at pair to : ℕ) (pairs numbers : List ℕ) → FilledPath rule w s p₀ n₀ at pair to pairs numbers
     → to + length (flat asnsOf (pathOf rule w (drop at s) .rows)) ≡ length (flat asnsOf (pathOf rule w s .rows))
 unfolding pathOf
-filled-sum rule w s p₀ n₀ at pair to pairs numbers f =
-    let n : length (take to numbers) ≡ to = length-take-le to numbers (omega (arith, f .1 .room, f .1 .long)) in
-    omega (arith, ap length (f .1 .front), length-append (take to numbers) (flat asnsOf (pathOf rule w (drop at s) .rows)))
+filled-sum rule w s p₀ n₀ at pair to pairs numbers f = fill-sum (segmentOf rule w) (segment-sound rule w) asnsOf tt s n₀ tt at to numbers (f .1)
 
 module _ (rule : Rule) (w : ℕ) (s p₀ n₀ : List ℕ) (total : ℕ) where
   pub ahead-start : pathOf rule w s .verdict ≡ 0 → length (flat pairOf (pathOf rule w s .rows)) ≤ length p₀ → length (flat asnsOf (pathOf rule w s .rows)) ≡ total → total ≤ length n₀
@@ -159,12 +157,12 @@ module _ (rule : Rule) (w : ℕ) (s p₀ n₀ : List ℕ) (total : ℕ) where
         (h .filled .0 .long, long, omega (arith, sum, h .filled .1 .room))
 
     pub ahead-done : length s ≤ at → (pairs ≡ laid p₀ 0 (flat pairOf (pathOf rule w s .rows))) × (numbers ≡ laid n₀ 0 (flat asnsOf (pathOf rule w s .rows)))
-    unfolding pathOf flat
+    unfolding pathOf
     ahead-done le =
-        let none : length (flat asnsOf (pathOf rule w (drop at s) .rows)) ≡ 0 = ap (λ (r : Reading Segment). length (flat asnsOf (r .rows))) (turn-end (segmentOf rule w) (segment-sound rule w) s tt at le) in
-        let end : to ≡ total = omega (arith, sum) in
-        let d = filling-done rule w s p₀ n₀ at pair to pairs (h .clean) (h .filled) le in
-        (d .0, like-done total numbers (h .clean) (rw end at (h .like)) ∙ d .1)
+        let end : to ≡ total = fill-end (segmentOf rule w) (segment-sound rule w) asnsOf tt s n₀ tt at to (h .clean) (h .filled .1) le ∙ h .all in
+        let same : numbers ≡ h .clean = like-done total numbers (h .clean) (subst (λ (k : ℕ). Like total k numbers (h .clean)) end (h .like)) in
+        let done = filling-done rule w s p₀ n₀ at pair to pairs (h .clean) (h .filled) le in
+        (done .0, same ∙ done .1)
 
     module _ (lt : at < length s) where
       pub ahead-fits : (at + (2 + span w (getD s (at + 1) 0)) ≤ length s) × (pair + 2 ≤ length pairs) × (to + getD s (at + 1) 0 ≤ total)

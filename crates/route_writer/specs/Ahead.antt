@@ -2,18 +2,18 @@
 -- follow overwrite it.
 -- Assumes nothing.
 use Prim.Native.Nat.{ℕ, _+_, _≤_, _<_}
-use mathlib.Core.Path.{_≡_, refl, sym, ap, ap₂, _∙_, subst}
+use mathlib.Core.Path.{_≡_, sym, ap, ap₂, _∙_, subst}
 use mathlib.Core.List.{List, [], _∷_, _++_, append-assoc, append-nil}
 use native.Mathlib.Nat.{add-zero, lt-of-not-le}
 use native.Mathlib.Decide.{decLe}
 use native.Mathlib.Omega.{arith}
 use lib.ListN.{length, getD, take, drop, set, length-append, length-drop, take-append-drop}
-use lib.Seq.{getD-drop, length-take-le, take-append-le}
+use lib.Seq.{getD-drop, take-append-le}
 use Rattle.wire.specs.Number.{toBe}
 use Rattle.wire.specs.NumberLaws.{length-toBe}
-use Rattle.wire.specs.Store.{laid, take-laid, length-laid, laid-laid, laid-before, take-laid-front, drop-laid-past, puts-laid}
-use Rattle.wire.specs.Turn.{Filled, fill-start, fill-takes, fill-fits, fill-step, fill-done, turn-end}
-use Rattle.wire.specs.Walk.{Reading, took, flat}
+use Rattle.wire.specs.Store.{laid, laid-laid, laid-before, puts-laid, Like, like-same, like-put, like-done}
+use Rattle.wire.specs.Turn.{Filled, fill-start, fill-takes, fill-fits, fill-step, fill-sum, fill-end, fill-done}
+use Rattle.wire.specs.Walk.{took}
 use Rattle.families.specs.Family.{idSize, octets}
 use Rattle.families.specs.declared.Form.{Form}
 use Rattle.routes.specs.declared.Row.{Row}
@@ -114,14 +114,12 @@ pub record Fillable (rows : List ℕ) (max : ℕ) (form : Form) (out : List ℕ)
   pub size : length (bytesOf rows max form) ≡ total
   pub room : total ≤ length out
 
--- at the head of a loop: before `to` stand the bytes of the rows before `at`, and past the last row's bytes the output is as it was
+-- at the head of a loop: the output is like one that has the bytes of the rows before `at` and is as it was from there on, but for what was put
+-- past them, below the end of the list
 pub record Ahead (max : ℕ) (form : Form) (rows d₀ : List ℕ) (at to : ℕ) (d : List ℕ) : Type 0 where
-  -- the same with nothing put past `to`
   pub clean : List ℕ
   pub filled : Filled (writeStep max form) (rowBytes form) tt rows d₀ tt at to clean
-  pub long : length d ≡ length d₀
-  pub front : take to d ≡ take to clean
-  pub back : drop (length (bytesOf rows max form)) d ≡ drop (length (bytesOf rows max form)) d₀
+  pub like : Like (length (bytesOf rows max form)) to d clean
 
 pub ahead-start : (max : ℕ) (form : Form) (rows d₀ : List ℕ) (total : ℕ) → Fillable rows max form d₀ total → Ahead max form rows d₀ 0 0 d₀
 unfolding writing bytesOf
@@ -129,46 +127,35 @@ ahead-start max form rows d₀ total f =
     record {
       clean = d₀;
       filled = fill-start (writeStep max form) (write-sound max form) (rowBytes form) tt rows d₀ (f .good) (omega (arith, f .size, f .room));
-      long = refl;
-      front = refl;
-      back = refl;
+      like = like-same (length (bytesOf rows max form)) 0 d₀;
     }
 
 -- the bytes before `to` and those of the rows from `at` on are all
 filled-sum : (max : ℕ) (form : Form) (rows d₀ : List ℕ) (at to : ℕ) (d : List ℕ) → Filled (writeStep max form) (rowBytes form) tt rows d₀ tt at to d
     → to + length (bytesOf (drop at rows) max form) ≡ length (bytesOf rows max form)
 unfolding bytesOf writing
-filled-sum max form rows d₀ at to d f =
-    let n : length (take to d) ≡ to = length-take-le to d (omega (arith, f .room, f .long)) in
-    omega (arith, ap length (f .front), length-append (take to d) (bytesOf (drop at rows) max form))
+filled-sum max form rows d₀ at to d f = fill-sum (writeStep max form) (write-sound max form) (rowBytes form) tt rows d₀ tt at to d f
 
 module _ (max : ℕ) (form : Form) (rows d₀ : List ℕ) (at to : ℕ) (d : List ℕ) (h : Ahead max form rows d₀ at to d) where
   ahead-sum : to + length (bytesOf (drop at rows) max form) ≡ length (bytesOf rows max form)
   ahead-sum = filled-sum max form rows d₀ at to (h .clean) (h .filled)
 
+  pub ahead-long : length d ≡ length d₀
+  ahead-long = h .like .long ∙ h .filled .long
+
   pub ahead-room : (to ≤ length (bytesOf rows max form)) × (length (bytesOf rows max form) ≤ length d)
   unfolding bytesOf writing
-  ahead-room = (omega (arith, ahead-sum), omega (arith, ahead-sum, h .filled .room, h .long))
+  ahead-room = (omega (arith, ahead-sum), omega (arith, ahead-sum, h .filled .room, ahead-long))
 
   ahead-end : length rows ≤ at → to ≡ length (bytesOf rows max form)
-  unfolding bytesOf writing flat
-  ahead-end le =
-      let none : length (bytesOf (drop at rows) max form) ≡ 0 = ap (λ (r : Reading Row). length (flat (rowBytes form) (r .rows))) (turn-end (writeStep max form) (write-sound max form) rows tt at le) in
-      omega (arith, ahead-sum)
+  unfolding bytesOf writing
+  ahead-end le = fill-end (writeStep max form) (write-sound max form) (rowBytes form) tt rows d₀ tt at to (h .clean) (h .filled) le
 
   pub ahead-done : length rows ≤ at → d ≡ laid d₀ 0 (bytesOf rows max form)
   unfolding bytesOf writing
   ahead-done le =
-      let all : List ℕ = bytesOf rows max form in
-      let end : to ≡ length all = ahead-end le in
-      let zero-at : to ≡ 0 + length all = omega arith in
-      let fits : 0 + length all ≤ length d₀ = omega (arith, ahead-room, h .long) in
-      let front : take to d ≡ all =
-      h .front
-      ∙ ap₂ take zero-at (fill-done (writeStep max form) (write-sound max form) (rowBytes form) tt rows d₀ tt at to (h .clean) (h .filled) le)
-      ∙ take-laid d₀ 0 all fits in
-      let back : drop to d ≡ drop (0 + length all) d₀ = ap (λ (k : ℕ). drop k d) end ∙ h .back ∙ ap (λ (k : ℕ). drop k d₀) (sym end ∙ zero-at) in
-      sym (take-append-drop to d) ∙ ap₂ _++_ front back
+      like-done (length (bytesOf rows max form)) d (h .clean) (subst (λ (k : ℕ). Like (length (bytesOf rows max form)) k d (h .clean)) (ahead-end le) (h .like))
+      ∙ fill-done (writeStep max form) (write-sound max form) (rowBytes form) tt rows d₀ tt at to (h .clean) (h .filled) le
 
   -- where a byte is still to come there is a row
   pub ahead-more : to < length (bytesOf rows max form) → at < length rows
@@ -198,14 +185,10 @@ module _ (max : ℕ) (form : Form) (rows d₀ : List ℕ) (at to : ℕ) (d : Lis
         → Ahead max form rows d₀ (at + 6) (to + length (rowBytes form (rowAt rows at))) (laid d to (rowBytes form (rowAt rows at) ++ more))
     ahead-step more fits =
         let bytes : List ℕ = rowBytes form (rowAt rows at) in
-        let there : to + length (bytes ++ more) ≤ length d = omega (arith, ahead-room) in
-        let same : to + length bytes ≤ length (h .clean) = omega (arith, ahead-row .2, ahead-room, h .long, h .filled .long) in
         record {
           clean = laid (h .clean) to bytes;
           filled = next-filled;
-          long = length-laid d to (bytes ++ more) there ∙ h .long;
-          front = take-laid-front d to bytes more there ∙ ap (λ (l : List ℕ). l ++ bytes) (h .front) ∙ sym (take-laid (h .clean) to bytes same);
-          back = drop-laid-past d to (bytes ++ more) (length (bytesOf rows max form)) fits there ∙ h .back;
+          like = like-put (length (bytesOf rows max form)) to d (h .clean) bytes more (h .like) fits (ahead-room .1);
         }
 
     -- its bytes alone are put

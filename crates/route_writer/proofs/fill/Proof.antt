@@ -4,7 +4,7 @@ use mathlib.Core.List.{List}
 use lib.ListN.{length}
 use Rattle.families.specs.Family.{maxOf}
 use Rattle.families.specs.FamilyLaws.{max-small}
-use Rattle.route_writer.specs.Ahead.{Ahead, ahead-room, ahead-row, ahead-next, ahead-done}
+use Rattle.route_writer.specs.Ahead.{Ahead, ahead-long, ahead-room, ahead-row, ahead-next, ahead-done}
 use Rattle.route_writer.proofs.fill.Statement.{statement}
 use Rattle.route_writer.proofs.fill.Tie as tie
 
@@ -65,7 +65,10 @@ loop-again : tie.Need-loop-again Inv-loop μ-loop
 loop-again c = λ max d₀ h. next c max d₀ (c .before .before .before .before .before .loop .inv max d₀ h)
 
 same-length : tie.Need-same-length Inv-loop μ-loop
-same-length c = here (c .before) .long
+same-length c =
+    let l = c .before in
+    let a = l .before .before .before .before .before .before .before .args in
+    ahead-long (maxOf (a .afi)) (a .form) (a .rows .now) (a .out .now) (l .loop .at) (l .loop .to) (l .loop .out) (here l)
 
 returns : tie.Need-returns Inv-loop μ-loop
 returns c =

@@ -6,7 +6,7 @@ use mathlib.Core.List.{[], append-nil}
 use lib.ListN.{length}
 use Rattle.families.specs.FamilyLaws.{id-small}
 use Rattle.route_sizes.specs.Encode.{fourWords, address}
-use Rattle.route_writer.specs.Ahead.{rowAt, Ahead, Whole, ahead-start, ahead-room, whole-room, whole-row, whole-turn}
+use Rattle.route_writer.specs.Ahead.{ahead-long, rowAt, Ahead, Whole, ahead-start, ahead-room, whole-room, whole-row, whole-turn}
 use Rattle.route_writer.proofs.fill_long.Statement.{statement}
 use Rattle.route_writer.proofs.fill_long.Tie as tie
 
@@ -27,7 +27,7 @@ room : (c : tie.At-loop Inv-loop μ-loop) → let a = c .before .before .before 
 room c =
     let a = c .before .before .before .before .args in
     let h = c .loop .inv in
-    (omega (arith, h .long, ahead-room 128 (a .form) (a .rows .now) (a .out .now) (c .loop .at) (c .loop .to) (c .loop .out) h), omega (arith, c .before .id-size .ensures, id-small (a .form)))
+    (omega (arith, ahead-long 128 (a .form) (a .rows .now) (a .out .now) (c .loop .at) (c .loop .to) (c .loop .out) h, ahead-room 128 (a .form) (a .rows .now) (a .out .now) (c .loop .at) (c .loop .to) (c .loop .out) h), omega (arith, c .before .id-size .ensures, id-small (a .form)))
 
 add-loop : tie.Need-add-loop Inv-loop μ-loop
 add-loop c = omega (arith, room c)
@@ -96,7 +96,10 @@ loop-again : tie.Need-loop-again Inv-loop μ-loop
 loop-again c = let h = c .before .before .before .before .before .before .before .put-head .ensures in whole-turn (turn (c .before .before .before .before .before .before .before .before .before)) _ _ _ _ (h .0) (c .octet-count .ensures) (h .1) (c .before .before .before .put-words .ensures)
 
 same-length : tie.Need-same-length Inv-loop μ-loop
-same-length c = c .before .loop .inv .long
+same-length c =
+    let l = c .before in
+    let a = l .before .before .before .before .args in
+    ahead-long 128 (a .form) (a .rows .now) (a .out .now) (l .loop .at) (l .loop .to) (l .loop .out) (l .loop .inv)
 
 returns : tie.Need-returns Inv-loop μ-loop
 returns c = c .before .loop .inv

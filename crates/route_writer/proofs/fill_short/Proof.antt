@@ -7,7 +7,7 @@ use lib.ListN.{length, getD}
 use Rattle.wire.specs.Number.{toBe}
 use Rattle.families.specs.FamilyLaws.{id-small}
 use Rattle.route_sizes.specs.Encode.{fourWords}
-use Rattle.route_writer.specs.Ahead.{Ahead, Whole, ahead-start, ahead-room, whole-room, whole-row, whole-turn}
+use Rattle.route_writer.specs.Ahead.{ahead-long, Ahead, Whole, ahead-start, ahead-room, whole-room, whole-row, whole-turn}
 use Rattle.route_writer.proofs.fill_short.Statement.{statement}
 use Rattle.route_writer.proofs.fill_short.Tie as tie
 
@@ -28,7 +28,7 @@ room : (c : tie.At-loop Inv-loop μ-loop) → let a = c .before .before .before 
 room c =
     let a = c .before .before .before .before .args in
     let h = c .loop .inv in
-    (omega (arith, h .long, ahead-room 32 (a .form) (a .rows .now) (a .out .now) (c .loop .at) (c .loop .to) (c .loop .out) h), omega (arith, c .before .id-size .ensures, id-small (a .form)))
+    (omega (arith, ahead-long 32 (a .form) (a .rows .now) (a .out .now) (c .loop .at) (c .loop .to) (c .loop .out) h, ahead-room 32 (a .form) (a .rows .now) (a .out .now) (c .loop .at) (c .loop .to) (c .loop .out) h), omega (arith, c .before .id-size .ensures, id-small (a .form)))
 
 add-loop : tie.Need-add-loop Inv-loop μ-loop
 add-loop c = omega (arith, room c)
@@ -100,7 +100,10 @@ loop-again : tie.Need-loop-again Inv-loop μ-loop
 loop-again c = let h = c .before .before .before .before .before .before .before .put-head .ensures in whole-turn (turn (c .before .before .before .before .before .before .before .before .before)) _ _ _ _ (h .0) (c .octet-count .ensures) (h .1) (c .before .before .before .put-word .ensures)
 
 same-length : tie.Need-same-length Inv-loop μ-loop
-same-length c = c .before .loop .inv .long
+same-length c =
+    let l = c .before in
+    let a = l .before .before .before .before .args in
+    ahead-long 32 (a .form) (a .rows .now) (a .out .now) (l .loop .at) (l .loop .to) (l .loop .out) (l .loop .inv)
 
 returns : tie.Need-returns Inv-loop μ-loop
 returns c = c .before .loop .inv
