@@ -13,7 +13,7 @@ use lib.Seq.{length-take-le}
 use lib.Dec.{leb, eqb}
 use lib.Arith.{mod-mul, digits-mod}
 use lib.Pow.{pow-add, pow-pos, mod-pow-add, shl-shr}
-use Rattle.wire.specs.Choice.{pick}
+use Rattle.wire.specs.Choice.{pick, and-true}
 use Rattle.wire.specs.Number.{be, toBe}
 use Rattle.wire.specs.NumberLaws.{length-toBe, be-toBe, pow-pos256, toBe-append}
 use Rattle.wire.specs.Parts.{drop-append}
@@ -135,10 +135,6 @@ pub record Writable (max : ℕ) (form : Form) (r : Row) : Type 0 where
   pub fits : lengthOf form r ≤ max
   pub id : idFits form (r .id) ≡ true
   pub past : allZero (drop (octets (lengthOf form r)) (address r)) ≡ true
-
-pub and-true : (a b : Bool) → a && b ≡ true → (a ≡ true) × (b ≡ true)
-and-true true b e = (refl, e)
-and-true false b e = let z : _≡_ {A = ℕ} 0 1 = cc in absurd (omega arith)
 
 module _ (max : ℕ) (form : Form) (r : Row) where
   pub is-writable : writable max form r ≡ true → Writable max form r

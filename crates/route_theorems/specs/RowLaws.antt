@@ -10,6 +10,7 @@ use borrow.Author.Tests.{eqb-true}
 use lib.ListN.{length, getD, take, drop, replicate, length-drop, take-append-drop}
 use lib.Dec.{eqb}
 use lib.Seq.{take-length, length-take-le, take-at, drop-at, getD-at, getD-drop, drop-drop, take-append-seam, drop-append-seam}
+use Rattle.wire.specs.Choice.{and-true}
 use Rattle.wire.specs.Number.{be, toBe, padded, beAt, Bytes}
 use Rattle.wire.specs.NumberLaws.{toBe-be, be-toBe, length-toBe, bytes-drop, bytes-take, bytes-padded, length-padded, padded-add, padded-all, padded-of-take, padded-take, padded-cells}
 use Rattle.wire.specs.Walk.{whole, took, more, readAll, flat}
@@ -20,7 +21,7 @@ use Rattle.families.specs.declared.Form.{Form}
 use Rattle.families.specs.declared.Form.the-variants.{Plain, Tagged}
 use Rattle.routes.specs.declared.Row.{Row}
 use Rattle.route_sizes.specs.Encode.{fourWords, address, lengthOf, rowBytes, allZero, idFits, frontRow, writeStep}
-use Rattle.route_sizes.specs.EncodeLaws.{Writable, and-true, address-length, write-took, took-write, write-sound}
+use Rattle.route_sizes.specs.EncodeLaws.{Writable, address-length, write-took, took-write, write-sound}
 use Rattle.route_theorems.specs.Cutting.{WellFormed, AllFormed, none, one, joined, Words}
 
 -- ---- octets that are 0
