@@ -302,6 +302,6 @@ pub fn encode_bgp_message(kind: u8, body: &[u8], out: &mut [u8]) -> WriteAnswer
         return WriteAnswer::Refused(refusal::NO_ROOM);
     }
     put_header(out, total, kind);
-    outputs::copy_at(out, HEADER_SIZE, body);
+    copies::copy_at(out, HEADER_SIZE, body);
     WriteAnswer::Bytes(total)
 }

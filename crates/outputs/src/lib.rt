@@ -1,12 +1,9 @@
-// Numbers and bytes put at a place of an output: nothing changes where there is no room.
+// Numbers put at a place of an output: nothing changes where there is no room.
 ghost use mathlib.Core.Path.{_≡_};
-ghost use Prim.Native.Nat.{_+_, _≤_};
-ghost use lib.ListN.{length, take, drop};
+ghost use Prim.Native.Nat.{_≤_};
+ghost use lib.ListN.{length, take};
 ghost use Rattle.wire.specs.Number.{toBe};
-ghost use Rattle.wire.specs.Store.{laid, placed};
-
-// How many bytes of a copy go at once.
-const BLOCK: usize = 8;
+ghost use Rattle.wire.specs.Store.{placed};
 
 // The two bytes of a number, at a place of the output.
 pub fn put_u16(out: &mut [u8], to: usize, v: u16)
@@ -62,70 +59,4 @@ pub fn put_octets(out: &mut [u8], to: usize, v: u32, m: usize)
         return;
     }
     out[to + 2] = (v / 256 % 256) as u8;
-}
-
-// The eight bytes of src at a place, at a place of the output. All are read before the first is put, so that they go as one.
-fn copy_block(out: &mut [u8], to: usize, src: &[u8], at: usize)
-    requires { ⌜ (to + 8 ≤ length (now out)) × (at + 8 ≤ length (now src)) ⌝ }
-    ensures { λ _. ⌜ now (out .exit) ≡ laid (now (out .entry)) to (take 8 (drop at (now (src .entry)))) ⌝ }
-{
-    let b0 = src[at];
-    let b1 = src[at + 1];
-    let b2 = src[at + 2];
-    let b3 = src[at + 3];
-    let b4 = src[at + 4];
-    let b5 = src[at + 5];
-    let b6 = src[at + 6];
-    let b7 = src[at + 7];
-    out[to] = b0;
-    out[to + 1] = b1;
-    out[to + 2] = b2;
-    out[to + 3] = b3;
-    out[to + 4] = b4;
-    out[to + 5] = b5;
-    out[to + 6] = b6;
-    out[to + 7] = b7;
-}
-
-// All of src, byte by byte.
-fn copy_few(out: &mut [u8], to: usize, src: &[u8])
-    requires { ⌜ to + length (now src) ≤ length (now out) ⌝ }
-    ensures { λ _. ⌜ now (out .exit) ≡ laid (now (out .entry)) to (now (src .entry)) ⌝ }
-{
-    let mut i: usize = 0;
-    while i < src.len() {
-        out[to + i] = src[i];
-        i = i + 1;
-    }
-}
-
-// All of src by blocks, of which it has at least one. The last may overlap the one before.
-fn copy_blocks(out: &mut [u8], to: usize, src: &[u8])
-    requires { ⌜ (to + length (now src) ≤ length (now out)) × (8 ≤ length (now src)) ⌝ }
-    ensures { λ _. ⌜ now (out .exit) ≡ laid (now (out .entry)) to (now (src .entry)) ⌝ }
-{
-    let last = src.len() - BLOCK;
-    let mut i: usize = 0;
-    while i < last {
-        copy_block(out, to + i, src, i);
-        i = i + BLOCK;
-    }
-    copy_block(out, to + last, src, last);
-}
-
-// All of src, at a place of the output.
-pub fn copy_at(out: &mut [u8], to: usize, src: &[u8])
-    ensures { λ _. ⌜ now (out .exit) ≡ placed (now (out .entry)) to (now (src .entry)) ⌝ }
-{
-    if out.len() < to {
-        return;
-    }
-    if out.len() - to < src.len() {
-        return;
-    }
-    if src.len() < BLOCK {
-        copy_few(out, to, src);
-        return;
-    }
-    copy_blocks(out, to, src);
 }

@@ -13,7 +13,7 @@ pub fn put(out: &mut [u8], at: usize, text: &[u8]) -> usize {
     if out.len() - at < text.len() {
         return at;
     }
-    outputs::copy_at(out, at, text);
+    copies::copy_at(out, at, text);
     at + text.len()
 }
 

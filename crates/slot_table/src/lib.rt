@@ -67,7 +67,7 @@ fn put_text(out: &mut [u8], at: usize, text: &[u8]) -> usize
     requires { ⌜ at + length (now text) ≤ length (now out) ⌝ }
     ensures { λ r. ⌜ Grown (now (out .entry)) at (now (text .entry)) (now (out .exit)) r ⌝ }
 {
-    outputs::copy_at(out, at, text);
+    copies::copy_at(out, at, text);
     at + text.len()
 }
 

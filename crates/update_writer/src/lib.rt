@@ -37,7 +37,7 @@ pub fn encode_bgp_update_message(
             let at = LENGTH_SIZE + first;
             outputs::put_u16(out, 0, first as u16);
             outputs::put_u16(out, at, attributes.len() as u16);
-            outputs::copy_at(out, at + LENGTH_SIZE, attributes);
+            copies::copy_at(out, at + LENGTH_SIZE, attributes);
             WriteAnswer::Bytes(at + LENGTH_SIZE + attributes.len() + second)
         }
         ListsAnswer::Refused(n) => WriteAnswer::Refused(n),

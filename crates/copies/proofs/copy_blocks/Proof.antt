@@ -5,9 +5,9 @@ use native.Mathlib.Omega.{arith}
 use lib.ListN.{length, take, drop}
 use lib.Seq.{length-take-le}
 use Rattle.wire.specs.Store.{laid, length-laid, laid-nil}
-use Rattle.outputs.specs.Blocks.{block-next, block-last}
-use Rattle.outputs.proofs.copy_blocks.Statement.{statement}
-use Rattle.outputs.proofs.copy_blocks.Tie as tie
+use Rattle.copies.specs.Blocks.{block-next, block-last}
+use Rattle.copies.proofs.copy_blocks.Statement.{statement}
+use Rattle.copies.proofs.copy_blocks.Tie as tie
 
 abbrev Inv-loop : tie.InvT-loop
 Inv-loop out₀ to src last i₀ out i = (i ≤ length src) × (out ≡ laid out₀ to (take i src))

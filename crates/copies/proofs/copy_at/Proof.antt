@@ -2,8 +2,8 @@ use mathlib.Core.Path.{sym, _∙_}
 use native.Mathlib.Omega.{arith}
 use Rattle.wire.specs.Store.{placed-fits, placed-not}
 use borrow.Author.Needs.{needs}
-use Rattle.outputs.proofs.copy_at.Statement.{statement}
-use Rattle.outputs.proofs.copy_at.Tie as tie
+use Rattle.copies.proofs.copy_at.Statement.{statement}
+use Rattle.copies.proofs.copy_at.Tie as tie
 
 returns : tie.Need-returns
 returns c = let a = c .before .before .before .args in sym (placed-not (a .out .now) (a .to) (a .src .now) (omega arith))

@@ -6,8 +6,8 @@ use lib.ListN.{length, length-set}
 use lib.Seq.{paste, paste-zero, paste-suc}
 use Rattle.wire.specs.Store.{paste-laid}
 use borrow.Author.Needs.{needs}
-use Rattle.outputs.proofs.copy_few.Statement.{statement}
-use Rattle.outputs.proofs.copy_few.Tie as tie
+use Rattle.copies.proofs.copy_few.Statement.{statement}
+use Rattle.copies.proofs.copy_few.Tie as tie
 
 abbrev Inv-loop : tie.InvT-loop
 Inv-loop out₀ to src i₀ out i = (i ≤ length src) × (length out ≡ length out₀) × (out ≡ paste out₀ to src i)

@@ -4,8 +4,8 @@ use lib.ListN.{drop, length-drop, length-set}
 use Rattle.wire.specs.NumberLaws.{cells, padded-cells, padded-take}
 use Rattle.wire.specs.Store.{laid, puts-laid}
 use borrow.Author.Needs.{needs}
-use Rattle.outputs.proofs.copy_block.Statement.{statement}
-use Rattle.outputs.proofs.copy_block.Tie as tie
+use Rattle.copies.proofs.copy_block.Statement.{statement}
+use Rattle.copies.proofs.copy_block.Tie as tie
 
 shared-slice-read-b0 : tie.Need-shared-slice-read-b0
 shared-slice-read-b0 c = search needs
