@@ -1,4 +1,5 @@
 pub mod Settings
+pub mod Flags
 pub mod Word
 pub mod WordLaws
 pub mod Bounds
