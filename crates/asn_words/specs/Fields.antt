@@ -7,8 +7,8 @@ use Rattle.wire.specs.Refusal.{noRoom}
 use Rattle.wire.specs.Store.{placed}
 use Rattle.asns.specs.declared.AggregatorAnswer.{AggregatorAnswer}
 use Rattle.asns.specs.declared.AggregatorAnswer.the-variants as G
-use Rattle.asns.specs.declared.WriteAnswer as asns
-use Rattle.asns.specs.declared.WriteAnswer.the-variants as N
+use Rattle.wire.specs.declared.WriteAnswer as asns
+use Rattle.wire.specs.declared.WriteAnswer.the-variants as N
 use Rattle.words.specs.Word.{Fields, given, refused, bit}
 
 -- an AGGREGATOR is two words in a store of so many places, 11 last
@@ -26,5 +26,5 @@ aggregatorAfter (G.Refused n) store = store
 
 -- what was written: the bytes
 abbrev pub asnsWritten : asns.WriteAnswer → Fields
-asnsWritten (N.Written n) = given n 0 0
+asnsWritten (N.Bytes n) = given n 0 0
 asnsWritten (N.Refused n) = refused n

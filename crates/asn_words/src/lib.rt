@@ -22,7 +22,7 @@ fn asns_written(a: asns::WriteAnswer) -> u64
     ensures { λ r. ⌜ r ≡ wordOf (asnsWritten a) ⌝ }
 {
     match a {
-        asns::WriteAnswer::Written(n) => word(n as u16, 0, 0, 0),
+        asns::WriteAnswer::Bytes(n) => word(n as u16, 0, 0, 0),
         asns::WriteAnswer::Refused(n) => word(0, 0, 0, n),
     }
 }

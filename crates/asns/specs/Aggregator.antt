@@ -12,8 +12,8 @@ use Rattle.asns.specs.declared.AsnLength.{AsnLength}
 use Rattle.asns.specs.declared.AsnLength.the-variants.{Bits16, Bits32}
 use Rattle.asns.specs.declared.AggregatorAnswer.{AggregatorAnswer}
 use Rattle.asns.specs.declared.AggregatorAnswer.the-variants as A
-use Rattle.asns.specs.declared.WriteAnswer.{WriteAnswer}
-use Rattle.asns.specs.declared.WriteAnswer.the-variants as W
+use Rattle.wire.specs.declared.WriteAnswer.{WriteAnswer}
+use Rattle.wire.specs.declared.WriteAnswer.the-variants as W
 
 -- ---- reading
 
@@ -46,7 +46,7 @@ aggregatorBytes width asn identifier = toBe (widthOf width) asn ++ toBe 4 identi
 unfoldable pub aggregatorWritten : ℕ → ℕ → AsnLength → ℕ → WriteAnswer
 aggregatorWritten asn identifier width places =
     let size : ℕ = length (aggregatorBytes width asn identifier) in
-    pick (fitsWidth asn width) (pick (leb size places) (W.Written size) (W.Refused noRoom)) (W.Refused wideNumber)
+    pick (fitsWidth asn width) (pick (leb size places) (W.Bytes size) (W.Refused noRoom)) (W.Refused wideNumber)
 
 -- the output afterwards
 unfoldable pub aggregatorLeft : ℕ → ℕ → AsnLength → List ℕ → List ℕ

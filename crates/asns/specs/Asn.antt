@@ -8,8 +8,8 @@ use Rattle.wire.specs.Number.{toBe}
 use Rattle.wire.specs.Store.{laid, placed}
 use Rattle.asns.specs.declared.AsnLength.{AsnLength}
 use Rattle.asns.specs.declared.AsnLength.the-variants.{Bits16, Bits32}
-use Rattle.asns.specs.declared.WriteAnswer.{WriteAnswer}
-use Rattle.asns.specs.declared.WriteAnswer.the-variants as W
+use Rattle.wire.specs.declared.WriteAnswer.{WriteAnswer}
+use Rattle.wire.specs.declared.WriteAnswer.the-variants as W
 
 -- the bytes of an AS number
 abbrev pub widthOf : AsnLength → ℕ
@@ -35,5 +35,5 @@ withNumber out to asn width = pick (fitsWidth asn width) (placed out to (toBe (w
 
 -- an output afterwards: the bytes from its front where they were written, and else as it was
 abbrev pub written : WriteAnswer → List ℕ → List ℕ → List ℕ
-written (W.Written n) bytes out = laid out 0 bytes
+written (W.Bytes n) bytes out = laid out 0 bytes
 written (W.Refused n) bytes out = out

@@ -1,5 +1,2 @@
 pub mod Asn
-pub mod AsnLaws
 pub mod Aggregator
-pub mod AggregatorLaws
-pub mod Tight

@@ -5,6 +5,7 @@ ghost use lib.ListN.{length};
 ghost use Rattle.wire.specs.Number.{beAt};
 ghost use Rattle.asns.specs.Asn.{widthOf, span, fitsWidth, withNumber, eightFor};
 ghost use Rattle.asns.specs.Aggregator.{unlike, aggregatorOf, aggregatorWritten, aggregatorLeft};
+use wire::WriteAnswer;
 use wire::refusal;
 
 // The width of AS numbers: two bytes, or four.
@@ -20,12 +21,6 @@ pub enum AggregatorAnswer {
         identifier: u32,
         differs: bool,
     },
-    Refused(u8),
-}
-
-// What a writer wrote: that many bytes, or a refusal number.
-pub enum WriteAnswer {
-    Written(usize),
     Refused(u8),
 }
 
@@ -152,7 +147,7 @@ fn encode_in(asn: u32, identifier: u32, width: AsnLength, out: &mut [u8]) -> Wri
     }
     put_number(out, 0, asn, width);
     outputs::put_octets(out, w, identifier, 4);
-    WriteAnswer::Written(w + 4)
+    WriteAnswer::Bytes(w + 4)
 }
 
 // An AGGREGATOR of the width: a call for each, so that the width is known where it is compiled.

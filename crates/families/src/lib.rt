@@ -1,8 +1,8 @@
 // The settings of a list of routes: the family, how an item stands, Add-Path; and the numbers that they fix (RFC 4271 section 4.3,
-// RFC 7911 section 3). Each call answers one number, so two results that it allows are equal: `tight-number` of wire.
+// RFC 7911 section 3).
 ghost use mathlib.Core.Path.{_≡_};
 ghost use Prim.Native.Nat.{_+_};
-ghost use Rattle.families.specs.Family.{maxOf, idSize, markOf, octets};
+ghost use Rattle.families.specs.Family.{maxOf, idSize, markOf, octets, modeOf};
 
 // The family of a route.
 pub enum Afi {
@@ -65,4 +65,18 @@ pub fn item_size(len: u8, form: Form) -> usize
     ensures { λ r. ⌜ r ≡ idSize form + 1 + octets len ⌝ }
 {
     (len as usize + 8 * id_size(form) + 15) / 8
+}
+
+// The setting of a settings byte, as a slot has it: the lowest bit is Add-Path, and the next one the guess, which is for Add-Path off alone.
+// No other bit is read.
+pub fn mode_of(settings: u8) -> AddPath
+    ensures { λ r. ⌜ r ≡ modeOf settings ⌝ }
+{
+    if settings % 2 == 1 {
+        return AddPath::On;
+    }
+    if settings / 2 % 2 == 1 {
+        return AddPath::Guess;
+    }
+    AddPath::Off
 }

@@ -2,8 +2,8 @@
 use Prim.Native.Nat.{_+_, _*_}
 use Rattle.messages.specs.declared.MessageAnswer.{MessageAnswer}
 use Rattle.messages.specs.declared.MessageAnswer.the-variants as M
-use Rattle.messages.specs.declared.WriteAnswer as messages
-use Rattle.messages.specs.declared.WriteAnswer.the-variants as W
+use Rattle.wire.specs.declared.WriteAnswer as messages
+use Rattle.wire.specs.declared.WriteAnswer.the-variants as W
 use Rattle.words.specs.Word.{Fields, given, refused, bit}
 
 -- a message: what it claims, what is taken of it, and its type with its three flags

@@ -8,8 +8,8 @@ use Rattle.wire.specs.Number.{toBe}
 use Rattle.wire.specs.Refusal.{messageLength, messageType, noRoom}
 use Rattle.wire.specs.Store.{laid}
 use Rattle.messages.specs.Header.{headerSize, markerSize, leastLength, mostLength, isOutside, isUnknown}
-use Rattle.messages.specs.declared.WriteAnswer.{WriteAnswer}
-use Rattle.messages.specs.declared.WriteAnswer.the-variants.{Bytes, Refused}
+use Rattle.wire.specs.declared.WriteAnswer.{WriteAnswer}
+use Rattle.wire.specs.declared.WriteAnswer.the-variants.{Bytes, Refused}
 
 -- the header of a message of so many bytes
 unfoldable pub header : ℕ → ℕ → List ℕ

@@ -9,6 +9,7 @@ ghost use Rattle.wire.specs.Number.{be, padded};
 ghost use Rattle.wire.specs.Store.{laid};
 ghost use Rattle.messages.specs.Header.{markerSize, headerSize, extendedLimit, markerOf, allFF, isOutside, isUnknown, leastLength, mostLength, crateLimit, messageOf, strictWithin, strictOf, bodyAt, Fits};
 ghost use Rattle.messages.specs.Written.{header, writeAnswer, outAfter};
+use wire::WriteAnswer;
 use wire::refusal;
 
 pub mod kind;
@@ -44,12 +45,6 @@ pub enum MessageAnswer {
         cut: bool,
         trailing: bool,
     },
-    Refused(u8),
-}
-
-// A message to write: the bytes written, or a refusal number.
-pub enum WriteAnswer {
-    Bytes(usize),
     Refused(u8),
 }
 

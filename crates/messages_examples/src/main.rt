@@ -144,13 +144,13 @@ fn show_written(name: &[u8], kind: u8, body: &[u8]) {
     let mut out = [0u8; 32];
     text(name);
     match messages::encode_bgp_message(kind, body, &mut out) {
-        messages::WriteAnswer::Bytes(n) => {
+        wire::WriteAnswer::Bytes(n) => {
             text(b"\n  wrote   ");
             number(n);
             text(b"\n  strict");
             show_answer(messages::parse_bgp_message_strict(&out));
         }
-        messages::WriteAnswer::Refused(n) => refused(n),
+        wire::WriteAnswer::Refused(n) => refused(n),
     }
 }
 
@@ -165,13 +165,13 @@ fn show_body(name: &[u8], withdrawn: &[u32], attributes: &[u8], announced: &[u32
         Form::Plain,
         &mut out,
     ) {
-        route_sizes::WriteAnswer::Bytes(n) => {
+        wire::WriteAnswer::Bytes(n) => {
             text(b"\n  wrote   ");
             number(n);
             text(b"\n ");
             bytes(wire::part(&out, 0, n));
         }
-        route_sizes::WriteAnswer::Refused(n) => refused(n),
+        wire::WriteAnswer::Refused(n) => refused(n),
     }
 }
 

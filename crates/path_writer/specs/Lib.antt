@@ -1,12 +1,3 @@
 pub mod Write
 pub mod Promises
-pub mod WriteLaws
-pub mod NumberPut
-pub mod WriteTurn
-pub mod Lent
-pub mod PromiseLaws
 pub mod WellFormed
-pub mod RoundTrip
-pub mod RuleTheorems
-pub mod Theorems
-pub mod Tight

@@ -13,7 +13,7 @@ ghost use Rattle.paths.specs.Segment.{knownType};
 ghost use Rattle.path_writer.specs.Write.{addsUp, allFit, writeFault, lentPath};
 ghost use Rattle.path_writer.specs.Promises.{bytesOf, encodeAnswer, encodeLeft};
 use asns::AsnLength;
-use asns::WriteAnswer;
+use wire::WriteAnswer;
 use wire::refusal;
 
 // The count byte's largest value.
@@ -296,5 +296,5 @@ pub fn encode_as_path(
         return WriteAnswer::Refused(refusal::NO_ROOM);
     }
     write_segments(pairs, numbers, width, out, size);
-    WriteAnswer::Written(size)
+    WriteAnswer::Bytes(size)
 }

@@ -1,8 +1,8 @@
 // The path and AGGREGATOR examples of document 01, through the calls themselves: what it prints is compared with the file stdout.
 use asns::AggregatorAnswer;
 use asns::AsnLength;
-use asns::WriteAnswer;
 use paths::PathAnswer;
+use wire::WriteAnswer;
 
 // A word before a number, and then the number.
 fn say(word: &[u8], n: u64) {
@@ -63,7 +63,7 @@ fn show_count(value: &[u8], width: AsnLength) {
 // What a writer answered.
 fn show_written(answer: WriteAnswer) {
     match answer {
-        WriteAnswer::Written(n) => say(b"written ", n as u64),
+        WriteAnswer::Bytes(n) => say(b"written ", n as u64),
         WriteAnswer::Refused(n) => say(b"refused ", n as u64),
     }
     io::write_all(1, b"\n");

@@ -3,11 +3,11 @@ use crate::store;
 use asns::AggregatorAnswer;
 use messages::MessageAnswer;
 use paths::PathAnswer;
-use route_sizes::WriteAnswer;
 use routes::ListAnswer;
 use routes::PrefixAnswer;
 use updates::PartsAnswer;
 use updates::UpdateAnswer;
+use wire::WriteAnswer;
 
 // The first `count` of the values.
 pub struct Numbers {

@@ -4,12 +4,12 @@ use records::numbers;
 use records::request;
 use records::request::Head;
 use records::store;
-use route_sizes::WriteAnswer;
+use wire::WriteAnswer;
 
 // The answers of the other writers in the same form.
 fn of_asns(a: asns::WriteAnswer) -> WriteAnswer {
     match a {
-        asns::WriteAnswer::Written(n) => WriteAnswer::Bytes(n),
+        asns::WriteAnswer::Bytes(n) => WriteAnswer::Bytes(n),
         asns::WriteAnswer::Refused(n) => WriteAnswer::Refused(n),
     }
 }

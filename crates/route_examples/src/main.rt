@@ -2,10 +2,10 @@
 use families::AddPath;
 use families::Afi;
 use families::Form;
-use route_sizes::WriteAnswer;
 use routes::ListAnswer;
 use routes::PrefixAnswer;
 use routes::Row;
+use wire::WriteAnswer;
 
 fn text(s: &[u8]) {
     io::write_all(1, s);

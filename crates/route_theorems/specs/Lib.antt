@@ -1,4 +1,1 @@
 pub mod Cutting
-pub mod CuttingLaws
-pub mod RowLaws
-pub mod Theorems

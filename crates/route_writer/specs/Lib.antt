@@ -1,7 +1,3 @@
-pub mod Ahead
-pub mod Octets
 pub mod Promises
-pub mod PromiseLaws
 pub mod Pair
-pub mod PairLaws
-pub mod Tight
+pub mod Private

@@ -6,9 +6,9 @@ use Rattle.wire.specs.Choice.{pick}
 use Rattle.wire.specs.Refusal.{tooLong, noRoom, listLimit}
 use Rattle.wire.specs.Store.{laid}
 use Rattle.families.specs.declared.Form.{Form}
-use Rattle.route_sizes.specs.Promises.{measured}
-use Rattle.route_sizes.specs.declared.WriteAnswer.{WriteAnswer}
-use Rattle.route_sizes.specs.declared.WriteAnswer.the-variants as W
+use Rattle.route_bytes.specs.Promises.{measured}
+use Rattle.wire.specs.declared.WriteAnswer.{WriteAnswer}
+use Rattle.wire.specs.declared.WriteAnswer.the-variants as W
 use Rattle.route_writer.specs.declared.ListsAnswer.{ListsAnswer}
 use Rattle.route_writer.specs.declared.ListsAnswer.the-variants.{Lists, Refused}
 

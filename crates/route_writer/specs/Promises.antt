@@ -1,4 +1,4 @@
--- What the calls that write answer and leave, from what measuring answers and the bytes that `Encode` of route_sizes defines.
+-- What the calls that write answer and leave, from what measuring answers and the bytes that `Encode` of route_bytes defines.
 use Prim.Native.Nat.{ℕ}
 use mathlib.Core.List.{List}
 use lib.ListN.{length}
@@ -7,10 +7,10 @@ use Rattle.wire.specs.Choice.{pick}
 use Rattle.wire.specs.Refusal.{tooLong, noRoom, listLimit}
 use Rattle.wire.specs.Store.{laid}
 use Rattle.families.specs.declared.Form.{Form}
-use Rattle.route_sizes.specs.Encode.{bytesOf}
-use Rattle.route_sizes.specs.Promises.{measured}
-use Rattle.route_sizes.specs.declared.WriteAnswer.{WriteAnswer}
-use Rattle.route_sizes.specs.declared.WriteAnswer.the-variants.{Bytes, Refused}
+use Rattle.route_bytes.specs.Encode.{bytesOf}
+use Rattle.route_bytes.specs.Promises.{measured}
+use Rattle.wire.specs.declared.WriteAnswer.{WriteAnswer}
+use Rattle.wire.specs.declared.WriteAnswer.the-variants.{Bytes, Refused}
 
 -- writing into an output of so many places: 1 after 14, and 11 last
 abbrev pub roomed : WriteAnswer → ℕ → WriteAnswer

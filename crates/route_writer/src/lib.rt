@@ -5,15 +5,15 @@ ghost use lib.ListN.{length, getD, take};
 ghost use Rattle.wire.specs.Number.{toBe};
 ghost use Rattle.wire.specs.Store.{laid};
 ghost use Rattle.families.specs.Family.{maxOf, idSize, markOf};
-ghost use Rattle.route_sizes.specs.Encode.{address, lengthOf, rowBytes, bytesOf};
-ghost use Rattle.route_sizes.specs.Promises.{measured};
-ghost use Rattle.route_sizes.specs.declared.WriteAnswer.the-variants.{Bytes};
-ghost use Rattle.route_writer.specs.Ahead.{rowAt, headBytes, Fillable, Ahead};
+ghost use Rattle.route_bytes.specs.Encode.{address, lengthOf, rowBytes, bytesOf};
+ghost use Rattle.route_bytes.specs.Promises.{measured};
+ghost use Rattle.wire.specs.declared.WriteAnswer.the-variants.{Bytes};
+ghost use Rattle.route_writer.specs.Private.{rowAt, headBytes, Fillable, Ahead};
 ghost use Rattle.route_writer.specs.Promises.{writeAnswer, outAfter};
 ghost use Rattle.route_writer.specs.Pair.{pairSized, pairAnswer, pairAfter};
 use families::Afi;
 use families::Form;
-use route_sizes::WriteAnswer;
+use wire::WriteAnswer;
 use wire::refusal;
 
 // The bytes of two lists that were written, or a refusal number.
@@ -181,7 +181,7 @@ pub fn encode_nlri_prefixes(rows: &[u32], afi: Afi, form: Form, out: &mut [u8]) 
     ensures answer { λ r. ⌜ r ≡ writeAnswer (now (rows .entry)) (maxOf afi) form (length (now (out .entry))) ⌝ }
     ensures out { λ _. ⌜ now (out .exit) ≡ outAfter (now (rows .entry)) (maxOf afi) form (now (out .entry)) ⌝ }
 {
-    match route_sizes::measure_nlri_prefixes(rows, afi, form) {
+    match route_bytes::measure_nlri_prefixes(rows, afi, form) {
         WriteAnswer::Bytes(n) => {
             if wire::LIST_LIMIT < n {
                 return WriteAnswer::Refused(refusal::TOO_LONG);
@@ -241,8 +241,8 @@ fn measure_pair(
 ) -> ListsAnswer
     ensures { λ r. ⌜ r ≡ pairAnswer (now (first .entry)) (now (second .entry)) (maxOf afi) form start between most places ⌝ }
 {
-    match route_sizes::measure_nlri_prefixes(first, afi, form) {
-        WriteAnswer::Bytes(a) => match route_sizes::measure_nlri_prefixes(second, afi, form) {
+    match route_bytes::measure_nlri_prefixes(first, afi, form) {
+        WriteAnswer::Bytes(a) => match route_bytes::measure_nlri_prefixes(second, afi, form) {
             WriteAnswer::Bytes(b) => pair_size(a, b, start, between, most, places),
             WriteAnswer::Refused(n) => ListsAnswer::Refused(n),
         },

@@ -1,9 +1,10 @@
 -- What the calls on a list or a section answer and leave, from the bytes and from the reading of them that `List` defines.
 use Prim.Native.Nat.{ℕ, zero, suc, _-_, _/_, _≤_}
 use mathlib.Core.Path.{_≡_}
-use mathlib.Core.List.{List}
+use mathlib.Core.List.{List, [], _∷_}
 use lib.ListN.{length}
 use lib.Dec.{leb}
+use Rattle.wire.specs.Answer.{Answer, given, refusal, numberIn, valueIn}
 use Rattle.wire.specs.Choice.{pick}
 use Rattle.wire.specs.Refusal.{tooLong, noRoom, pastAll, listLimit}
 use Rattle.wire.specs.Store.{laid}
@@ -12,6 +13,18 @@ use Rattle.routes.specs.Prefix.{words}
 use Rattle.routes.specs.declared.Row.{Row}
 use Rattle.routes.specs.declared.ListAnswer.{ListAnswer}
 use Rattle.routes.specs.declared.ListAnswer.the-variants.{Rows, Refused}
+
+-- a list as document 01 has it: how many rows
+abbrev pub listMeaning : ListAnswer → Answer
+listMeaning (Rows n) = given (n ∷ [])
+listMeaning (Refused n) = refusal n
+
+-- the rows of an answer, and its refusal number: 0 where there is none
+abbrev pub rowsIn : ListAnswer → ℕ
+rowsIn a = valueIn 0 (listMeaning a)
+
+abbrev pub verdictIn : ListAnswer → ℕ
+verdictIn a = numberIn (listMeaning a)
 
 -- the count where the verdict is 0, and else the verdict
 abbrev pub answerBy : ℕ → ℕ → ListAnswer

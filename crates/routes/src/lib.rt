@@ -6,10 +6,10 @@ ghost use Rattle.wire.specs.Number.{beAt};
 ghost use Rattle.wire.specs.Refusal.{listLimit};
 ghost use Rattle.families.specs.Family.{maxOf, idSize};
 ghost use Rattle.routes.specs.Prefix.{itemRow, prefixOf};
-ghost use Rattle.routes.specs.PrefixLaws.{Bounded};
+ghost use Rattle.routes.specs.Private.{Bounded};
 ghost use Rattle.routes.specs.List.{plainHere, fixed, stepOf, listOf, sectionOf, strange};
 ghost use Rattle.routes.specs.Size.{sizeOf, sized, kept};
-ghost use Rattle.routes.specs.Promises.{countAnswer, unpacked};
+ghost use Rattle.routes.specs.Promises.{rowsIn, verdictIn, countAnswer, unpacked};
 use families::AddPath;
 use families::Afi;
 use families::Form;
@@ -250,6 +250,25 @@ pub fn is_strange(s: &[u8]) -> bool
         return false;
     }
     s[0] != 0
+}
+
+// The rows of an answer, and its refusal number: 0 where there is none.
+pub fn rows_in(a: ListAnswer) -> usize
+    ensures { λ r. ⌜ r ≡ rowsIn a ⌝ }
+{
+    match a {
+        ListAnswer::Rows(n) => n,
+        ListAnswer::Refused(_) => 0,
+    }
+}
+
+pub fn verdict_in(a: ListAnswer) -> u8
+    ensures { λ r. ⌜ r ≡ verdictIn a ⌝ }
+{
+    match a {
+        ListAnswer::Rows(_) => 0,
+        ListAnswer::Refused(n) => n,
+    }
 }
 
 // How many rows a section of an UPDATE has, with no store.

@@ -1,6 +1,6 @@
 -- The fields of each answer.
-use Rattle.route_sizes.specs.declared.WriteAnswer.{WriteAnswer}
-use Rattle.route_sizes.specs.declared.WriteAnswer.the-variants as R
+use Rattle.wire.specs.declared.WriteAnswer.{WriteAnswer}
+use Rattle.wire.specs.declared.WriteAnswer.the-variants as R
 use Rattle.words.specs.Word.{Fields, given, refused}
 
 -- what was written: the bytes

@@ -12,13 +12,13 @@ use words::form_of;
 use words::word;
 
 // What was written, as a word: the bytes.
-fn routes_written(a: route_sizes::WriteAnswer) -> u64
+fn routes_written(a: route_bytes::WriteAnswer) -> u64
     requires { ⌜ Narrow (routesWritten a) ⌝ }
     ensures { λ r. ⌜ r ≡ wordOf (routesWritten a) ⌝ }
 {
     match a {
-        route_sizes::WriteAnswer::Bytes(n) => word(n as u16, 0, 0, 0),
-        route_sizes::WriteAnswer::Refused(n) => word(0, 0, 0, n),
+        route_bytes::WriteAnswer::Bytes(n) => word(n as u16, 0, 0, 0),
+        route_bytes::WriteAnswer::Refused(n) => word(0, 0, 0, n),
     }
 }
 

@@ -1,5 +1,2 @@
 pub mod Line
-pub mod Growth
-pub mod LineLaws
-pub mod Theorems
-pub mod Tight
+pub mod Private

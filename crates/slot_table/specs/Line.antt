@@ -12,7 +12,8 @@ use Rattle.routes.specs.declared.ListAnswer.{ListAnswer}
 use Rattle.messages.specs.Header.{updateKind, messageOf, bodyAt}
 use Rattle.messages.specs.declared.MessageAnswer.{MessageAnswer}
 use Rattle.messages.specs.declared.MessageAnswer.the-variants as M
-use Rattle.updates.specs.Update.{countUpdate, rowsIn, verdictIn}
+use Rattle.updates.specs.Update.{countUpdate}
+use Rattle.routes.specs.Promises.{rowsIn, verdictIn}
 use Rattle.updates.specs.declared.UpdateAnswer.{UpdateAnswer}
 use Rattle.updates.specs.declared.UpdateAnswer.the-variants as U
 use Rattle.slot_table.specs.declared.State.{State}

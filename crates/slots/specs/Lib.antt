@@ -1,4 +1,1 @@
 pub mod Slot
-pub mod SlotLaws
-pub mod Theorems
-pub mod Tight

@@ -1,6 +1,6 @@
 -- The fields of each answer.
 use Prim.Native.Nat.{_+_, _*_}
-use Rattle.updates.specs.Update.{rowsIn, verdictIn}
+use Rattle.routes.specs.Promises.{rowsIn, verdictIn}
 use Rattle.updates.specs.declared.UpdateAnswer.{UpdateAnswer}
 use Rattle.updates.specs.declared.UpdateAnswer.the-variants as U
 use Rattle.words.specs.Word.{Fields, given, refused}

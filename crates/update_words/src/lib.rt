@@ -1,7 +1,8 @@
 // The routes of an UPDATE body, counted and read: each answer as one word, for firmware.
 ghost use mathlib.Core.Path.{_≡_};
 ghost use lib.ListN.{length};
-ghost use Rattle.updates.specs.Update.{rowsIn, verdictIn, countUpdate, readUpdate, withdrawnAfter, announcedAfter};
+ghost use Rattle.updates.specs.Update.{countUpdate, readUpdate, withdrawnAfter, announcedAfter};
+ghost use Rattle.routes.specs.Promises.{rowsIn, verdictIn};
 ghost use Rattle.words.specs.Settings.{modeOf};
 ghost use Rattle.words.specs.Word.{wordOf, Narrow};
 ghost use Rattle.update_words.specs.Fields.{updateFields};

@@ -10,10 +10,10 @@ use Rattle.wire.specs.Refusal.{tooLong, noRoom, listLimit, bodyLimit}
 use Rattle.families.specs.Family.{maxOf}
 use Rattle.families.specs.declared.Afi.the-variants.{Ipv4}
 use Rattle.families.specs.declared.Form.{Form}
-use Rattle.route_sizes.specs.Encode.{bytesOf}
-use Rattle.route_sizes.specs.Promises.{measured}
-use Rattle.route_sizes.specs.declared.WriteAnswer.{WriteAnswer}
-use Rattle.route_sizes.specs.declared.WriteAnswer.the-variants.{Bytes, Refused}
+use Rattle.route_bytes.specs.Encode.{bytesOf}
+use Rattle.route_bytes.specs.Promises.{measured}
+use Rattle.wire.specs.declared.WriteAnswer.{WriteAnswer}
+use Rattle.wire.specs.declared.WriteAnswer.the-variants.{Bytes, Refused}
 
 -- the octets of a length
 abbrev pub lengthSize : ℕ

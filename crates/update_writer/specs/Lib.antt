@@ -1,4 +1,1 @@
 pub mod Body
-pub mod BodyLaws
-pub mod Tight
-pub mod Theorems

@@ -6,8 +6,8 @@ ghost use Rattle.route_writer.specs.Promises.{filled};
 ghost use Rattle.update_writer.specs.Body.{bodyBytes, bodyAnswer};
 use families::Afi;
 use families::Form;
-use route_sizes::WriteAnswer;
 use route_writer::ListsAnswer;
+use wire::WriteAnswer;
 
 // The bytes of a section's length.
 const LENGTH_SIZE: usize = 2;

@@ -10,7 +10,6 @@ use Rattle.families.specs.declared.Afi.the-variants.{Ipv4}
 use Rattle.families.specs.declared.AddPath.{AddPath}
 use Rattle.routes.specs.declared.Row.{Row}
 use Rattle.routes.specs.declared.ListAnswer.{ListAnswer}
-use Rattle.routes.specs.declared.ListAnswer.the-variants as L
 use Rattle.route_reader.specs.declared.PairAnswer.{PairAnswer}
 use Rattle.route_reader.specs.declared.PairAnswer.the-variants as P
 use Rattle.updates.specs.Body.{partsOf, withdrawnOf, announcedOf}
@@ -18,15 +17,6 @@ use Rattle.updates.specs.declared.PartsAnswer.{PartsAnswer}
 use Rattle.updates.specs.declared.PartsAnswer.the-variants as S
 use Rattle.updates.specs.declared.UpdateAnswer.{UpdateAnswer}
 use Rattle.updates.specs.declared.UpdateAnswer.the-variants.{Update, Refused}
-
--- the rows of a section, and its verdict: 0 where it is good
-abbrev pub rowsIn : ListAnswer → ℕ
-rowsIn (L.Rows n) = n
-rowsIn (L.Refused n) = 0
-
-abbrev pub verdictIn : ListAnswer → ℕ
-verdictIn (L.Rows n) = 0
-verdictIn (L.Refused n) = n
 
 -- a body whose sections are not all there is refused first
 abbrev pub ifParts : PartsAnswer → UpdateAnswer → UpdateAnswer

@@ -1,11 +1,8 @@
 pub mod Refusal
 pub mod Choice
 pub mod Number
-pub mod NumberLaws
 pub mod Walk
-pub mod WalkLaws
-pub mod Parts
+pub mod Cutting
 pub mod Store
-pub mod Turn
 pub mod Extent
-pub mod Tight
+pub mod Answer

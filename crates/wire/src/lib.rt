@@ -1,4 +1,4 @@
-// Numbers as bytes at a place of a slice, and parts of a slice: reads that take every place.
+// Numbers as bytes at a place of a slice, and parts of a slice: reads that take every place. The refusal numbers, and the answer of a writer.
 ghost use mathlib.Core.Path.{_≡_};
 ghost use Prim.Native.Nat.{min, max};
 ghost use mathlib.Core.List.{[], _∷_};
@@ -12,6 +12,12 @@ pub mod refusal;
 pub const LIST_LIMIT: usize = 65535;
 
 pub const BODY_LIMIT: usize = 65516;
+
+// What a writer answers: the bytes that it wrote, or a refusal number.
+pub enum WriteAnswer {
+    Bytes(usize),
+    Refused(u8),
+}
 
 // A byte as a wider number.
 pub fn wide(b: u8) -> u32

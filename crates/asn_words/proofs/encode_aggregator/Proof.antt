@@ -1,6 +1,6 @@
-use Rattle.words.specs.WordLaws.{told}
+use Rattle.words.proofs.WordLaws.{told}
 use Rattle.asn_words.specs.Fields.{asnsWritten}
-use Rattle.asn_words.specs.Bounds.{write-aggregator-narrow}
+use Rattle.asn_words.proofs.Bounds.{write-aggregator-narrow}
 use borrow.Author.Needs.{needs}
 use Rattle.asn_words.proofs.encode_aggregator.Statement.{statement}
 use Rattle.asn_words.proofs.encode_aggregator.Tie as tie

@@ -1,8 +1,8 @@
 use mathlib.Core.Path.{refl, sym}
 use native.Mathlib.Omega.{arith}
 use borrow.Author.Tests.{lt-ltb, le-ltb}
-use Rattle.wire.specs.Store.{placed-not, puts-placed}
-use Rattle.words.specs.Bounds.{bit-byte}
+use Rattle.wire.proofs.StoreLaws.{placed-not, puts-placed}
+use Rattle.words.proofs.Bounds.{bit-byte}
 use borrow.Author.Needs.{needs}
 use Rattle.asn_words.proofs.parse_aggregator.Statement.{statement}
 use Rattle.asn_words.proofs.parse_aggregator.Tie as tie

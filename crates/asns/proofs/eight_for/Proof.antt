@@ -1,5 +1,5 @@
 use native.Mathlib.Omega.{arith}
-use Rattle.asns.specs.AsnLaws.{eight-many, eight-few, eight-fits}
+use Rattle.asns.proofs.AsnLaws.{eight-many, eight-few, eight-fits}
 use borrow.Author.Needs.{needs}
 use Rattle.asns.proofs.eight_for.Statement.{statement}
 use Rattle.asns.proofs.eight_for.Tie as tie

@@ -7,9 +7,9 @@ use lib.ListN.{length, take}
 use Rattle.wire.specs.Number.{toBe}
 use Rattle.wire.specs.Store.{placed}
 use Rattle.asns.specs.Asn.{widthOf}
-use Rattle.asns.specs.AsnLaws.{width-most}
-use Rattle.asns.specs.AggregatorLaws.{leave, too-wide, no-place, all-written, both-put}
-use Rattle.asns.specs.declared.WriteAnswer.the-variants.{Written}
+use Rattle.asns.proofs.AsnLaws.{width-most}
+use Rattle.asns.proofs.AggregatorLaws.{leave, too-wide, no-place, all-written, both-put}
+use Rattle.wire.specs.declared.WriteAnswer.the-variants as W
 use borrow.Author.Needs.{needs}
 use Rattle.asns.proofs.encode_in.Statement.{statement}
 use Rattle.asns.proofs.encode_in.Tie as tie
@@ -51,7 +51,7 @@ returns-3 c =
     let e = sym (c .before .before .before .before .before .before .before .before .before .before .before .fits-width .ensures) ∙ not-false _ (c .before .before .before .before .before .before .before .before .before .before .if1 .left) in
     let room : widthOf (a .width) + 4 ≤ length (a .out .now) = omega (arith, w, c .before .before .before .before .before .before .before .before .if2 .left) in
     let h = leave (a .asn) (a .identifier) (a .width) (a .out .now) _ (all-written (a .asn) (a .identifier) (a .width) (a .out .now) e room) in (
-      ap (λ (k : ℕ). Written (k + 4)) w ∙ h .0,
+      ap (λ (k : ℕ). W.Bytes (k + 4)) w ∙ h .0,
       c .before .before .put-octets .ensures
           ∙ ap₂ (λ (d : List ℕ) (k : ℕ). placed d k (take 4 (toBe 4 (a .identifier)))) (c .before .before .before .before .before .before .put-number .ensures) w
           ∙ both-put (a .asn) (a .identifier) (a .width) (a .out .now) e room

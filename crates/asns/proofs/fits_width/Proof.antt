@@ -1,6 +1,6 @@
 use mathlib.Core.Path.{sym}
 use native.Mathlib.Omega.{arith}
-use Rattle.asns.specs.AsnLaws.{fits-four}
+use Rattle.asns.proofs.AsnLaws.{fits-four}
 use borrow.Author.Needs.{needs}
 use Rattle.asns.proofs.fits_width.Statement.{statement}
 use Rattle.asns.proofs.fits_width.Tie as tie

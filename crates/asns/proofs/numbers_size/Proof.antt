@@ -1,5 +1,5 @@
 use mathlib.Core.Path.{sym}
-use Rattle.asns.specs.AsnLaws.{span-is}
+use Rattle.asns.proofs.AsnLaws.{span-is}
 use borrow.Author.Needs.{needs}
 use Rattle.asns.proofs.numbers_size.Statement.{statement}
 use Rattle.asns.proofs.numbers_size.Tie as tie

@@ -1,5 +1,5 @@
 use mathlib.Core.Path.{sym, _∙_}
-use Rattle.asns.specs.AggregatorLaws.{in-parts, over-limit, of-eight, of-six, of-other}
+use Rattle.asns.proofs.AggregatorLaws.{in-parts, over-limit, of-eight, of-six, of-other}
 use Rattle.asns.specs.declared.AsnLength.the-variants.{Bits16, Bits32}
 use borrow.Author.Needs.{needs}
 use Rattle.asns.proofs.parse_aggregator.Statement.{statement}

@@ -9,7 +9,7 @@ use Rattle.asns.specs.declared.AsnLength.the-variants.{Bits16}
 use lib.Seq.{take-all}
 use Rattle.wire.specs.Number.{toBe}
 use Rattle.wire.specs.Store.{placed}
-use Rattle.asns.specs.AsnLaws.{fits-lt, put-not, put-fits}
+use Rattle.asns.proofs.AsnLaws.{fits-lt, put-not, put-fits}
 use borrow.Author.Needs.{needs}
 use Rattle.asns.proofs.put_number.Statement.{statement}
 use Rattle.asns.proofs.put_number.Tie as tie

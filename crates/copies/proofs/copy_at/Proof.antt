@@ -1,6 +1,6 @@
 use mathlib.Core.Path.{sym, _∙_}
 use native.Mathlib.Omega.{arith}
-use Rattle.wire.specs.Store.{placed-fits, placed-not}
+use Rattle.wire.proofs.StoreLaws.{placed-fits, placed-not}
 use borrow.Author.Needs.{needs}
 use Rattle.copies.proofs.copy_at.Statement.{statement}
 use Rattle.copies.proofs.copy_at.Tie as tie

@@ -1,8 +1,9 @@
 use mathlib.Core.Path.{sym, ap, _∙_}
 use native.Mathlib.Omega.{arith}
 use lib.ListN.{drop, length-drop, length-set}
-use Rattle.wire.specs.NumberLaws.{cells, padded-cells, padded-take}
-use Rattle.wire.specs.Store.{laid, puts-laid}
+use Rattle.wire.proofs.NumberLaws.{cells, padded-cells, padded-take}
+use Rattle.wire.specs.Store.{laid}
+use Rattle.wire.proofs.StoreLaws.{puts-laid}
 use borrow.Author.Needs.{needs}
 use Rattle.copies.proofs.copy_block.Statement.{statement}
 use Rattle.copies.proofs.copy_block.Tie as tie

@@ -4,8 +4,9 @@ use mathlib.Core.List.{List}
 use native.Mathlib.Omega.{arith}
 use lib.ListN.{length, take, drop}
 use lib.Seq.{length-take-le}
-use Rattle.wire.specs.Store.{laid, length-laid, laid-nil}
-use Rattle.copies.specs.Blocks.{block-next, block-last}
+use Rattle.wire.specs.Store.{laid}
+use Rattle.wire.proofs.StoreLaws.{length-laid, laid-nil}
+use Rattle.copies.proofs.Blocks.{block-next, block-last}
 use Rattle.copies.proofs.copy_blocks.Statement.{statement}
 use Rattle.copies.proofs.copy_blocks.Tie as tie
 

@@ -4,7 +4,7 @@ use native.Mathlib.Omega.{arith}
 use native.Mathlib.Numerals.{add-one}
 use lib.ListN.{length, length-set}
 use lib.Seq.{paste, paste-zero, paste-suc}
-use Rattle.wire.specs.Store.{paste-laid}
+use Rattle.wire.proofs.StoreLaws.{paste-laid}
 use borrow.Author.Needs.{needs}
 use Rattle.copies.proofs.copy_few.Statement.{statement}
 use Rattle.copies.proofs.copy_few.Tie as tie

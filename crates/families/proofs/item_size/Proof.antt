@@ -1,6 +1,6 @@
 use borrow.Author.Needs.{needs}
 use native.Mathlib.Omega.{arith}
-use Rattle.families.specs.FamilyLaws.{id-small}
+use Rattle.families.proofs.FamilyLaws.{id-small}
 use Rattle.families.proofs.item_size.Statement.{statement}
 use Rattle.families.proofs.item_size.Tie as tie
 

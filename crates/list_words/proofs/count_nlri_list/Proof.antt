@@ -1,6 +1,6 @@
-use Rattle.words.specs.WordLaws.{told}
+use Rattle.words.proofs.WordLaws.{told}
 use Rattle.list_words.specs.Fields.{listFields}
-use Rattle.list_words.specs.Bounds.{count-list-narrow}
+use Rattle.list_words.proofs.Bounds.{count-list-narrow}
 use borrow.Author.Needs.{needs}
 use Rattle.list_words.proofs.count_nlri_list.Statement.{statement}
 use Rattle.list_words.proofs.count_nlri_list.Tie as tie

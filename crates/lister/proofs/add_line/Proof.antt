@@ -2,7 +2,7 @@ use Prim.Native.Nat.{_+_, _≤_}
 use native.Mathlib.Omega.{arith}
 use lib.ListN.{length}
 use Rattle.slot_table.specs.Line.{lineOf}
-use Rattle.slot_table.specs.LineLaws.{put-after, line-few}
+use Rattle.slot_table.proofs.LineLaws.{put-after, line-few}
 use borrow.Author.Needs.{needs}
 use Rattle.lister.proofs.add_line.Statement.{statement}
 use Rattle.lister.proofs.add_line.Tie as tie

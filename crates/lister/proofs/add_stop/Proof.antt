@@ -2,7 +2,7 @@ use Prim.Native.Nat.{_+_, _≤_}
 use native.Mathlib.Omega.{arith}
 use lib.ListN.{length}
 use Rattle.slot_table.specs.Line.{stopText}
-use Rattle.slot_table.specs.LineLaws.{put-after, stop-few}
+use Rattle.slot_table.proofs.LineLaws.{put-after, stop-few}
 use borrow.Author.Needs.{needs}
 use Rattle.lister.proofs.add_stop.Statement.{statement}
 use Rattle.lister.proofs.add_stop.Tie as tie

@@ -3,8 +3,8 @@ use mathlib.Core.Path.{_≡_, sym, ap, _∙_}
 use native.Mathlib.Omega.{arith}
 use borrow.Author.Needs.{needs}
 use lib.ListN.{length, length-drop}
-use Rattle.wire.specs.Turn.{rest}
-use Rattle.slots.specs.SlotLaws.{slot-fits}
+use Rattle.wire.proofs.Turn.{rest}
+use Rattle.slots.proofs.SlotLaws.{slot-fits}
 use Rattle.lister.proofs.lines.Statement.{statement}
 use Rattle.lister.proofs.lines.Tie as tie
 

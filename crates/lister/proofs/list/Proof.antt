@@ -4,7 +4,7 @@ use native.Mathlib.Omega.{arith}
 use borrow.Author.Needs.{needs}
 use lib.ListN.{length}
 use Rattle.slot_table.specs.Line.{headingText}
-use Rattle.slot_table.specs.LineLaws.{put-within, heading-few}
+use Rattle.slot_table.proofs.LineLaws.{put-within, heading-few}
 use Rattle.lister.proofs.list.Statement.{statement}
 use Rattle.lister.proofs.list.Tie as tie
 

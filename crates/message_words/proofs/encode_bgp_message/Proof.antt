@@ -1,6 +1,6 @@
-use Rattle.words.specs.WordLaws.{told}
+use Rattle.words.proofs.WordLaws.{told}
 use Rattle.message_words.specs.Fields.{messageWritten}
-use Rattle.message_words.specs.Bounds.{write-message-narrow}
+use Rattle.message_words.proofs.Bounds.{write-message-narrow}
 use borrow.Author.Needs.{needs}
 use Rattle.message_words.proofs.encode_bgp_message.Statement.{statement}
 use Rattle.message_words.proofs.encode_bgp_message.Tie as tie

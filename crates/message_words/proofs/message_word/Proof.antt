@@ -1,5 +1,5 @@
 use native.Mathlib.Omega.{arith}
-use Rattle.words.specs.Bounds.{bit-byte, byte-small}
+use Rattle.words.proofs.Bounds.{bit-byte, byte-small}
 use borrow.Author.Needs.{needs}
 use Rattle.message_words.proofs.message_word.Statement.{statement}
 use Rattle.message_words.proofs.message_word.Tie as tie

@@ -1,6 +1,6 @@
-use Rattle.words.specs.WordLaws.{told}
+use Rattle.words.proofs.WordLaws.{told}
 use Rattle.message_words.specs.Fields.{messageFields}
-use Rattle.message_words.specs.Bounds.{strict-narrow}
+use Rattle.message_words.proofs.Bounds.{strict-narrow}
 use borrow.Author.Needs.{needs}
 use Rattle.message_words.proofs.parse_bgp_message_strict.Statement.{statement}
 use Rattle.message_words.proofs.parse_bgp_message_strict.Tie as tie

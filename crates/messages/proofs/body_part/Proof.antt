@@ -1,4 +1,4 @@
-use Rattle.wire.specs.Extent.{empty-part}
+use Rattle.wire.proofs.ExtentLaws.{empty-part}
 use Rattle.messages.specs.Header.{headerSize}
 use Prim.Native.Nat.{_≤_}
 use lib.ListN.{length}

@@ -6,10 +6,10 @@ use Prim.Native.Nat.{_≤_, _<_}
 use native.Mathlib.Omega.{arith}
 use lib.ListN.{length}
 use borrow.Author.Tests.{lt-ltb, le-ltb}
-use Rattle.messages.specs.HeaderLaws.{inside-high}
+use Rattle.messages.proofs.HeaderLaws.{inside-high}
 use Rattle.messages.specs.Written.{writeAnswer, totalOf}
-use Rattle.messages.specs.WrittenLaws.{most-small, over-outside, out-by, body-put}
-use Rattle.messages.specs.declared.WriteAnswer.the-variants.{Bytes, Refused}
+use Rattle.messages.proofs.WrittenLaws.{most-small, over-outside, out-by, body-put}
+use Rattle.wire.specs.declared.WriteAnswer.the-variants.{Bytes, Refused}
 use borrow.Author.Needs.{needs}
 use Rattle.messages.proofs.encode_bgp_message.Statement.{statement}
 use Rattle.messages.proofs.encode_bgp_message.Tie as tie

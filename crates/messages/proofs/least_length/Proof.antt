@@ -1,5 +1,5 @@
 use mathlib.Core.Path.{sym}
-use Rattle.messages.specs.HeaderLaws.{least-shifted, least-other}
+use Rattle.messages.proofs.HeaderLaws.{least-shifted, least-other}
 use borrow.Author.Needs.{needs}
 use Rattle.messages.proofs.least_length.Statement.{statement}
 use Rattle.messages.proofs.least_length.Tie as tie

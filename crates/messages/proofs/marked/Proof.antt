@@ -1,5 +1,5 @@
 use borrow.Author.Tests.{not-true, not-false}
-use Rattle.messages.specs.HeaderLaws.{marker-words}
+use Rattle.messages.proofs.HeaderLaws.{marker-words}
 use borrow.Author.Needs.{needs}
 use Rattle.messages.proofs.marked.Statement.{statement}
 use Rattle.messages.proofs.marked.Tie as tie

@@ -1,5 +1,5 @@
 use Rattle.messages.specs.Header.{messageOf}
-use Rattle.messages.specs.HeaderLaws.{message-fits, body-by}
+use Rattle.messages.proofs.HeaderLaws.{message-fits, body-by}
 use borrow.Author.Needs.{needs}
 use Rattle.messages.proofs.message_body.Statement.{statement}
 use Rattle.messages.proofs.message_body.Tie as tie

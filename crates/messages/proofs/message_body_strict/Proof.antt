@@ -1,5 +1,5 @@
 use Rattle.messages.specs.Header.{strictOf}
-use Rattle.messages.specs.HeaderLaws.{strict-fits, body-by}
+use Rattle.messages.proofs.HeaderLaws.{strict-fits, body-by}
 use borrow.Author.Needs.{needs}
 use Rattle.messages.proofs.message_body_strict.Statement.{statement}
 use Rattle.messages.proofs.message_body_strict.Tie as tie

@@ -4,7 +4,7 @@ use native.Mathlib.Omega.{arith}
 use lib.Dec.{ltb}
 use borrow.Author.Tests.{ne-eqb}
 use Rattle.messages.specs.Header.{leastLength, mostLength}
-use Rattle.messages.specs.HeaderLaws.{most-limit, outside-high, outside-low}
+use Rattle.messages.proofs.HeaderLaws.{most-limit, outside-high, outside-low}
 use borrow.Author.Needs.{needs}
 use Rattle.messages.proofs.misfit.Statement.{statement}
 use Rattle.messages.proofs.misfit.Tie as tie

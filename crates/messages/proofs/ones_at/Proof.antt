@@ -1,7 +1,7 @@
 use mathlib.Core.Path.{ap, _∙_}
 use Prim.Native.Nat.{ℕ}
 use lib.Dec.{eqb}
-use Rattle.messages.specs.HeaderLaws.{eightOnes, ones-word}
+use Rattle.messages.proofs.HeaderLaws.{eightOnes, ones-word}
 use borrow.Author.Needs.{needs}
 use Rattle.messages.proofs.ones_at.Statement.{statement}
 use Rattle.messages.proofs.ones_at.Tie as tie

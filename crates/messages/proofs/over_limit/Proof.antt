@@ -4,7 +4,7 @@ use native.Mathlib.Omega.{arith}
 use lib.Dec.{ltb}
 use borrow.Author.Tests.{le-ltb}
 use Rattle.messages.specs.Header.{crateLimit}
-use Rattle.messages.specs.HeaderLaws.{limit-least}
+use Rattle.messages.proofs.HeaderLaws.{limit-least}
 use borrow.Author.Needs.{needs}
 use Rattle.messages.proofs.over_limit.Statement.{statement}
 use Rattle.messages.proofs.over_limit.Tie as tie

@@ -1,4 +1,4 @@
-use Rattle.messages.specs.WrittenLaws.{header-put}
+use Rattle.messages.proofs.WrittenLaws.{header-put}
 use borrow.Author.Needs.{needs}
 use Rattle.messages.proofs.put_header.Statement.{statement}
 use Rattle.messages.proofs.put_header.Tie as tie

@@ -2,8 +2,8 @@ use mathlib.Core.Path.{sym}
 use mathlib.Core.List.{[], _∷_}
 use Prim.Native.Nat.{_/_, _%_}
 use Rattle.wire.specs.Number.{toBe}
-use Rattle.wire.specs.NumberLaws.{toBe-four}
-use Rattle.wire.specs.Store.{placed-not, puts-placed}
+use Rattle.wire.proofs.NumberLaws.{toBe-four}
+use Rattle.wire.proofs.StoreLaws.{placed-not, puts-placed}
 use native.Mathlib.Omega.{arith}
 use lib.ListN.{length-set}
 use borrow.Author.Needs.{needs}

@@ -4,8 +4,9 @@ use Prim.Native.Nat.{ℕ, _/_, _%_}
 use lib.ListN.{take, length-set}
 use lib.Seq.{length-take-le, take-all}
 use Rattle.wire.specs.Number.{toBe}
-use Rattle.wire.specs.NumberLaws.{toBe-four}
-use Rattle.wire.specs.Store.{placed, placed-nil, placed-not, puts-placed}
+use Rattle.wire.proofs.NumberLaws.{toBe-four}
+use Rattle.wire.specs.Store.{placed}
+use Rattle.wire.proofs.StoreLaws.{placed-nil, placed-not, puts-placed}
 use native.Mathlib.Omega.{arith}
 use borrow.Author.Needs.{needs}
 use Rattle.outputs.proofs.put_octets.Statement.{statement}

@@ -3,7 +3,7 @@ use mathlib.Core.List.{[], _∷_}
 use Prim.Native.Nat.{ℕ, _/_, _%_, _^_}
 use lib.ListN.{length-set}
 use Rattle.wire.specs.Number.{toBe}
-use Rattle.wire.specs.Store.{placed-not, puts-placed}
+use Rattle.wire.proofs.StoreLaws.{placed-not, puts-placed}
 use native.Mathlib.Omega.{arith}
 use borrow.Author.Needs.{needs}
 use Rattle.outputs.proofs.put_u16.Statement.{statement}

@@ -4,7 +4,7 @@ use Rattle.updates.specs.Body.{announcedAt}
 use Rattle.updates.specs.declared.PartsAnswer.the-variants.{Parts}
 use Rattle.words.specs.Word.{Narrow}
 use Rattle.part_words.specs.Fields.{partFields}
-use Rattle.part_words.specs.Bounds.{part-narrow}
+use Rattle.part_words.proofs.Bounds.{part-narrow}
 use borrow.Author.Needs.{needs}
 use Rattle.part_words.proofs.announced_part.Statement.{statement}
 use Rattle.part_words.proofs.announced_part.Tie as tie

@@ -1,7 +1,7 @@
 use mathlib.Core.Path.{sym, _∙_}
 use native.Mathlib.Omega.{arith}
 use Rattle.updates.specs.Body.{withdrawnAt}
-use Rattle.part_words.specs.Bounds.{part-narrow}
+use Rattle.part_words.proofs.Bounds.{part-narrow}
 use borrow.Author.Needs.{needs}
 use Rattle.part_words.proofs.withdrawn_part.Statement.{statement}
 use Rattle.part_words.proofs.withdrawn_part.Tie as tie

@@ -1,6 +1,6 @@
-use Rattle.words.specs.WordLaws.{told}
+use Rattle.words.proofs.WordLaws.{told}
 use Rattle.path_words.specs.Fields.{pathFields}
-use Rattle.path_words.specs.Bounds.{count-path-narrow}
+use Rattle.path_words.proofs.Bounds.{count-path-narrow}
 use borrow.Author.Needs.{needs}
 use Rattle.path_words.proofs.count_as_path.Statement.{statement}
 use Rattle.path_words.proofs.count_as_path.Tie as tie

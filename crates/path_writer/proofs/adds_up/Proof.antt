@@ -4,7 +4,7 @@ use Prim.Native.Nat.{_+_, _-_, _≤_}
 use mathlib.Core.Path.{_≡_, sym, _∙_}
 use lib.ListN.{length, drop}
 use Rattle.path_writer.specs.Write.{addsUp}
-use Rattle.path_writer.specs.WriteLaws.{adds-end, adds-short, adds-over, adds-on}
+use Rattle.path_writer.proofs.WriteLaws.{adds-end, adds-short, adds-over, adds-on}
 use Rattle.path_writer.proofs.adds_up.Statement.{statement}
 use Rattle.path_writer.proofs.adds_up.Tie as tie
 

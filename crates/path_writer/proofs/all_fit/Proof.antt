@@ -1,5 +1,5 @@
 use mathlib.Core.Path.{sym}
-use Rattle.path_writer.specs.NumberPut.{all-four}
+use Rattle.path_writer.proofs.NumberPut.{all-four}
 use borrow.Author.Needs.{needs}
 use Rattle.path_writer.proofs.all_fit.Statement.{statement}
 use Rattle.path_writer.proofs.all_fit.Tie as tie

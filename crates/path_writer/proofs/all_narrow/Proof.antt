@@ -8,7 +8,7 @@ use mathlib.Core.Bool.{true, false}
 use lib.Dec.{ltb}
 use lib.ListN.{length, drop, take, getD}
 use Rattle.path_writer.specs.Write.{allFit}
-use Rattle.path_writer.specs.WriteLaws.{take-next}
+use Rattle.path_writer.proofs.WriteLaws.{take-next}
 use Rattle.path_writer.proofs.all_narrow.Statement.{statement}
 use Rattle.path_writer.proofs.all_narrow.Tie as tie
 

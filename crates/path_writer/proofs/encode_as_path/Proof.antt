@@ -6,10 +6,10 @@ use mathlib.Core.Bool.{true}
 use lib.ListN.{length}
 use Rattle.asns.specs.Asn.{widthOf}
 use Rattle.paths.specs.Segment.{knownType}
-use Rattle.asns.specs.AsnLaws.{span-many, span-most, width-pos}
-use Rattle.asns.specs.declared.WriteAnswer.the-variants.{Written}
+use Rattle.asns.proofs.AsnLaws.{span-many, span-most, width-pos}
+use Rattle.wire.specs.declared.WriteAnswer.the-variants as W
 use Rattle.path_writer.specs.Write.{addsUp, lentPath}
-use Rattle.path_writer.specs.PromiseLaws.{leave, not-whole, bad-segment, size-is, too-long, no-place, all-written}
+use Rattle.path_writer.proofs.PromiseLaws.{leave, not-whole, bad-segment, size-is, too-long, no-place, all-written}
 use borrow.Author.Needs.{needs}
 use Rattle.path_writer.proofs.encode_as_path.Statement.{statement}
 use Rattle.path_writer.proofs.encode_as_path.Tie as tie
@@ -83,7 +83,7 @@ returns-7 c =
     let g = good (c .before .before .before .before .before .before .before .before .before) in
     let size = c .before .before .before .before .before .before .numbers-size .ensures in
     let h = leave knownType (widthOf (a .width)) (a .pairs .now) (a .numbers .now) (a .out .now) _ (all-written knownType (widthOf (a .width)) (a .pairs .now) (a .numbers .now) (length (a .out .now)) w g (omega (arith, c .before .before .before .before .before .if5 .left, size)) (omega (arith, c .before .before .before .before .if6 .left, size))) in
-    (ap (λ (k : ℕ). Written (length (a .pairs .now) + k)) size ∙ h .0, c .before .before .write-segments .ensures ∙ h .1)
+    (ap (λ (k : ℕ). W.Bytes (length (a .pairs .now) + k)) size ∙ h .0, c .before .before .write-segments .ensures ∙ h .1)
 
 pub encode-as-path-spec : {M : Type 1} → statement M
 encode-as-path-spec =

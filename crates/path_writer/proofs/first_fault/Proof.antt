@@ -4,7 +4,7 @@ use mathlib.Core.Path.{sym, _∙_}
 use lib.ListN.{length, getD}
 use Rattle.asns.specs.Asn.{widthOf}
 use Rattle.paths.specs.Segment.{knownType}
-use Rattle.path_writer.specs.WriteTurn.{Judged, judged-start, judged-fits, judged-next, judged-stop, judged-done}
+use Rattle.path_writer.proofs.WriteTurn.{Judged, judged-start, judged-fits, judged-next, judged-stop, judged-done}
 use Rattle.path_writer.proofs.first_fault.Statement.{statement}
 use Rattle.path_writer.proofs.first_fault.Tie as tie
 

@@ -5,11 +5,12 @@ use native.Mathlib.Omega.{arith}
 use lib.ListN.{length, take, drop, length-drop}
 use lib.Seq.{length-take-le}
 use Rattle.wire.specs.Number.{toBe}
-use Rattle.wire.specs.Store.{laid, put-alone}
+use Rattle.wire.specs.Store.{laid}
+use Rattle.wire.proofs.StoreLaws.{put-alone}
 use Rattle.wire.specs.Walk.{flat}
 use Rattle.asns.specs.Asn.{widthOf, span}
-use Rattle.asns.specs.AsnLaws.{eight-says}
-use Rattle.path_writer.specs.WriteLaws.{fit-part, bytes-length, more-bytes}
+use Rattle.asns.proofs.AsnLaws.{eight-says}
+use Rattle.path_writer.proofs.WriteLaws.{fit-part, bytes-length, more-bytes}
 use borrow.Author.Needs.{needs}
 use Rattle.path_writer.proofs.put_ahead.Statement.{statement}
 use Rattle.path_writer.proofs.put_ahead.Tie as tie

@@ -3,8 +3,9 @@ use mathlib.Core.List.{[], _∷_}
 use Prim.Native.Nat.{_/_, _%_}
 use native.Mathlib.Omega.{arith}
 use lib.ListN.{length-set}
-use Rattle.wire.specs.NumberLaws.{toBe-four}
-use Rattle.wire.specs.Store.{laid, puts-laid}
+use Rattle.wire.proofs.NumberLaws.{toBe-four}
+use Rattle.wire.specs.Store.{laid}
+use Rattle.wire.proofs.StoreLaws.{puts-laid}
 use borrow.Author.Needs.{needs}
 use Rattle.path_writer.proofs.put_four.Statement.{statement}
 use Rattle.path_writer.proofs.put_four.Tie as tie

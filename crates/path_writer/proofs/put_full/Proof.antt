@@ -5,7 +5,7 @@ use mathlib.Core.Path.{_≡_}
 use lib.ListN.{length, getD}
 use Rattle.wire.specs.Number.{toBe}
 use Rattle.wire.specs.Store.{laid}
-use Rattle.path_writer.specs.NumberPut.{Putting, putting-start, putting-long, putting-done, putting-room, putting-fits, putting-next}
+use Rattle.path_writer.proofs.NumberPut.{Putting, putting-start, putting-long, putting-done, putting-room, putting-fits, putting-next}
 use Rattle.path_writer.proofs.put_full.Statement.{statement}
 use Rattle.path_writer.proofs.put_full.Tie as tie
 

@@ -1,7 +1,7 @@
 use mathlib.Core.List.{[], _∷_}
 use native.Mathlib.Omega.{arith}
 use lib.ListN.{length-set}
-use Rattle.wire.specs.Store.{puts-laid}
+use Rattle.wire.proofs.StoreLaws.{puts-laid}
 use borrow.Author.Needs.{needs}
 use Rattle.path_writer.proofs.put_head.Statement.{statement}
 use Rattle.path_writer.proofs.put_head.Tie as tie

@@ -6,7 +6,7 @@ use lib.ListN.{length, getD, take, drop}
 use Rattle.wire.specs.Number.{toBe}
 use Rattle.wire.specs.Store.{laid}
 use Rattle.wire.specs.Walk.{flat}
-use Rattle.path_writer.specs.NumberPut.{Putting, putting-start, putting-long, putting-done, putting-room, putting-fits, putting-next}
+use Rattle.path_writer.proofs.NumberPut.{Putting, putting-start, putting-long, putting-done, putting-room, putting-fits, putting-next}
 use Rattle.path_writer.proofs.put_narrow.Statement.{statement}
 use Rattle.path_writer.proofs.put_narrow.Tie as tie
 

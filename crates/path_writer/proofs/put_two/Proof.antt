@@ -3,7 +3,8 @@ use mathlib.Core.List.{[], _∷_}
 use Prim.Native.Nat.{ℕ, _/_, _%_, _^_}
 use native.Mathlib.Omega.{arith}
 use lib.ListN.{length-set}
-use Rattle.wire.specs.Store.{laid, puts-laid}
+use Rattle.wire.specs.Store.{laid}
+use Rattle.wire.proofs.StoreLaws.{puts-laid}
 use borrow.Author.Needs.{needs}
 use Rattle.path_writer.proofs.put_two.Statement.{statement}
 use Rattle.path_writer.proofs.put_two.Tie as tie

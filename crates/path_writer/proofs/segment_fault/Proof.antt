@@ -3,7 +3,7 @@ use native.Mathlib.Omega.{arith}
 use mathlib.Core.Path.{sym, _∙_}
 use Rattle.asns.specs.Asn.{widthOf}
 use Rattle.paths.specs.Segment.{knownType}
-use Rattle.path_writer.specs.WriteLaws.{fit-part, fault-rule, fault-long, fault-wide, none-fault}
+use Rattle.path_writer.proofs.WriteLaws.{fit-part, fault-rule, fault-long, fault-wide, none-fault}
 use borrow.Author.Needs.{needs}
 use Rattle.path_writer.proofs.segment_fault.Statement.{statement}
 use Rattle.path_writer.proofs.segment_fault.Tie as tie

@@ -1,16 +1,16 @@
-use Rattle.paths.specs.SegmentLaws.{type-known}
+use Rattle.paths.proofs.SegmentLaws.{type-known}
 use borrow.Author.Needs.{needs}
 use native.Mathlib.Omega.{arith}
 use Prim.Native.Nat.{ℕ, _+_, _-_, _≤_, _<_}
 use mathlib.Core.Path.{_≡_, ap, _∙_}
 use mathlib.Core.List.{List, [], _∷_}
 use lib.ListN.{length, getD}
-use Rattle.wire.specs.Store.{length-laid}
+use Rattle.wire.proofs.StoreLaws.{length-laid}
 use Rattle.asns.specs.Asn.{widthOf, span}
 use Rattle.paths.specs.Segment.{knownType}
 use Rattle.path_writer.specs.Promises.{bytesOf}
-use Rattle.path_writer.specs.WriteTurn.{WritingAhead, total, ahead-start, ahead-long, ahead-fits, ahead-next, ahead-done, writing-inside, writing-fine, body-length}
-use Rattle.path_writer.specs.Lent.{lent-fit}
+use Rattle.path_writer.proofs.WriteTurn.{WritingAhead, total, ahead-start, ahead-long, ahead-fits, ahead-next, ahead-done, writing-inside, writing-fine, body-length}
+use Rattle.path_writer.proofs.Lent.{lent-fit}
 use Rattle.path_writer.proofs.write_segments.Statement.{statement}
 use Rattle.path_writer.proofs.write_segments.Tie as tie
 

@@ -1,4 +1,4 @@
-use Rattle.paths.specs.PathTurn.{CountedPath, path-start, path-at, path-next, path-stop, path-done}
+use Rattle.paths.proofs.PathTurn.{CountedPath, path-start, path-at, path-next, path-stop, path-done}
 use borrow.Author.Needs.{needs}
 use native.Mathlib.Omega.{arith}
 use Prim.Native.Nat.{_+_, _-_, _≤_}
@@ -6,8 +6,8 @@ use lib.ListN.{length}
 use Rattle.wire.specs.Walk.{took}
 use Rattle.asns.specs.Asn.{widthOf}
 use Rattle.paths.specs.Segment.{knownType}
-use Rattle.asns.specs.AsnLaws.{width-pos}
-use Rattle.paths.specs.PromiseLaws.{count-long}
+use Rattle.asns.proofs.AsnLaws.{width-pos}
+use Rattle.paths.proofs.PromiseLaws.{count-long}
 use Rattle.paths.proofs.count_as_path.Statement.{statement}
 use Rattle.paths.proofs.count_as_path.Tie as tie
 

@@ -7,7 +7,7 @@ use lib.ListN.{length, getD}
 use Rattle.wire.specs.Store.{laid}
 use Rattle.asns.specs.Asn.{widthOf, span}
 use Rattle.paths.specs.Segment.{knownType}
-use Rattle.paths.specs.PathTurn.{AheadPath, ahead-start, ahead-long, ahead-fits, ahead-next, ahead-done}
+use Rattle.paths.proofs.PathTurn.{AheadPath, ahead-start, ahead-long, ahead-fits, ahead-next, ahead-done}
 use Rattle.paths.proofs.fill.Statement.{statement}
 use Rattle.paths.proofs.fill.Tie as tie
 

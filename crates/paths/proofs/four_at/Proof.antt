@@ -3,7 +3,7 @@ use native.Mathlib.Omega.{arith}
 use Prim.Native.Nat.{_+_}
 use mathlib.Core.Path.{ap}
 use Rattle.wire.specs.Number.{be, beAt}
-use Rattle.wire.specs.NumberLaws.{padded-cells}
+use Rattle.wire.proofs.NumberLaws.{padded-cells}
 use Rattle.paths.proofs.four_at.Statement.{statement}
 use Rattle.paths.proofs.four_at.Tie as tie
 

@@ -4,7 +4,7 @@ use lib.ListN.{length}
 use Rattle.asns.specs.Asn.{widthOf}
 use Rattle.paths.specs.Segment.{knownType, pathOf}
 use Rattle.paths.specs.Promises.{countAnswer}
-use Rattle.paths.specs.PromiseLaws.{count-path, leave, pairs-length, no-pairs, no-numbers, room}
+use Rattle.paths.proofs.PromiseLaws.{count-path, leave, pairs-length, no-pairs, no-numbers, room}
 use Rattle.paths.specs.declared.PathAnswer.the-variants.{Path}
 use borrow.Author.Needs.{needs}
 use Rattle.paths.proofs.parse_as_path.Statement.{statement}

@@ -3,11 +3,11 @@ use mathlib.Core.Path.{sym, _∙_}
 use native.Mathlib.Omega.{arith}
 use lib.ListN.{length, drop}
 use Rattle.asns.specs.Asn.{widthOf, span}
-use Rattle.asns.specs.AsnLaws.{eight-says}
-use Rattle.wire.specs.Store.{put-alone}
+use Rattle.asns.proofs.AsnLaws.{eight-says}
+use Rattle.wire.proofs.StoreLaws.{put-alone}
 use Rattle.paths.specs.Segment.{numbersOf}
-use Rattle.paths.specs.SegmentLaws.{length-numbers}
-use Rattle.paths.specs.NumberTurn.{put-more}
+use Rattle.paths.proofs.SegmentLaws.{length-numbers}
+use Rattle.paths.proofs.NumberTurn.{put-more}
 use borrow.Author.Needs.{needs}
 use Rattle.paths.proofs.put_ahead.Statement.{statement}
 use Rattle.paths.proofs.put_ahead.Tie as tie

@@ -4,7 +4,7 @@ use Prim.Native.Nat.{_+_, _-_, _≤_}
 use mathlib.Core.Path.{_≡_}
 use lib.ListN.{length}
 use Rattle.asns.specs.Asn.{span}
-use Rattle.paths.specs.NumberTurn.{Numbering, numbering-start, numbering-room, numbering-here, numbering-next, numbering-done}
+use Rattle.paths.proofs.NumberTurn.{Numbering, numbering-start, numbering-room, numbering-here, numbering-next, numbering-done}
 use Rattle.paths.proofs.put_full.Statement.{statement}
 use Rattle.paths.proofs.put_full.Tie as tie
 

@@ -4,8 +4,8 @@ use Prim.Native.Nat.{_+_, _≤_}
 use mathlib.Core.Path.{_≡_, _∙_}
 use lib.ListN.{length, length-set}
 use Rattle.asns.specs.Asn.{span}
-use Rattle.asns.specs.AsnLaws.{span-is}
-use Rattle.paths.specs.NumberTurn.{Numbering, numbering-start, numbering-room, numbering-next, numbering-two, numbering-done}
+use Rattle.asns.proofs.AsnLaws.{span-is}
+use Rattle.paths.proofs.NumberTurn.{Numbering, numbering-start, numbering-room, numbering-next, numbering-two, numbering-done}
 use Rattle.paths.proofs.put_narrow.Statement.{statement}
 use Rattle.paths.proofs.put_narrow.Tie as tie
 

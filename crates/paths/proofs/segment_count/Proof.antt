@@ -8,8 +8,8 @@ use mathlib.Core.List.{List}
 use Rattle.asns.specs.declared.AsnLength.{AsnLength}
 use Rattle.asns.specs.Asn.{widthOf, span}
 use Rattle.paths.specs.Segment.{segmentOf, typeFault, knownType}
-use Rattle.asns.specs.AsnLaws.{span-most}
-use Rattle.paths.specs.SegmentLaws.{fault-segment, count-taken}
+use Rattle.asns.proofs.AsnLaws.{span-most}
+use Rattle.paths.proofs.SegmentLaws.{fault-segment, count-taken}
 use Rattle.paths.specs.Size.{countIn}
 use borrow.Author.Needs.{needs}
 use Rattle.paths.proofs.segment_count.Statement.{statement}

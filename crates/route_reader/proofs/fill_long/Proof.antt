@@ -3,17 +3,17 @@ use mathlib.Core.Path.{refl, sym, ap, _∙_}
 use native.Mathlib.Omega.{arith}
 use lib.ListN.{length}
 use Rattle.wire.specs.Store.{laid}
-use Rattle.wire.specs.Turn.{Filled, fill-start, fill-done}
+use Rattle.wire.proofs.Turn.{Filled, fill-start, fill-done}
 use Rattle.wire.specs.Walk.{Reading, flat}
 use Rattle.families.specs.Family.{maxOf}
-use Rattle.families.specs.FamilyLaws.{id-small}
+use Rattle.families.proofs.FamilyLaws.{id-small}
 use Rattle.families.specs.declared.Afi.the-variants.{Ipv6}
 use Rattle.routes.specs.Prefix.{words}
 use Rattle.routes.specs.List.{fixed, stepOf}
-use Rattle.routes.specs.ListLaws.{sound, fixed-form, list-fixed}
+use Rattle.routes.proofs.ListLaws.{sound, fixed-form, list-fixed}
 use Rattle.routes.specs.declared.Row.{Row}
 use Rattle.route_reader.specs.Words.{Octets}
-use Rattle.route_reader.specs.FillLaws.{Turn, turn-chosen, front-there, fitting-form}
+use Rattle.route_reader.proofs.FillLaws.{Turn, turn-chosen, front-there, fitting-form}
 use borrow.Author.Needs.{needs}
 use Rattle.route_reader.proofs.fill_long.Statement.{statement}
 use Rattle.route_reader.proofs.fill_long.Tie as tie

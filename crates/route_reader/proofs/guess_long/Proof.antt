@@ -2,17 +2,17 @@ use Prim.Native.Nat.{ℕ, _+_, _-_}
 use mathlib.Core.Path.{refl, ap, _∙_}
 use native.Mathlib.Omega.{arith}
 use lib.ListN.{length, take, drop}
-use Rattle.wire.specs.Turn.{Filled, fill-start, fill-never, fill-done}
+use Rattle.wire.proofs.Turn.{Filled, fill-start, fill-never, fill-done}
 use Rattle.families.specs.Family.{maxOf}
 use Rattle.families.specs.declared.Afi.the-variants.{Ipv6}
 use Rattle.families.specs.declared.AddPath.the-variants.{Guess}
 use Rattle.families.specs.declared.Form.the-variants.{Plain}
 use Rattle.routes.specs.Prefix.{words}
 use Rattle.routes.specs.List.{stepOf, listOf}
-use Rattle.routes.specs.ListLaws.{sound, turn-took, turn-refused}
+use Rattle.routes.proofs.ListLaws.{sound, turn-took, turn-refused}
 use Rattle.routes.specs.Size.{sized}
 use Rattle.route_reader.specs.Words.{Octets}
-use Rattle.route_reader.specs.FillLaws.{Turn, turn-by}
+use Rattle.route_reader.proofs.FillLaws.{Turn, turn-by}
 use borrow.Author.Needs.{needs}
 use Rattle.route_reader.proofs.guess_long.Statement.{statement}
 use Rattle.route_reader.proofs.guess_long.Tie as tie

@@ -1,4 +1,4 @@
-use Rattle.route_reader.specs.WordsLaws.{last-octets}
+use Rattle.route_reader.proofs.WordsLaws.{last-octets}
 use Rattle.wire.specs.Number.{Bytes}
 use borrow.Author.Needs.{needs}
 use Rattle.route_reader.proofs.last_word.Statement.{statement}

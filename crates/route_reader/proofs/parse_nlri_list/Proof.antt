@@ -1,7 +1,7 @@
 use mathlib.Core.Path.{sym, _∙_}
 use native.Mathlib.Omega.{arith}
 use Rattle.routes.specs.List.{listOf}
-use Rattle.routes.specs.ListLaws.{words-length, count-rows, leave-full, leave-rows, leave-refused}
+use Rattle.routes.proofs.ListLaws.{words-length, count-rows, leave-full, leave-rows, leave-refused}
 use Rattle.families.specs.Family.{maxOf}
 use borrow.Author.Needs.{needs}
 use Rattle.route_reader.proofs.parse_nlri_list.Statement.{statement}

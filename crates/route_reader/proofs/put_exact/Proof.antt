@@ -4,7 +4,7 @@ use native.Mathlib.Omega.{arith}
 use lib.ListN.{length}
 use Rattle.wire.specs.Number.{beAt}
 use Rattle.wire.specs.Store.{laid}
-use Rattle.route_reader.specs.WordsLaws.{beyond, address-parts, address-first}
+use Rattle.route_reader.proofs.WordsLaws.{beyond, address-parts, address-first}
 use borrow.Author.Needs.{needs}
 use Rattle.route_reader.proofs.put_exact.Statement.{statement}
 use Rattle.route_reader.proofs.put_exact.Tie as tie

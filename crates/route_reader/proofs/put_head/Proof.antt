@@ -3,8 +3,9 @@ use mathlib.Core.List.{[], _∷_}
 use Prim.Native.Nat.{ℕ, _+_}
 use native.Mathlib.Omega.{arith}
 use lib.ListN.{getD, length-set}
-use Rattle.wire.specs.Store.{laid, puts-laid}
-use Rattle.families.specs.FamilyLaws.{mark-small}
+use Rattle.wire.specs.Store.{laid}
+use Rattle.wire.proofs.StoreLaws.{puts-laid}
+use Rattle.families.proofs.FamilyLaws.{mark-small}
 use borrow.Author.Needs.{needs}
 use Rattle.route_reader.proofs.put_head.Statement.{statement}
 use Rattle.route_reader.proofs.put_head.Tie as tie

@@ -4,7 +4,7 @@ use native.Mathlib.Omega.{arith}
 use lib.ListN.{length}
 use Rattle.wire.specs.Number.{Bytes}
 use Rattle.wire.specs.Store.{laid}
-use Rattle.route_reader.specs.WordsLaws.{mask-there, masked-at, address-parts}
+use Rattle.route_reader.proofs.WordsLaws.{mask-there, masked-at, address-parts}
 use borrow.Author.Needs.{needs}
 use Rattle.route_reader.proofs.put_long.Statement.{statement}
 use Rattle.route_reader.proofs.put_long.Tie as tie

@@ -3,7 +3,7 @@ use mathlib.Core.Path.{sym, ap, _∙_}
 use native.Mathlib.Omega.{arith}
 use lib.Seq.{length-take-le}
 use Rattle.wire.specs.Store.{laid}
-use Rattle.route_reader.specs.WordsLaws.{last-between}
+use Rattle.route_reader.proofs.WordsLaws.{last-between}
 use borrow.Author.Needs.{needs}
 use Rattle.route_reader.proofs.put_short.Statement.{statement}
 use Rattle.route_reader.proofs.put_short.Tie as tie

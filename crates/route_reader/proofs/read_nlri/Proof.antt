@@ -1,7 +1,7 @@
 use mathlib.Core.Path.{sym, _∙_}
 use Rattle.families.specs.Family.{maxOf}
 use Rattle.routes.specs.List.{sectionOf}
-use Rattle.routes.specs.ListLaws.{section-strange, section-list, leave-refused}
+use Rattle.routes.proofs.ListLaws.{section-strange, section-list, leave-refused}
 use borrow.Author.Needs.{needs}
 use Rattle.route_reader.proofs.read_nlri.Statement.{statement}
 use Rattle.route_reader.proofs.read_nlri.Tie as tie

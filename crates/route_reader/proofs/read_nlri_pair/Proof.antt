@@ -1,7 +1,7 @@
 use mathlib.Core.Path.{refl, sym, _∙_}
 use borrow.Author.Tests.{not-true, not-false}
 use Rattle.route_reader.specs.Pair.{pairAnswer}
-use Rattle.route_reader.specs.PairLaws.{pair-first, pair-second, pair-both}
+use Rattle.route_reader.proofs.PairLaws.{pair-first, pair-second, pair-both}
 use borrow.Author.Needs.{needs}
 use Rattle.route_reader.proofs.read_nlri_pair.Statement.{statement}
 use Rattle.route_reader.proofs.read_nlri_pair.Tie as tie

@@ -1,6 +1,6 @@
 use mathlib.Core.Path.{sym, ap, _∙_}
 use Rattle.wire.specs.Number.{be, beAt}
-use Rattle.wire.specs.NumberLaws.{padded-cells}
+use Rattle.wire.proofs.NumberLaws.{padded-cells}
 use borrow.Author.Needs.{needs}
 use Rattle.route_reader.proofs.word_at.Statement.{statement}
 use Rattle.route_reader.proofs.word_at.Tie as tie

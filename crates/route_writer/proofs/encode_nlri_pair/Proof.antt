@@ -5,9 +5,9 @@ use native.Mathlib.Omega.{arith}
 use lib.ListN.{length}
 use Rattle.wire.specs.Store.{laid}
 use Rattle.families.specs.Family.{maxOf}
-use Rattle.route_sizes.specs.Encode.{bytesOf}
-use Rattle.route_sizes.specs.Promises.{measured}
-use Rattle.route_writer.specs.PairLaws.{PairFits, pair-fits}
+use Rattle.route_bytes.specs.Encode.{bytesOf}
+use Rattle.route_bytes.specs.Promises.{measured}
+use Rattle.route_writer.proofs.PairLaws.{PairFits, pair-fits}
 use borrow.Author.Needs.{needs}
 use Rattle.route_writer.proofs.encode_nlri_pair.Statement.{statement}
 use Rattle.route_writer.proofs.encode_nlri_pair.Tie as tie

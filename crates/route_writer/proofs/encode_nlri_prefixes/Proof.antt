@@ -1,7 +1,7 @@
 use mathlib.Core.Path.{sym, _∙_}
 use Rattle.families.specs.Family.{maxOf}
-use Rattle.route_sizes.specs.PromiseLaws.{measured-bytes}
-use Rattle.route_writer.specs.PromiseLaws.{leave-refused, leave-long, leave-full, leave-bytes}
+use Rattle.route_bytes.proofs.PromiseLaws.{measured-bytes}
+use Rattle.route_writer.proofs.PromiseLaws.{leave-refused, leave-long, leave-full, leave-bytes}
 use borrow.Author.Needs.{needs}
 use Rattle.route_writer.proofs.encode_nlri_prefixes.Statement.{statement}
 use Rattle.route_writer.proofs.encode_nlri_prefixes.Tie as tie

@@ -3,8 +3,9 @@ use Prim.Native.Nat.{ℕ, _+_, _-_}
 use mathlib.Core.List.{List}
 use lib.ListN.{length}
 use Rattle.families.specs.Family.{maxOf}
-use Rattle.families.specs.FamilyLaws.{max-small}
-use Rattle.route_writer.specs.Ahead.{Ahead, ahead-long, ahead-room, ahead-row, ahead-next, ahead-done}
+use Rattle.families.proofs.FamilyLaws.{max-small}
+use Rattle.route_writer.proofs.Ahead.{ahead-long, ahead-room, ahead-row, ahead-next, ahead-done}
+use Rattle.route_writer.specs.Private.{Ahead}
 use Rattle.route_writer.proofs.fill.Statement.{statement}
 use Rattle.route_writer.proofs.fill.Tie as tie
 

@@ -4,9 +4,10 @@ use Prim.Native.Nat.{_-_, _≤_}
 use mathlib.Core.Path.{sym}
 use mathlib.Core.List.{[], append-nil}
 use lib.ListN.{length}
-use Rattle.families.specs.FamilyLaws.{id-small}
-use Rattle.route_sizes.specs.Encode.{fourWords, address}
-use Rattle.route_writer.specs.Ahead.{ahead-long, rowAt, Ahead, Whole, ahead-start, ahead-room, whole-room, whole-row, whole-turn}
+use Rattle.families.proofs.FamilyLaws.{id-small}
+use Rattle.route_bytes.specs.Encode.{fourWords, address}
+use Rattle.route_writer.proofs.Ahead.{ahead-long, Whole, ahead-start, ahead-room, whole-room, whole-row, whole-turn}
+use Rattle.route_writer.specs.Private.{rowAt, Ahead}
 use Rattle.route_writer.proofs.fill_long.Statement.{statement}
 use Rattle.route_writer.proofs.fill_long.Tie as tie
 

@@ -5,9 +5,10 @@ use mathlib.Core.Path.{refl}
 use mathlib.Core.List.{_++_}
 use lib.ListN.{length, getD}
 use Rattle.wire.specs.Number.{toBe}
-use Rattle.families.specs.FamilyLaws.{id-small}
-use Rattle.route_sizes.specs.Encode.{fourWords}
-use Rattle.route_writer.specs.Ahead.{ahead-long, Ahead, Whole, ahead-start, ahead-room, whole-room, whole-row, whole-turn}
+use Rattle.families.proofs.FamilyLaws.{id-small}
+use Rattle.route_bytes.specs.Encode.{fourWords}
+use Rattle.route_writer.proofs.Ahead.{ahead-long, Whole, ahead-start, ahead-room, whole-room, whole-row, whole-turn}
+use Rattle.route_writer.specs.Private.{Ahead}
 use Rattle.route_writer.proofs.fill_short.Statement.{statement}
 use Rattle.route_writer.proofs.fill_short.Tie as tie
 

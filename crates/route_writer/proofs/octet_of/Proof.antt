@@ -1,5 +1,5 @@
 use native.Mathlib.Omega.{arith}
-use Rattle.route_writer.specs.Octets.{octet-shift}
+use Rattle.route_writer.proofs.Octets.{octet-shift}
 use borrow.Author.Needs.{needs}
 use Rattle.route_writer.proofs.octet_of.Statement.{statement}
 use Rattle.route_writer.proofs.octet_of.Tie as tie

@@ -2,7 +2,7 @@ use mathlib.Core.Path.{sym}
 use native.Mathlib.Omega.{arith}
 use borrow.Author.Tests.{lt-ltb, le-ltb}
 use Rattle.route_writer.specs.Pair.{pairSized}
-use Rattle.route_writer.specs.PairLaws.{pair-over, pair-under}
+use Rattle.route_writer.proofs.PairLaws.{pair-over, pair-under}
 use borrow.Author.Needs.{needs}
 use Rattle.route_writer.proofs.pair_size.Statement.{statement}
 use Rattle.route_writer.proofs.pair_size.Tie as tie

@@ -2,8 +2,9 @@ use mathlib.Core.Path.{ap, _∙_}
 use Prim.Native.Nat.{ℕ, _-_}
 use native.Mathlib.Omega.{arith}
 use lib.ListN.{length, getD, length-set}
-use Rattle.wire.specs.Store.{length-laid}
-use Rattle.route_writer.specs.Ahead.{rowAt, headBytes, head-length, head-laid}
+use Rattle.wire.proofs.StoreLaws.{length-laid}
+use Rattle.route_writer.proofs.Ahead.{head-length, head-laid}
+use Rattle.route_writer.specs.Private.{rowAt, headBytes}
 use borrow.Author.Needs.{needs}
 use Rattle.route_writer.proofs.put_head.Statement.{statement}
 use Rattle.route_writer.proofs.put_head.Tie as tie

@@ -3,7 +3,8 @@ use Prim.Native.Nat.{_+_}
 use native.Mathlib.Omega.{arith}
 use lib.ListN.{getD}
 use Rattle.wire.specs.Number.{toBe}
-use Rattle.wire.specs.Store.{laid, laid-nil}
+use Rattle.wire.specs.Store.{laid}
+use Rattle.wire.proofs.StoreLaws.{laid-nil}
 use Rattle.families.specs.Family.{idSize}
 use Rattle.families.specs.declared.Form.{Form}
 use borrow.Author.Needs.{needs}

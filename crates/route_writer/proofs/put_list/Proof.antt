@@ -4,10 +4,10 @@ use Prim.Native.Nat.{ℕ, _-_}
 use native.Mathlib.Omega.{arith}
 use lib.ListN.{length, take, drop, length-drop}
 use lib.Seq.{length-take-le}
-use Rattle.wire.specs.Store.{laid-part}
+use Rattle.wire.proofs.StoreLaws.{laid-part}
 use Rattle.families.specs.Family.{maxOf}
-use Rattle.route_sizes.specs.Encode.{bytesOf}
-use Rattle.route_sizes.specs.PromiseLaws.{measured-bytes}
+use Rattle.route_bytes.specs.Encode.{bytesOf}
+use Rattle.route_bytes.proofs.PromiseLaws.{measured-bytes}
 use borrow.Author.Needs.{needs}
 use Rattle.route_writer.proofs.put_list.Statement.{statement}
 use Rattle.route_writer.proofs.put_list.Tie as tie

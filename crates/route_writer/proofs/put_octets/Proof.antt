@@ -4,10 +4,10 @@ use native.Mathlib.Omega.{arith}
 use native.Mathlib.Numerals.{add-one}
 use lib.ListN.{length, getD, length-set}
 use lib.Seq.{paste, paste-zero, paste-suc}
-use Rattle.route_sizes.specs.Encode.{address}
-use Rattle.route_sizes.specs.EncodeLaws.{address-length}
-use Rattle.route_writer.specs.Ahead.{rowAt}
-use Rattle.route_writer.specs.Octets.{octet-row, octets-laid}
+use Rattle.route_bytes.specs.Encode.{address}
+use Rattle.route_bytes.proofs.EncodeLaws.{address-length}
+use Rattle.route_writer.specs.Private.{rowAt}
+use Rattle.route_writer.proofs.Octets.{octet-row, octets-laid}
 use borrow.Author.Needs.{needs}
 use Rattle.route_writer.proofs.put_octets.Statement.{statement}
 use Rattle.route_writer.proofs.put_octets.Tie as tie

@@ -3,9 +3,10 @@ use Prim.Native.Nat.{ℕ, _+_}
 use native.Mathlib.Omega.{arith}
 use lib.ListN.{length}
 use Rattle.families.specs.Family.{octets}
-use Rattle.route_sizes.specs.Encode.{lengthOf, rowBytes}
-use Rattle.route_sizes.specs.EncodeLaws.{row-size}
-use Rattle.route_writer.specs.Ahead.{rowAt, row-laid}
+use Rattle.route_bytes.specs.Encode.{lengthOf, rowBytes}
+use Rattle.route_bytes.proofs.EncodeLaws.{row-size}
+use Rattle.route_writer.proofs.Ahead.{row-laid}
+use Rattle.route_writer.specs.Private.{rowAt}
 use borrow.Author.Needs.{needs}
 use Rattle.route_writer.proofs.put_row.Statement.{statement}
 use Rattle.route_writer.proofs.put_row.Tie as tie

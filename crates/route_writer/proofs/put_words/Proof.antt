@@ -5,7 +5,7 @@ use native.Mathlib.Omega.{arith}
 use lib.ListN.{getD}
 use Rattle.wire.specs.Number.{toBe}
 use Rattle.wire.specs.Store.{laid}
-use Rattle.route_writer.specs.Ahead.{words-laid}
+use Rattle.route_writer.proofs.Ahead.{words-laid}
 use borrow.Author.Needs.{needs}
 use Rattle.route_writer.proofs.put_words.Statement.{statement}
 use Rattle.route_writer.proofs.put_words.Tie as tie

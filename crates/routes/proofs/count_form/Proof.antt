@@ -2,8 +2,8 @@ use borrow.Author.Needs.{needs}
 use native.Mathlib.Omega.{arith}
 use Prim.Native.Nat.{_-_}
 use lib.ListN.{length}
-use Rattle.families.specs.FamilyLaws.{id-small}
-use Rattle.routes.specs.Seat.{Seated, seat-start, seat-few, seat-long, seat-next, seat-done, seat-cut}
+use Rattle.families.proofs.FamilyLaws.{id-small}
+use Rattle.routes.proofs.Seat.{Seated, seat-start, seat-few, seat-long, seat-next, seat-done, seat-cut}
 use Rattle.routes.proofs.count_form.Statement.{statement}
 use Rattle.routes.proofs.count_form.Tie as tie
 

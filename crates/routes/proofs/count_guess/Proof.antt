@@ -5,7 +5,7 @@ use lib.ListN.{length}
 use Rattle.families.specs.declared.Form.the-variants.{Plain}
 use Rattle.families.specs.declared.AddPath.the-variants.{Guess}
 use Rattle.routes.specs.List.{listOf}
-use Rattle.routes.specs.ListLaws.{turn-took, turn-refused, Packed, packed-start, packed-step, packed-stop, packed-done}
+use Rattle.routes.proofs.ListLaws.{turn-took, turn-refused, Packed, packed-start, packed-step, packed-stop, packed-done}
 use Rattle.routes.proofs.count_guess.Statement.{statement}
 use Rattle.routes.proofs.count_guess.Tie as tie
 

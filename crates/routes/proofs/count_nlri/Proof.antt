@@ -1,6 +1,6 @@
 use mathlib.Core.Path.{sym, _∙_}
 use Rattle.families.specs.Family.{maxOf}
-use Rattle.routes.specs.ListLaws.{section-strange, section-list}
+use Rattle.routes.proofs.ListLaws.{section-strange, section-list}
 use borrow.Author.Needs.{needs}
 use Rattle.routes.proofs.count_nlri.Statement.{statement}
 use Rattle.routes.proofs.count_nlri.Tie as tie

@@ -5,7 +5,7 @@ use Rattle.families.specs.Family.{maxOf}
 use Rattle.routes.specs.declared.ListAnswer.{ListAnswer}
 use Rattle.routes.specs.List.{listOf}
 use Rattle.routes.specs.Promises.{countAnswer, unpacked}
-use Rattle.routes.specs.ListLaws.{unpacked-count, unpacked-refused}
+use Rattle.routes.proofs.ListLaws.{unpacked-count, unpacked-refused}
 use borrow.Author.Needs.{needs}
 use Rattle.routes.proofs.count_nlri_list.Statement.{statement}
 use Rattle.routes.proofs.count_nlri_list.Tie as tie

@@ -2,7 +2,7 @@ use mathlib.Core.Path.{sym, _∙_}
 use native.Mathlib.Omega.{arith}
 use Rattle.wire.specs.Refusal.{tooLong}
 use Rattle.routes.specs.List.{listOf}
-use Rattle.routes.specs.ListLaws.{unpacked-refused, count-long}
+use Rattle.routes.proofs.ListLaws.{unpacked-refused, count-long}
 use borrow.Author.Needs.{needs}
 use Rattle.routes.proofs.count_rows.Statement.{statement}
 use Rattle.routes.proofs.count_rows.Tie as tie

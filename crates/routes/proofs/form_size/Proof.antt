@@ -1,5 +1,5 @@
 use mathlib.Core.Path.{_∙_}
-use Rattle.routes.specs.ListLaws.{size-fixed}
+use Rattle.routes.proofs.ListLaws.{size-fixed}
 use borrow.Author.Needs.{needs}
 use Rattle.routes.proofs.form_size.Statement.{statement}
 use Rattle.routes.proofs.form_size.Tie as tie

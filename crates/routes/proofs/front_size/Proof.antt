@@ -4,7 +4,7 @@ use Prim.Native.Nat.{ℕ, _+_}
 use lib.ListN.{getD}
 use Rattle.families.specs.Family.{idSize, octets}
 use Rattle.routes.specs.Prefix.{itemEnd}
-use Rattle.routes.specs.PrefixLaws.{prefix-none, prefix-long, prefix-short, took-prefix}
+use Rattle.routes.proofs.PrefixLaws.{prefix-none, prefix-long, prefix-short, took-prefix}
 use Rattle.routes.specs.Size.{sizeOf}
 use borrow.Author.Needs.{needs}
 use Rattle.routes.proofs.front_size.Statement.{statement}

@@ -1,7 +1,7 @@
 use mathlib.Core.Path.{sym, _∙_}
 use Rattle.families.specs.declared.AddPath.the-variants.{Guess}
 use Rattle.families.specs.declared.Form.the-variants.{Plain, Tagged}
-use Rattle.routes.specs.ListLaws.{size-step, guess-plain, guess-tagged, guess-else}
+use Rattle.routes.proofs.ListLaws.{size-step, guess-plain, guess-tagged, guess-else}
 use borrow.Author.Needs.{needs}
 use Rattle.routes.proofs.guess_size.Statement.{statement}
 use Rattle.routes.proofs.guess_size.Tie as tie

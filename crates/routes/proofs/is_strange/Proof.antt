@@ -1,4 +1,4 @@
-use Rattle.routes.specs.ListLaws.{strange-one, strange-other}
+use Rattle.routes.proofs.ListLaws.{strange-one, strange-other}
 use borrow.Author.Needs.{needs}
 use Rattle.routes.proofs.is_strange.Statement.{statement}
 use Rattle.routes.proofs.is_strange.Tie as tie

@@ -3,9 +3,9 @@ use Prim.Native.Nat.{_+_}
 use native.Mathlib.Omega.{arith}
 use lib.ListN.{getD}
 use Rattle.families.specs.Family.{markOf}
-use Rattle.families.specs.FamilyLaws.{mark-small}
+use Rattle.families.proofs.FamilyLaws.{mark-small}
 use Rattle.routes.specs.Prefix.{wordAt}
-use Rattle.routes.specs.PrefixLaws.{row-parts, item-row}
+use Rattle.routes.proofs.PrefixLaws.{row-parts, item-row}
 use borrow.Author.Needs.{needs}
 use Rattle.routes.proofs.row_of.Statement.{statement}
 use Rattle.routes.proofs.row_of.Tie as tie

@@ -2,8 +2,8 @@ use mathlib.Core.Path.{sym, ap, _∙_}
 use native.Mathlib.Omega.{arith}
 use Rattle.routes.specs.declared.PrefixAnswer.the-variants.{Prefix}
 use Rattle.routes.specs.Prefix.{prefixOf}
-use Rattle.routes.specs.PrefixLaws.{took-prefix}
-use Rattle.routes.specs.ListLaws.{size-took, size-refused}
+use Rattle.routes.proofs.PrefixLaws.{took-prefix}
+use Rattle.routes.proofs.ListLaws.{size-took, size-refused}
 use borrow.Author.Needs.{needs}
 use Rattle.routes.proofs.try_parse_prefix.Statement.{statement}
 use Rattle.routes.proofs.try_parse_prefix.Tie as tie

@@ -1,6 +1,6 @@
-use Rattle.words.specs.WordLaws.{told}
+use Rattle.words.proofs.WordLaws.{told}
 use Rattle.row_words.specs.Fields.{routesWritten}
-use Rattle.row_words.specs.Bounds.{write-list-narrow}
+use Rattle.row_words.proofs.Bounds.{write-list-narrow}
 use borrow.Author.Needs.{needs}
 use Rattle.row_words.proofs.encode_nlri_prefixes.Statement.{statement}
 use Rattle.row_words.proofs.encode_nlri_prefixes.Tie as tie

@@ -1,8 +1,8 @@
 use native.Mathlib.Omega.{arith}
 use Rattle.messages.specs.Header.{updateKind}
 use Rattle.slot_table.specs.Line.{entryText, fieldsText}
-use Rattle.slot_table.specs.LineLaws.{fields-few}
-use Rattle.slot_table.specs.Growth.{grow}
+use Rattle.slot_table.proofs.LineLaws.{fields-few}
+use Rattle.slot_table.proofs.Growth.{grow}
 use borrow.Author.Needs.{needs}
 use Rattle.slot_table.proofs.put_entry.Statement.{statement}
 use Rattle.slot_table.proofs.put_entry.Tie as tie

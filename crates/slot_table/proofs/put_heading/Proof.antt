@@ -1,5 +1,5 @@
 use Rattle.slot_table.specs.Line.{headingText}
-use Rattle.slot_table.specs.LineLaws.{put-fits, put-not}
+use Rattle.slot_table.proofs.LineLaws.{put-fits, put-not}
 use borrow.Author.Needs.{needs}
 use Rattle.slot_table.proofs.put_heading.Statement.{statement}
 use Rattle.slot_table.proofs.put_heading.Tie as tie

@@ -1,7 +1,7 @@
 use native.Mathlib.Omega.{arith}
 use Rattle.slot_table.specs.Line.{space, lineOf}
-use Rattle.slot_table.specs.LineLaws.{number-few, put-fits, put-not}
-use Rattle.slot_table.specs.Growth.{grow}
+use Rattle.slot_table.proofs.LineLaws.{number-few, put-fits, put-not}
+use Rattle.slot_table.proofs.Growth.{grow}
 use borrow.Author.Needs.{needs}
 use Rattle.slot_table.proofs.put_line.Statement.{statement}
 use Rattle.slot_table.proofs.put_line.Tie as tie

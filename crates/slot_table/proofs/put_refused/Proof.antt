@@ -1,4 +1,4 @@
-use Rattle.slot_table.specs.Growth.{grow}
+use Rattle.slot_table.proofs.Growth.{grow}
 use borrow.Author.Needs.{needs}
 use Rattle.slot_table.proofs.put_refused.Statement.{statement}
 use Rattle.slot_table.proofs.put_refused.Tie as tie

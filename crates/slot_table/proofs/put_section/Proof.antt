@@ -1,7 +1,7 @@
 use native.Mathlib.Omega.{arith}
 use Rattle.slot_table.specs.Line.{slash, sectionText}
-use Rattle.slot_table.specs.LineLaws.{number-few}
-use Rattle.slot_table.specs.Growth.{grow}
+use Rattle.slot_table.proofs.LineLaws.{number-few}
+use Rattle.slot_table.proofs.Growth.{grow}
 use borrow.Author.Needs.{needs}
 use Rattle.slot_table.proofs.put_section.Statement.{statement}
 use Rattle.slot_table.proofs.put_section.Tie as tie

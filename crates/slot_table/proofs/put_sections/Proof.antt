@@ -1,7 +1,7 @@
 use native.Mathlib.Omega.{arith}
 use Rattle.slot_table.specs.Line.{space}
-use Rattle.slot_table.specs.LineLaws.{section-few}
-use Rattle.slot_table.specs.Growth.{grow}
+use Rattle.slot_table.proofs.LineLaws.{section-few}
+use Rattle.slot_table.proofs.Growth.{grow}
 use borrow.Author.Needs.{needs}
 use Rattle.slot_table.proofs.put_sections.Statement.{statement}
 use Rattle.slot_table.proofs.put_sections.Tie as tie

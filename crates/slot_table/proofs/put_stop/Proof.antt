@@ -1,6 +1,6 @@
 use Rattle.slot_table.specs.Line.{stopText}
-use Rattle.slot_table.specs.LineLaws.{put-fits, put-not}
-use Rattle.slot_table.specs.Growth.{grow}
+use Rattle.slot_table.proofs.LineLaws.{put-fits, put-not}
+use Rattle.slot_table.proofs.Growth.{grow}
 use borrow.Author.Needs.{needs}
 use Rattle.slot_table.proofs.put_stop.Statement.{statement}
 use Rattle.slot_table.proofs.put_stop.Tie as tie

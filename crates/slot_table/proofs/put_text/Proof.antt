@@ -1,5 +1,5 @@
 use mathlib.Core.Path.{refl, _∙_}
-use Rattle.wire.specs.Store.{placed-fits}
+use Rattle.wire.proofs.StoreLaws.{placed-fits}
 use borrow.Author.Needs.{needs}
 use Rattle.slot_table.proofs.put_text.Statement.{statement}
 use Rattle.slot_table.proofs.put_text.Tie as tie

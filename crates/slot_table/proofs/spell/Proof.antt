@@ -1,4 +1,4 @@
-use Rattle.slot_table.specs.LineLaws.{digits-left, digits-turn, digits-first, drop-set}
+use Rattle.slot_table.proofs.LineLaws.{digits-left, digits-turn, digits-first, drop-set}
 use mathlib.Core.Path.{_≡_, refl, sym, _∙_}
 use Prim.Native.Nat.{suc, _+_, _^_, _≤_, _<_}
 use native.Mathlib.Omega.{arith}

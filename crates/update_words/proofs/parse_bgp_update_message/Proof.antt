@@ -1,6 +1,6 @@
-use Rattle.words.specs.WordLaws.{told}
+use Rattle.words.proofs.WordLaws.{told}
 use Rattle.update_words.specs.Fields.{updateFields}
-use Rattle.update_words.specs.Bounds.{read-update-narrow}
+use Rattle.update_words.proofs.Bounds.{read-update-narrow}
 use borrow.Author.Needs.{needs}
 use Rattle.update_words.proofs.parse_bgp_update_message.Statement.{statement}
 use Rattle.update_words.proofs.parse_bgp_update_message.Tie as tie

@@ -6,14 +6,14 @@ use lib.ListN.{length}
 use Rattle.wire.specs.Refusal.{bodyLimit}
 use Rattle.families.specs.Family.{maxOf}
 use Rattle.families.specs.declared.Afi.the-variants.{Ipv4}
-use Rattle.route_sizes.specs.Encode.{bytesOf}
-use Rattle.route_sizes.specs.Promises.{measured}
-use Rattle.route_sizes.specs.PromiseLaws.{measured-bytes}
+use Rattle.route_bytes.specs.Encode.{bytesOf}
+use Rattle.route_bytes.specs.Promises.{measured}
+use Rattle.route_bytes.proofs.PromiseLaws.{measured-bytes}
 use Rattle.route_writer.specs.Pair.{pairAfter}
-use Rattle.route_writer.specs.PairLaws.{PairFits, pair-fits}
+use Rattle.route_writer.proofs.PairLaws.{PairFits, pair-fits}
 use Rattle.route_writer.specs.declared.ListsAnswer.{ListsAnswer}
 use Rattle.update_writer.specs.Body.{lengthSize, bodyBytes}
-use Rattle.update_writer.specs.BodyLaws.{bodyBy, body-by, sections-put}
+use Rattle.update_writer.proofs.BodyLaws.{bodyBy, body-by, sections-put}
 use borrow.Author.Needs.{needs}
 use Rattle.update_writer.proofs.encode_bgp_update_message.Statement.{statement}
 use Rattle.update_writer.proofs.encode_bgp_update_message.Tie as tie

@@ -4,7 +4,7 @@ use native.Mathlib.Omega.{arith}
 use lib.ListN.{length}
 use Rattle.wire.specs.Refusal.{bodyLimit}
 use Rattle.updates.specs.Body.{lengthSize, attributesAt}
-use Rattle.updates.specs.BodyLaws.{parts-add-up, part-told}
+use Rattle.updates.proofs.BodyLaws.{parts-add-up, part-told}
 use borrow.Author.Needs.{needs}
 use Rattle.updates.proofs.attribute_part.Statement.{statement}
 use Rattle.updates.proofs.attribute_part.Tie as tie

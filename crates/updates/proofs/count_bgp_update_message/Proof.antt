@@ -1,7 +1,7 @@
 use mathlib.Core.Path.{ap₂, sym, _∙_}
 use Rattle.updates.specs.declared.UpdateAnswer.the-variants.{Update}
 use Rattle.updates.specs.Update.{countUpdate}
-use Rattle.updates.specs.BodyLaws.{holds-withdrawn, holds-announced}
+use Rattle.updates.proofs.BodyLaws.{holds-withdrawn, holds-announced}
 use borrow.Author.Needs.{needs}
 use Rattle.updates.proofs.count_bgp_update_message.Statement.{statement}
 use Rattle.updates.proofs.count_bgp_update_message.Tie as tie

@@ -1,6 +1,6 @@
 use mathlib.Core.Path.{refl, sym, _∙_}
 use Rattle.updates.specs.Update.{readUpdate}
-use Rattle.updates.specs.BodyLaws.{holds-withdrawn, holds-announced}
+use Rattle.updates.proofs.BodyLaws.{holds-withdrawn, holds-announced}
 use borrow.Author.Needs.{needs}
 use Rattle.updates.proofs.parse_bgp_update_message.Statement.{statement}
 use Rattle.updates.proofs.parse_bgp_update_message.Tie as tie

@@ -1,7 +1,7 @@
 use native.Mathlib.Omega.{arith}
 use borrow.Author.Tests.{lt-ltb}
 use Rattle.updates.specs.Body.{partsOf}
-use Rattle.updates.specs.BodyLaws.{parts-short, attributes-end, parts-read}
+use Rattle.updates.proofs.BodyLaws.{parts-short, attributes-end, parts-read}
 use borrow.Author.Needs.{needs}
 use Rattle.updates.proofs.update_parts.Statement.{statement}
 use Rattle.updates.proofs.update_parts.Tie as tie

@@ -2,7 +2,8 @@ use mathlib.Core.Path.{_≡_, refl, ap}
 use Prim.Native.Nat.{ℕ, _+_, _-_}
 use native.Mathlib.Omega.{arith}
 use lib.ListN.{length, take, drop}
-use Rattle.wire.specs.Extent.{extent, clipped-fits, clipped-not, empty-part}
+use Rattle.wire.specs.Extent.{extent}
+use Rattle.wire.proofs.ExtentLaws.{clipped-fits, clipped-not, empty-part}
 use borrow.Author.Needs.{needs}
 use Rattle.wire.proofs.part.Statement.{statement}
 use Rattle.wire.proofs.part.Tie as tie

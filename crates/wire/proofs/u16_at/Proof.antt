@@ -1,6 +1,6 @@
 use lib.ListN.{drop-of-length-le}
 use Rattle.wire.specs.Number.{beAt}
-use Rattle.wire.specs.NumberLaws.{two-at}
+use Rattle.wire.proofs.NumberLaws.{two-at}
 use mathlib.Core.Path.{refl}
 use borrow.Author.Needs.{needs}
 use Rattle.wire.proofs.u16_at.Statement.{statement}

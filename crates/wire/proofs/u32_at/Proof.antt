@@ -1,5 +1,5 @@
 use Rattle.wire.specs.Number.{beAt}
-use Rattle.wire.specs.NumberLaws.{four-at}
+use Rattle.wire.proofs.NumberLaws.{four-at}
 use mathlib.Core.Path.{refl}
 use lib.ListN.{drop-of-length-le}
 use borrow.Author.Needs.{needs}

@@ -1,4 +1,4 @@
-use Rattle.replies.specs.Lent.{lent}
+use Rattle.replies.proofs.Lent.{lent}
 use borrow.Author.Needs.{needs}
 use Rattle.replies.proofs.writes.answer.Statement.{statement}
 use Rattle.replies.proofs.writes.answer.Tie as tie

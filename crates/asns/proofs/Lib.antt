@@ -1,0 +1,2 @@
+pub mod AsnLaws
+pub mod AggregatorLaws

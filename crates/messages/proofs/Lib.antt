@@ -1,0 +1,3 @@
+pub mod HeaderLaws
+pub mod WrittenLaws
+pub mod Theorems

@@ -1,0 +1,4 @@
+pub mod SegmentLaws
+pub mod NumberTurn
+pub mod PromiseLaws
+pub mod PathTurn

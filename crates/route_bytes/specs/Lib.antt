@@ -1,0 +1,2 @@
+pub mod Encode
+pub mod Promises

@@ -1,0 +1,4 @@
+pub mod Ahead
+pub mod Octets
+pub mod PromiseLaws
+pub mod PairLaws

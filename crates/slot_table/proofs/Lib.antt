@@ -1,0 +1,3 @@
+pub mod Growth
+pub mod LineLaws
+pub mod Theorems

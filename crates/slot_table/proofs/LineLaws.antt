@@ -1,0 +1,128 @@
+-- Laws of the lines: their digits, the most bytes that they take, and a line put at the front of an output.
+-- Assumes nothing.
+use Prim.Native.Nat.{ℕ, zero, suc, _+_, _-_, _*_, _^_, _/_, _%_, _≤_, _<_}
+use mathlib.Core.Path.{_≡_, refl, sym, ap, _∙_}
+use mathlib.Core.List.{List, [], _∷_}
+use native.Mathlib.Nat.{pow-succ'}
+use native.Mathlib.Omega.{arith}
+use borrow.Author.Tests.{lt-ltb, le-ltb, le-leb, lt-leb}
+use lib.ListN.{length, take, drop, set, length-append, length-drop, length-set}
+use lib.Seq.{drop-cons, drop-set-lt, getD-set-same}
+use lib.Dec.{ltb, leb}
+use Rattle.wire.specs.Choice.{pick}
+use Rattle.wire.proofs.ChoiceLaws.{pick-any, pick-leb}
+use Rattle.wire.proofs.Turn.{rest}
+use Rattle.families.specs.declared.AddPath.{AddPath}
+use Rattle.routes.specs.declared.ListAnswer.{ListAnswer}
+use Rattle.routes.specs.Promises.{rowsIn, verdictIn}
+use Rattle.messages.specs.Header.{updateKind}
+use Rattle.slot_table.specs.Line.{space, lineEnd, slash, stateText, digits, number, fieldsText, sectionText, entryOf, entryText, lineOf, stopText, headingText, numberRoom, stateRoom, fieldsRoom, sectionRoom, entryRoom, lineRoom, putCount, putOut}
+use Rattle.slot_table.specs.Private.{Grown}
+use Rattle.slot_table.specs.declared.State.{State}
+use Rattle.slot_table.specs.declared.State.the-variants.{Whole, Cut, Trailing}
+use Rattle.slot_table.specs.declared.Entry.{Entry}
+use Rattle.slot_table.specs.declared.Entry.the-variants.{Refused, Other, Update}
+
+-- ---- digits
+
+-- the first one, and one before the others
+pub digits-first : (f n : ℕ) (acc : List ℕ) → n < 10 → digits (suc f) n acc ≡ (48 + n) ∷ acc
+unfolding digits
+digits-first f n acc h = rw (lt-ltb n 10 h)
+
+pub digits-next : (f n : ℕ) (acc : List ℕ) → 10 ≤ n → digits (suc f) n acc ≡ digits f (n / 10) ((48 + n % 10) ∷ acc)
+unfolding digits
+digits-next f n acc h = rw (le-ltb n 10 h)
+
+-- a byte put before those that stand
+pub drop-set : (s : List ℕ) (at v : ℕ) → at < length s → drop at (set s at v) ≡ v ∷ drop (suc at) s
+drop-set s at v h =
+    drop-cons (set s at v) at 0 (omega (arith, length-set s at v))
+    ∙ ap (λ (b : ℕ). b ∷ drop (suc at) (set s at v)) (getD-set-same s at v 0 h)
+    ∙ ap (λ (l : List ℕ). v ∷ l) (drop-set-lt (suc at) s at v (omega arith))
+
+-- a number of more than one digit: the others are one place before
+pub digits-left : (at n : ℕ) → 10 ≤ n → n < 10 ^ suc at → (1 ≤ at) × (n / 10 < 10 ^ suc (at - 1))
+digits-left zero n ten h = absurd (omega arith)
+digits-left (suc k) n ten h =
+    let e : suc (suc k - 1) ≡ suc k = omega arith in
+    let less : n < 10 * 10 ^ suc k = rw pow-succ' at h in
+    (omega arith, rw e (omega arith))
+
+pub digits-turn : (s : List ℕ) (at n : ℕ) → at < length s → 1 ≤ at → 10 ≤ n
+    → digits (suc (at - 1)) (n / 10) (drop (suc (at - 1)) (set s at (48 + n % 10))) ≡ digits (suc at) n (drop (suc at) s)
+digits-turn s at n h pos ten =
+    let e : suc (at - 1) ≡ at = omega arith in
+    rw e (ap (digits at (n / 10)) (drop-set s at (48 + n % 10) h) ∙ sym (digits-next at n (drop (suc at) s) ten))
+
+-- ---- the most bytes
+
+digits-few : (f n : ℕ) (acc : List ℕ) → length (digits f n acc) ≤ f + length acc
+unfolding digits
+digits-few zero n acc = omega arith
+digits-few (suc f) n acc =
+    pick-any (λ (l : List ℕ). length l ≤ suc f + length acc) (ltb n 10) ((48 + n) ∷ acc) (digits f (n / 10) ((48 + n % 10) ∷ acc))
+    (omega arith) (omega (arith, digits-few f (n / 10) ((48 + n % 10) ∷ acc)))
+
+pub number-few : (n end : ℕ) → length (number n (end ∷ [])) ≤ numberRoom
+number-few n end = omega (arith, digits-few 20 n (end ∷ []))
+
+pub state-few : (state : State) → length (stateText state) ≤ stateRoom
+state-few Whole = omega arith
+state-few Cut = omega arith
+state-few Trailing = omega arith
+
+pub fields-few : (kind claimed kept : ℕ) (state : State) → length (fieldsText kind claimed kept state) ≤ fieldsRoom
+unfolding fieldsText
+fields-few kind claimed kept state =
+    simp length-append (omega (arith, number-few kind space, number-few claimed space, number-few kept space, state-few state))
+
+pub section-few : (a : ListAnswer) (end : ℕ) → length (sectionText a end) ≤ sectionRoom
+unfolding sectionText
+section-few a end = simp length-append (omega (arith, number-few (rowsIn a) slash, number-few (verdictIn a) end))
+
+pub entry-few : (kept : ℕ) (e : Entry) → length (entryText kept e) ≤ entryRoom
+unfolding entryText
+entry-few kept (Refused n) = simp length-append (omega (arith, number-few n lineEnd))
+entry-few kept (Other kind claimed state) = simp length-append (omega (arith, fields-few kind claimed kept state))
+entry-few kept (Update claimed state withdrawn announced) =
+    simp length-append (omega (arith, fields-few updateKind claimed kept state, section-few withdrawn space, section-few announced lineEnd))
+
+-- no line is longer than the room that an output must have
+pub line-few : (nth : ℕ) (s : List ℕ) (mode : AddPath) → length (lineOf nth s mode) ≤ lineRoom
+unfolding lineOf
+line-few nth s mode = simp length-append (omega (arith, number-few nth space, entry-few (length s) (entryOf s mode)))
+
+pub stop-few : (nth : ℕ) → length (stopText nth) ≤ lineRoom
+unfolding stopText
+stop-few nth = simp length-append (omega (arith, number-few nth lineEnd))
+
+pub heading-few : length headingText ≤ lineRoom
+unfolding headingText
+heading-few = omega arith
+
+-- ---- a line at the front of an output
+
+pub put-fits : (line d d′ : List ℕ) (r : ℕ) → lineRoom ≤ length d → Grown d 0 line d′ r → (r ≡ putCount line (length d)) × (d′ ≡ putOut line d)
+unfolding putCount putOut
+put-fits line d d′ r h g =
+    let r-is : r ≡ length line = omega (arith, g .after) in
+    rw (le-leb lineRoom (length d) h) (r-is, g .grown)
+
+pub put-not : (line d : List ℕ) → length d < lineRoom → (0 ≡ putCount line (length d)) × (d ≡ putOut line d)
+unfolding putCount putOut
+put-not line d h = rw (lt-leb lineRoom (length d) h) (refl, refl)
+
+-- what is put lies within the output
+pub put-within : (line : List ℕ) (places : ℕ) → length line ≤ lineRoom → putCount line places ≤ places
+unfolding putCount
+put-within line places few = by-leb
+  where
+    by-leb : pick (leb lineRoom places) (length line) 0 ≤ places
+    by-leb = pick-leb (λ (n : ℕ). n ≤ places) lineRoom places (length line) 0 (λ h. omega arith) (λ h. omega arith)
+
+-- and so does what is put after `at` places of it
+pub put-after : (line d : List ℕ) (at r : ℕ) → length line ≤ lineRoom → at ≤ length d → r ≡ putCount line (length (take (length d - at) (drop at d))) → at + r ≤ length d
+put-after line d at r few h e =
+    let part : List ℕ = take (length d - at) (drop at d) in
+    omega (arith, put-within line (length part) few, ap length (rest d at), length-drop at d)

@@ -1,0 +1,2 @@
+pub mod BodyLaws
+pub mod Theorems

@@ -1,0 +1,63 @@
+-- Laws of answers.
+-- Assumes nothing.
+use Prim.Native.Nat.{ℕ, zero, suc, _+_, _-_, _≤_, _<_}
+use mathlib.Core.Path.{_≡_, refl, sym, ap, _∙_}
+use mathlib.Core.List.{List}
+use native.Mathlib.Nat.{not-suc-le-zero}
+use native.Mathlib.Omega.{arith}
+use borrow.Author.Tests.{le-leb, lt-leb}
+use lib.ListN.{length, drop}
+use Rattle.wire.specs.Answer.{Answer, given, refusal, numberIn, filled, answerBy, unpacked, writeMeaning, limited}
+use Rattle.wire.specs.Refusal.{tooLong, noRoom, pastAll}
+use Rattle.wire.specs.declared.WriteAnswer.{WriteAnswer}
+use Rattle.wire.specs.declared.WriteAnswer.the-variants.{Bytes, Refused}
+use Rattle.wire.proofs.ChoiceLaws.{pick-leb}
+use Rattle.wire.proofs.StoreLaws.{drop-laid-past, length-laid}
+
+-- ---- by a verdict
+
+pub answer-refused : {X : Type 0} (n : ℕ) (good : X) (refused : ℕ → X) → 0 < n → answerBy n good refused ≡ refused n
+answer-refused zero good refused h = absurd (not-suc-le-zero h)
+answer-refused (suc n) good refused h = refl
+
+-- ---- by one number
+
+module _ {X : Type 0} (counted refused : ℕ → X) where
+  pub unpacked-count : (v : ℕ) → pastAll ≤ v → unpacked counted refused v ≡ counted (v - pastAll)
+  unfolding unpacked
+  unpacked-count v h = rw (le-leb pastAll v h)
+
+  pub unpacked-refused : (v : ℕ) → v < pastAll → unpacked counted refused v ≡ refused v
+  unfolding unpacked
+  unpacked-refused v h = rw (lt-leb pastAll v h)
+
+-- ---- what lies past the counted places is as it was
+
+pub filled-past : (a : Answer) (values store : List ℕ) (n : ℕ) → length values ≤ n → length values ≤ length store → drop n (filled a values store) ≡ drop n store
+filled-past (given fields) values store n le room = drop-laid-past store 0 values n (omega arith) (omega arith)
+filled-past (refusal m) values store n le room = refl
+
+-- ---- the answer of a writer
+
+module _ (limit size places : ℕ) where
+  pub limited-long : limit < size → limited limit size places ≡ Refused tooLong
+  unfolding limited
+  limited-long h = rw (lt-leb size limit h)
+
+  pub limited-full : size ≤ limit → places < size → limited limit size places ≡ Refused noRoom
+  unfolding limited
+  limited-full h k = rw (le-leb size limit h, lt-leb size places k)
+
+  pub limited-fits : size ≤ limit → size ≤ places → limited limit size places ≡ Bytes size
+  unfolding limited
+  limited-fits h k = rw (le-leb size limit h, le-leb size places k)
+
+  -- and back
+  pub limited-bytes : (n : ℕ) → limited limit size places ≡ Bytes n → (size ≤ limit) × (size ≤ places) × (size ≡ n)
+  unfolding limited
+  limited-bytes n =
+      pick-leb (λ (a : WriteAnswer). a ≡ Bytes n → (size ≤ limit) × (size ≤ places) × (size ≡ n)) size limit _ _
+      (λ h. pick-leb (λ (a : WriteAnswer). a ≡ Bytes n → (size ≤ limit) × (size ≤ places) × (size ≡ n)) size places _ _
+      (λ k e. (h, k, cc))
+      (λ _ e. let z : _≡_ {A = ℕ} 0 1 = cc in absurd (omega arith)))
+      (λ _ e. let z : _≡_ {A = ℕ} 0 1 = cc in absurd (omega arith))

@@ -1,0 +1,130 @@
+-- What holds of any step that decides an idea of a well-formed item: bytes are read to their end exactly if they can be cut, there is one
+-- cutting, and what is read are its items. And of values that stand for items: what is written is read again, and the other way.
+-- Assumes nothing.
+use Prim.Native.Nat.{ℕ, _+_, _≤_, _<_}
+use mathlib.Core.Path.{_≡_, refl, sym, ap, ap₂, subst, _∙_}
+use mathlib.Core.List.{List, [], _∷_, _++_, map}
+use native.Mathlib.Omega.{arith}
+use lib.ListN.{length, take, drop, length-append, take-append-drop}
+use lib.Seq.{take-append-seam, drop-append-seam}
+use Rattle.wire.specs.Number.{Bytes}
+use Rattle.wire.specs.Walk.{Step, took, Reading, more, readAll, pieces, flat}
+use Rattle.wire.specs.Cutting.{Each, none, one, joined, Cutting}
+use Rattle.wire.proofs.NumberLaws.{bytes-take, bytes-drop}
+use Rattle.wire.proofs.WalkLaws.{Sound, all-nil, all-took, all-ind, pieces-nil, pieces-took}
+
+-- ---- reading
+
+-- a well-formed item at the front is taken whole and for its value, whatever follows it; and what is taken is well formed
+pub record Decides {S A : Type 0} (step : S → List ℕ → Step S A) (Formed : List ℕ → Type 0) (value : List ℕ → A) : Type 0 where
+  pub sound : Sound step
+  pub taken : (st : S) (item rest : List ℕ) → Formed item → (st′ : S) × (step st (item ++ rest) ≡ took (length item) (value item) st′)
+  pub formed : (st st′ : S) (s : List ℕ) (used : ℕ) (a : A) → step st s ≡ took used a st′ → Formed (take used s)
+
+module _ {S A : Type 0} (step : S → List ℕ → Step S A) (Formed : List ℕ → Type 0) (value : List ℕ → A) (decides : Decides step Formed value) where
+  -- a well-formed item has a byte
+  pub item-long : (st : S) (item : List ℕ) → Formed item → 0 < length item
+  item-long st item f = let t = decides .taken st item [] f in decides .sound .takes st (t .0) (item ++ []) (length item) (value item) (t .1) .0
+
+  -- the reading and the pieces of items laid end to end
+  pub items-read : (st : S) (items : List (List ℕ)) → Each Formed items → readAll step st (joined items) ≡ record { rows = map value items; verdict = 0 }
+  unfolding joined
+  items-read st [] none = all-nil step st
+  items-read st (item ∷ items) (one f fs) =
+      let long = item-long st item f in
+      let t = decides .taken st item (joined items) f in
+      all-took step st (t .0) (item ++ joined items) (length item) (value item) (omega (arith, length-append item (joined items))) long (t .1)
+      ∙ ap (λ (l : List ℕ). more (value item) (readAll step (t .0) l)) (drop-append-seam item (joined items))
+      ∙ ap (more (value item)) (items-read (t .0) items fs)
+
+  pub items-pieces : (st : S) (items : List (List ℕ)) → Each Formed items → pieces step st (joined items) ≡ items
+  unfolding joined
+  items-pieces st [] none = pieces-nil step st
+  items-pieces st (item ∷ items) (one f fs) =
+      let long = item-long st item f in
+      let t = decides .taken st item (joined items) f in
+      pieces-took step st (t .0) (item ++ joined items) (length item) (value item) (omega (arith, length-append item (joined items))) long (t .1)
+      ∙ ap₂ _∷_ (take-append-seam item (joined items))
+      (ap (pieces step (t .0)) (drop-append-seam item (joined items)) ∙ items-pieces (t .0) items fs)
+
+  module _ (st : S) (s : List ℕ) where
+    -- bytes that can be cut are read to their end, and what is read are the values of the items
+    pub cut-read : (items : List (List ℕ)) → Cutting Formed s items → readAll step st s ≡ record { rows = map value items; verdict = 0 }
+    cut-read items c = ap (readAll step st) (sym (c .whole)) ∙ items-read st items (c .each)
+
+    -- the pieces that are read are the items
+    pub cut-pieces : (items : List (List ℕ)) → Cutting Formed s items → pieces step st s ≡ items
+    cut-pieces items c = ap (pieces step st) (sym (c .whole)) ∙ items-pieces st items (c .each)
+
+    -- two cuttings of the same bytes are equal
+    pub one-cutting : (items items′ : List (List ℕ)) → Cutting Formed s items → Cutting Formed s items′ → items ≡ items′
+    one-cutting items items′ c c′ = sym (cut-pieces items c) ∙ cut-pieces items′ c′
+
+    -- bytes that are read to their end can be cut
+    pub read-cut : readAll step st s .verdict ≡ 0 → (items : List (List ℕ)) × Cutting Formed s items
+    unfolding joined
+    read-cut =
+        all-ind step (decides .sound) (λ _ t r. r .verdict ≡ 0 → (items : List (List ℕ)) × Cutting Formed t items)
+        (λ _ _. ([], record { each = none; whole = refl }))
+        (λ st₁ t n pos e v. absurd (let lt : 0 < n = decides .sound .names st₁ t n e in omega arith))
+        (λ st₁ st₂ t used a pos e again v.
+        let rest = again v in (
+          take used t ∷ rest .0,
+          record {
+            each = one (decides .formed st₁ st₂ t used a e) (rest .1 .each);
+            whole = ap (λ (l : List ℕ). take used t ++ l) (rest .1 .whole) ∙ take-append-drop used t;
+          },
+        ))
+        st s
+
+-- ---- writing
+
+-- what holds of each follows from what holds of each
+pub each-map : {A : Type 0} {P Q : A → Type 0} (f : (a : A) → P a → Q a) (l : List A) → Each P l → Each Q l
+each-map f [] none = none
+each-map f (a ∷ l) (one p ps) = one (f a p) (each-map f l ps)
+
+-- the places of values, one after another, are their items laid end to end
+pub flat-joined : {A : Type 0} (emit : A → List ℕ) (rows : List A) → flat emit rows ≡ joined (map emit rows)
+unfolding flat joined
+flat-joined emit [] = refl
+flat-joined emit (a ∷ rows) = ap (λ (l : List ℕ). emit a ++ l) (flat-joined emit rows)
+
+-- items and values stand for each other: an item of bytes is what its value is written as, and a value is what its bytes are read as
+pub record Stands {A : Type 0} (Formed : List ℕ → Type 0) (value : List ℕ → A) (Good : A → Type 0) (emit : A → List ℕ) : Type 0 where
+  pub written : (item : List ℕ) → Formed item → Bytes item → Good (value item) × (emit (value item) ≡ item)
+  pub read : (a : A) → Good a → Formed (emit a) × (value (emit a) ≡ a)
+
+module _ {A : Type 0} (Formed : List ℕ → Type 0) (value : List ℕ → A) (Good : A → Type 0) (emit : A → List ℕ) (stands : Stands Formed value Good emit) where
+  -- the values of items are written as the items
+  pub items-written : (items : List (List ℕ)) → Each Formed items → Bytes (joined items)
+      → Each Good (map value items) × (map emit (map value items) ≡ items) × (flat emit (map value items) ≡ joined items)
+  unfolding flat joined
+  items-written [] none b = (none, refl, refl)
+  items-written (item ∷ items) (one f fs) b =
+      let here : Bytes item = rw take-append-seam at (bytes-take (length item) (item ++ joined items) b) in
+      let after : Bytes (joined items) = rw drop-append-seam at (bytes-drop (length item) (item ++ joined items) b) in
+      let h = stands .written item f here in
+      let t = items-written items fs after in
+      (one (h .0) (t .0), ap₂ _∷_ (h .1) (t .1), ap₂ _++_ (h .1) (t .2))
+
+  -- what values are written as can be cut, and is read as the values
+  pub rows-cut : (rows : List A) → Each Good rows → Cutting Formed (flat emit rows) (map emit rows) × (map value (map emit rows) ≡ rows)
+  rows-cut rows h = let t = go rows h in (record { each = t .0; whole = sym (flat-joined emit rows) }, t .1)
+    where
+      go : (l : List A) → Each Good l → Each Formed (map emit l) × (map value (map emit l) ≡ l)
+      go [] none = (none, refl)
+      go (a ∷ l) (one g gs) =
+          let r = stands .read a g in
+          let t = go l gs in
+          (one (r .0) (t .0), ap₂ _∷_ (r .1) (t .1))
+
+  -- so values whose bytes are the same are equal
+  pub same-rows : {S : Type 0} (step : S → List ℕ → Step S A) → Decides step Formed value → S → (rows rows′ : List A) → Each Good rows → Each Good rows′
+      → flat emit rows ≡ flat emit rows′ → rows ≡ rows′
+  same-rows step decides st rows rows′ h h′ e =
+      let p = rows-cut rows h in
+      let q = rows-cut rows′ h′ in
+      let r = cut-read step Formed value decides st (flat emit rows) (map emit rows) (p .0) in
+      let r′ = cut-read step Formed value decides st (flat emit rows′) (map emit rows′) (q .0) in
+      sym (p .1) ∙ ap (λ (x : Reading A). x .rows) (sym r ∙ ap (readAll step st) e ∙ r′) ∙ q .1

@@ -1,0 +1,9 @@
+pub mod ChoiceLaws
+pub mod NumberLaws
+pub mod WalkLaws
+pub mod Parts
+pub mod StoreLaws
+pub mod ExtentLaws
+pub mod AnswerLaws
+pub mod Turn
+pub mod CuttingLaws
