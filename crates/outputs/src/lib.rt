@@ -1,7 +1,6 @@
 // Numbers put at a place of an output: nothing changes where there is no room.
 ghost use mathlib.Core.Path.{_≡_};
-ghost use Prim.Native.Nat.{_≤_};
-ghost use lib.ListN.{length, take};
+ghost use lib.ListN.{take};
 ghost use Rattle.wire.specs.Number.{toBe};
 ghost use Rattle.wire.specs.Store.{placed};
 
@@ -19,11 +18,13 @@ pub fn put_u16(out: &mut [u8], to: usize, v: u16)
     out[to + 1] = (v % 256) as u8;
 }
 
-// The four bytes of a number, at a place of the output that is there.
-fn put4(out: &mut [u8], to: usize, v: u32)
-    requires { ⌜ to ≤ length (now out) ⌝ }
+// The four bytes of a number, at a place of the output. Lent a part of four bytes, both tests are known when it is compiled.
+pub fn put_u32(out: &mut [u8], to: usize, v: u32)
     ensures { λ _. ⌜ now (out .exit) ≡ placed (now (out .entry)) to (toBe 4 v) ⌝ }
 {
+    if out.len() < to {
+        return;
+    }
     if out.len() - to < 4 {
         return;
     }
@@ -44,7 +45,7 @@ pub fn put_octets(out: &mut [u8], to: usize, v: u32, m: usize)
         return;
     }
     if 4 <= m {
-        put4(out, to, v);
+        put_u32(out, to, v);
         return;
     }
     if out.len() - to < m {

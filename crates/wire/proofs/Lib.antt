@@ -7,3 +7,4 @@ pub mod ExtentLaws
 pub mod AnswerLaws
 pub mod Turn
 pub mod CuttingLaws
+pub mod Tight

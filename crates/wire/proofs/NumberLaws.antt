@@ -1,6 +1,6 @@
 -- Laws of numbers as bytes, each once over the size.
 -- Assumes nothing.
-use Prim.Native.Nat.{ℕ, zero, suc, _+_, _*_, _^_, _/_, _%_, _≤_, _<_}
+use Prim.Native.Nat.{ℕ, zero, suc, _+_, _-_, _*_, _^_, _/_, _%_, _≤_, _<_}
 use mathlib.Core.Path.{_≡_, refl, sym, ap, ap₂, _∙_}
 use mathlib.Core.List.{List, [], _∷_, _++_}
 use native.Mathlib.Nat.{div-add-mod', mod-lt, add-zero, add-suc, div-lt-iff-lt-mul, one-le-pow, pow-succ', not-suc-le-zero, mul-assoc, zero-mul, add-mul, add-assoc}
@@ -185,6 +185,13 @@ four-at s at {c = c} {d = d} e f g h k =
     ∙ ap₂ (λ (a b : ℕ). be (a ∷ b ∷ c ∷ d ∷ [])) f g
     ∙ ap₂ (λ (c d : ℕ). be (getD s at 0 ∷ getD s (at + 1) 0 ∷ c ∷ d ∷ [])) h k
     ∙ sym (ap be (padded-cells s at 4))
+
+-- the number of the bytes between two places, from the part that holds them
+pub be-between : (s : List ℕ) (at end n : ℕ) → at + n ≡ end → beAt (take (end - at) (drop at s)) 0 n ≡ beAt s at n
+unfolding beAt
+be-between s at end n e =
+    let m : n ≤ end - at = omega arith in
+    ap be (padded-of-more n (end - at) (drop at s) m)
 
 -- ---- a number with its last bytes cleared
 

@@ -144,6 +144,21 @@ laid-part d at vs h =
     ap₂ (λ (m e : List ℕ). take at d ++ (laid m 0 vs ++ e)) same none
     ∙ ap (λ (l : List ℕ). take at d ++ l) (append-nil (vs ++ drop (0 + length vs) t) ∙ ap (λ (l : List ℕ). vs ++ l) past)
 
+-- values that fill the part between two places, put back between what stands before and after
+pub laid-between : (d : List ℕ) (at end : ℕ) (vs : List ℕ) → at + length vs ≡ end → end ≤ length d
+    → take at d ++ (placed (take (end - at) (drop at d)) 0 vs ++ drop (end - at) (drop at d)) ≡ laid d at vs
+laid-between d at end vs e h =
+    let n : ℕ = end - at in
+    let part : List ℕ = take n (drop at d) in
+    let size : length part ≡ n = length-take-le n (drop at d) (omega (arith, length-drop at d)) in
+    let all : 0 + length vs ≡ n = omega arith in
+    let small : length part ≤ n = omega arith in
+    let none : drop n part ≡ [] = drop-of-length-le part small in
+    let place : at + n ≡ at + length vs = omega arith in
+    let filled : placed part 0 vs ≡ vs =
+    placed-fits part 0 vs (omega arith) ∙ ap (λ (l : List ℕ). vs ++ l) (ap (λ (k : ℕ). drop k part) all ∙ none) ∙ append-nil vs in
+    ap₂ (λ (l r : List ℕ). take at d ++ (l ++ r)) filled (drop-drop n at d ∙ ap (λ (k : ℕ). drop k d) place)
+
 -- no values leave the list as it was
 pub laid-nil : (d : List ℕ) (at : ℕ) → laid d at [] ≡ d
 laid-nil d at = ap (λ (k : ℕ). take at d ++ drop k d) (add-zero at) ∙ take-append-drop at d

@@ -20,8 +20,8 @@ returns c =
 returns-2 : tie.Need-returns-2
 returns-2 c = let a = c .before .before .before .args in sym (placed-not (a .out .now) (a .to) (take (a .m) (toBe 4 (a .v))) (omega arith))
 
-put4-requires : tie.Need-put4-requires
-put4-requires c κs = search needs
+put-u32-requires : tie.Need-put-u32-requires
+put-u32-requires c κs = search needs
 
 same-length : tie.Need-same-length
 same-length c = search needs
@@ -29,7 +29,7 @@ same-length c = search needs
 returns-3 : tie.Need-returns-3
 returns-3 c =
     let a = c .before .before .before .before .before .before .before .before .args in
-    c .before .before .put4 .ensures ∙ ap (placed (a .out .now) (a .to)) (sym (take-all (a .m) (toBe 4 (a .v)) (omega arith)))
+    c .before .before .put-u32 .ensures ∙ ap (placed (a .out .now) (a .to)) (sym (take-all (a .m) (toBe 4 (a .v)) (omega arith)))
 
 sub-if4 : tie.Need-sub-if4
 sub-if4 c = search needs
@@ -100,7 +100,7 @@ put-octets-spec =
     (tie.spec
     returns
     returns-2
-    put4-requires
+    put-u32-requires
     same-length
     returns-3
     sub-if4

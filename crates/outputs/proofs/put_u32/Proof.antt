@@ -7,14 +7,17 @@ use Rattle.wire.proofs.StoreLaws.{placed-not, puts-placed}
 use native.Mathlib.Omega.{arith}
 use lib.ListN.{length-set}
 use borrow.Author.Needs.{needs}
-use Rattle.outputs.proofs.put4.Statement.{statement}
-use Rattle.outputs.proofs.put4.Tie as tie
-
-sub-if1 : tie.Need-sub-if1
-sub-if1 c = search needs
+use Rattle.outputs.proofs.put_u32.Statement.{statement}
+use Rattle.outputs.proofs.put_u32.Tie as tie
 
 returns : tie.Need-returns
 returns c = let a = c .before .args in sym (placed-not (a .out .now) (a .to) (toBe 4 (a .v)) (omega arith))
+
+sub-if2 : tie.Need-sub-if2
+sub-if2 c = search needs
+
+returns-2 : tie.Need-returns-2
+returns-2 c = let a = c .before .before .args in sym (placed-not (a .out .now) (a .to) (toBe 4 (a .v)) (omega arith))
 
 cast-out : tie.Need-cast-out
 cast-out c = search needs
@@ -52,18 +55,19 @@ slice-write-out-4 c = simp length-set (omega arith)
 same-length : tie.Need-same-length
 same-length c = search needs
 
-returns-2 : tie.Need-returns-2
-returns-2 c =
-    let a = c .before .args in
+returns-3 : tie.Need-returns-3
+returns-3 c =
+    let a = c .before .before .args in
     let v = a .v in
     puts-placed (a .out .now) (a .to) (v / 16777216 ∷ v / 65536 % 256 ∷ v / 256 % 256 ∷ v % 256 ∷ []) (toBe 4 v) (omega arith) (sym (toBe-four v))
 
-pub put4-spec : {M : Type 1} → statement M
-put4-spec =
+pub put-u32-spec : {M : Type 1} → statement M
+put-u32-spec =
     tie.close
     (tie.spec
-    sub-if1
     returns
+    sub-if2
+    returns-2
     cast-out
     slice-write-out
     cast-out-2
@@ -76,4 +80,4 @@ put4-spec =
     add-out-3
     slice-write-out-4
     same-length
-    returns-2)
+    returns-3)

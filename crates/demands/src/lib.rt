@@ -1,0 +1,1 @@
+// What the calls promise, as theorems of the calls themselves: see specs/.
