@@ -1,4 +1,4 @@
-// Bytes copied to a place of an output: nothing changes where there is no room. Two outputs that the promise allows are equal: `tight-put` of outputs.
+// Bytes copied to a place of an output: nothing changes where there is no room.
 ghost use mathlib.Core.Path.{_≡_};
 ghost use Prim.Native.Nat.{_+_, _≤_};
 ghost use lib.ListN.{length, take, drop};
