@@ -1,3 +1,4 @@
 pub mod PrefixLaws
 pub mod ListLaws
+pub mod CuttingLaws
 pub mod Seat
