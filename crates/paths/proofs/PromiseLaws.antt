@@ -89,18 +89,18 @@ stores-path (Refused k) m n p q = λ e. let z : _≡_ {A = ℕ} 0 1 = cc in absu
 
 module _ (s : List ℕ) (r : Reading Segment) (m n p q : ℕ) where
   pub read-path : readAnswer s r p q ≡ Path m n
-      → (length s ≤ listLimit) × (r .verdict ≡ 0) × (length (r .rows) ≡ m) × (length (flat asnsOf (r .rows)) ≡ n) × (2 * m ≤ p) × (n ≤ q)
+      → (length s ≤ listLimit) × (r .verdict ≡ 0) × (length (r .rows) ≡ m) × (length (flat asnsOf (r .rows)) ≡ n) × (m ≤ p / 2) × (n ≤ q)
   unfolding readAnswer
   read-path e =
       let a = stores-path (countAnswer s r) m n p q e in
       let b = count-path s r m n (a .0) in
-      (b .0, b .1, b .2, b .3, omega (arith, a .1), a .2)
+      (b .0, b .1, b .2, b .3, a .1, a .2)
 
-  pub path-read : length s ≤ listLimit → r .verdict ≡ 0 → length (r .rows) ≡ m → length (flat asnsOf (r .rows)) ≡ n → 2 * m ≤ p → n ≤ q → readAnswer s r p q ≡ Path m n
+  pub path-read : length s ≤ listLimit → r .verdict ≡ 0 → length (r .rows) ≡ m → length (flat asnsOf (r .rows)) ≡ n → m ≤ p / 2 → n ≤ q → readAnswer s r p q ≡ Path m n
   unfolding readAnswer
   path-read short v a b h k =
       let c : countAnswer s r ≡ Path m n = sym (count-good s r m n short v (tally-one (r .rows) ∙ a) (tally-flat asnsOf (r .rows) ∙ b)) in
-      ap (λ (y : PathAnswer). inStores y p q) c ∙ room m n p q (omega arith) k
+      ap (λ (y : PathAnswer). inStores y p q) c ∙ room m n p q h k
 
 -- the stores of an accepted reading
 pub path-stores : (s : List ℕ) (r : Reading Segment) (pairs numbers : List ℕ) (m n : ℕ) → readAnswer s r (length pairs) (length numbers) ≡ Path m n
