@@ -1,2 +1,3 @@
 pub mod Routes
 pub mod Starred
+pub mod Paths
