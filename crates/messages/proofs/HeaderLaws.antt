@@ -16,7 +16,8 @@ use Rattle.wire.specs.Extent.{PartOf}
 use Rattle.wire.specs.Number.{be, padded, Bytes}
 use Rattle.wire.proofs.NumberLaws.{padded-cells, padded-add, padded-take}
 use Rattle.wire.specs.Refusal.{truncated, messageLength, messageType, shortBody, badMarker}
-use Rattle.messages.specs.Header.{openKind, updateKind, notificationKind, keepaliveKind, routeRefreshKind, messageLimit, extendedLimit, markerSize, allFF, isOutside, isUnknown, headerSize, crateLimit, leastLength, mostLength, messageOf, strictWithin, markerOf, claimedOf, kindOf, takenOf, accepted, whole, bodyAt, Fits}
+use Rattle.messages.specs.Header.{openKind, updateKind, notificationKind, keepaliveKind, routeRefreshKind, messageLimit, extendedLimit, markerSize, allFF, isOutside, isUnknown, headerSize, crateLimit, leastLength, mostLength, messageOf, strictWithin, markerOf, claimedOf, kindOf, takenOf, accepted, acceptedWhole, bodyAt}
+use Rattle.messages.specs.Private.{Fits}
 use Rattle.messages.specs.declared.MessageAnswer.{MessageAnswer}
 use Rattle.messages.specs.declared.MessageAnswer.the-variants.{Refused}
 
@@ -174,7 +175,7 @@ module _ {ℓ} (s : List ℕ) (P : MessageAnswer → Type ℓ) (bad : (n : ℕ) 
         short = ltb-false (crateLimit (kindOf s)) (claimedOf s) short;
       }))))))
 
-  pub strict-cases : (limit : ℕ) → (Whole limit s → P (whole s)) → P (strictWithin limit s)
+  pub strict-cases : (limit : ℕ) → (Whole limit s → P (acceptedWhole s)) → P (strictWithin limit s)
   unfolding strictWithin
   strict-cases limit good =
       pick-unless P (ltb (length s) headerSize) (Refused truncated) _ (bad truncated) (λ long.
@@ -201,7 +202,7 @@ accepted-by s h =
     let body : takenOf s - headerSize ≤ length s - headerSize = omega (arith, min-le-right (claimedOf s) (length s)) in
     simp (le-ltb (length s) headerSize (h .long), le-ltb (claimedOf s) headerSize (h .claims), h .known, le-ltb (crateLimit (kindOf s)) (claimedOf s) (h .short), le-ltb (length s - headerSize) (takenOf s - headerSize) body)
 
-pub whole-by : (limit : ℕ) (s : List ℕ) → Whole limit s → strictWithin limit s ≡ whole s
+pub whole-by : (limit : ℕ) (s : List ℕ) → Whole limit s → strictWithin limit s ≡ acceptedWhole s
 unfolding strictWithin
 whole-by limit s h =
     simp (
