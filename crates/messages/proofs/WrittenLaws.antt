@@ -122,12 +122,32 @@ written-fit kind body places n =
       size = cc;
     })))
 
+-- the answer from what the tests before it found
+module _ (kind : ℕ) (body : List ℕ) (places : ℕ) where
+  pub write-unknown : isUnknown kind ≡ true → writeMessage kind body places ≡ Refused messageType
+  unfolding writeMessage
+  write-unknown unknown = rw unknown
+
+  module _ (known : isUnknown kind ≡ false) where
+    pub write-misfit : isOutside (leastLength kind) (mostLength kind) (totalOf body) ≡ true → writeMessage kind body places ≡ Refused messageLength
+    unfolding writeMessage
+    write-misfit misfit = rw (known, misfit)
+
+    module _ (own : isOutside (leastLength kind) (mostLength kind) (totalOf body) ≡ false) where
+      pub write-full : places < totalOf body → writeMessage kind body places ≡ Refused noRoom
+      unfolding writeMessage
+      write-full full = rw (known, own, lt-ltb places (totalOf body) full)
+
+      pub write-fits : totalOf body ≤ places → writeMessage kind body places ≡ Bytes (totalOf body)
+      unfolding writeMessage
+      write-fits room = rw (known, own, le-ltb places (totalOf body) room)
+
 -- and a message of a known type, whose length its type allows, is written where there is room
 pub fit-written : (kind : ℕ) (body : List ℕ) (places : ℕ) → openKind ≤ kind → kind ≤ routeRefreshKind → leastLength kind ≤ totalOf body → totalOf body ≤ mostLength kind
     → totalOf body ≤ places → writeMessage kind body places ≡ Bytes (totalOf body)
-unfolding writeMessage isUnknown
+unfolding isUnknown
 fit-written kind body places lo hi least most room =
-    simp (inside openKind routeRefreshKind kind lo hi, inside (leastLength kind) (mostLength kind) (totalOf body) least most, le-ltb places (totalOf body) room)
+    write-fits kind body places (inside openKind routeRefreshKind kind lo hi) (inside (leastLength kind) (mostLength kind) (totalOf body) least most) room
 
 -- the front of the output is then the message
 pub message-front : (kind : ℕ) (body out : List ℕ) (n : ℕ) → writeMessage kind body (length out) ≡ Bytes n → take n (messageAfter kind body out) ≡ messageBytes kind body
