@@ -1,2 +1,5 @@
 pub mod Starred
 pub mod Paths
+pub mod Cut
+pub mod Updates
+pub mod Written
