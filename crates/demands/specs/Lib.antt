@@ -1,3 +1,6 @@
 pub mod Routes
 pub mod Starred
 pub mod Paths
+pub mod Cut
+pub mod Updates
+pub mod Written

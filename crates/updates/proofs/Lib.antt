@@ -1,2 +1,4 @@
 pub mod BodyLaws
-pub mod Theorems
+pub mod UpdateLaws
+pub mod Sections
+pub mod Tight
