@@ -1,4 +1,4 @@
--- What the definitions say, apart from the code: a record is found again, however the input is cut into blocks.
+-- A record is found again, however the input is cut into blocks.
 -- Assumes nothing.
 use Prim.Native.Nat.{ℕ, _+_, _≤_, _<_}
 use mathlib.Core.Path.{_≡_, refl, sym, ap, ap₂, _∙_}
@@ -11,9 +11,10 @@ use lib.Seq.{take-at, drop-at}
 use lib.Dec.{leb, ltb, eqb}
 use Rattle.wire.specs.Choice.{pick}
 use Rattle.wire.proofs.ChoiceLaws.{pick-any, pick-leb}
-use Rattle.wire.specs.Number.{be, beAt, toBe}
+use Rattle.wire.specs.Number.{be, beAt}
 use Rattle.wire.proofs.NumberLaws.{be-toBe, padded-cells}
-use Rattle.slots.specs.Slot.{markFirst, markSecond, recordSize, settingsLimit, found, differs, overSettings, modeOf, keptOf, slotOf}
+use Rattle.families.specs.Family.{modeOf}
+use Rattle.slots.specs.Slot.{markFirst, markSecond, recordSize, settingsLimit, found, differs, overSettings, keptOf, slotOf, Decided, recordOf}
 use Rattle.slots.specs.declared.SlotAnswer.{SlotAnswer}
 use Rattle.slots.specs.declared.SlotAnswer.the-variants.{Slot, More, Stop, End}
 
@@ -49,12 +50,6 @@ kept-before s t h =
     ∙ ap₂ (λ (a b : ℕ). a ∷ b ∷ []) (List·getD-append s t 0 2 (omega arith)) (List·getD-append s t 0 3 (omega arith))
     ∙ sym (padded-cells s 2 2))
 
-abbrev pub Decided : SlotAnswer → Type 0
-Decided (Slot kept mode) = 0 ≤ 0
-Decided More = ⊥
-Decided Stop = 0 ≤ 0
-Decided End = ⊥
-
 -- what the bytes in hand decide stays so, whatever follows and whenever the input ends
 pub decided : (s t : List ℕ) (last : Bool) → Decided (slotOf s false) → slotOf (s ++ t) last ≡ slotOf s false
 unfolding slotOf
@@ -89,10 +84,6 @@ decided s t last =
 
 -- ---- a record
 
--- the bytes of a record
-unfoldable pub recordOf : ℕ → List ℕ → List ℕ
-recordOf settings kept = markFirst ∷ markSecond ∷ (toBe 2 (length kept) ++ (settings ∷ kept))
-
 module _ (settings : ℕ) (kept : List ℕ) (s : settings ≤ settingsLimit) (k : length kept ≤ 65535) where
   long : length (recordOf settings kept) ≡ recordSize + length kept
   unfolding recordOf
@@ -121,7 +112,7 @@ module _ (settings : ℕ) (kept : List ℕ) (s : settings ≤ settingsLimit) (k 
 
   -- is found at the front of any input, with its kept bytes, and what follows it is the rest
   pub record-read : (rest : List ℕ) (last : Bool) → slotOf (recordOf settings kept ++ rest) last ≡ Slot (length kept) (modeOf settings)
-  record-read rest last = decided (recordOf settings kept) rest last (rw alone (omega arith)) ∙ alone
+  record-read rest last = decided (recordOf settings kept) rest last (rw alone tt) ∙ alone
 
   pub record-kept : (rest : List ℕ) → take (length kept) (drop recordSize (recordOf settings kept ++ rest)) ≡ kept
   unfolding recordOf
