@@ -4,7 +4,7 @@ use Prim.Native.Nat.{ℕ, _/_, _%_, _≤_}
 use mathlib.Core.Path.{_≡_, sym, ap, _∙_}
 use mathlib.Core.List.{[], _∷_}
 use native.Mathlib.Omega.{arith}
-use Rattle.wire.specs.Answer.{given, refusal}
+use Rattle.wire.specs.Answer.{Answer, given, refusal}
 use Rattle.wire.specs.Refusal.{listLimit}
 use Rattle.words.specs.Word.{Fields, fields, inFields, fieldSize, wordOf, Narrow}
 
@@ -37,6 +37,9 @@ one-word f g h k e =
 -- the word of an answer is the word of what the answer equals
 pub told : {A : Type 0} (f : A → Fields) {r : ℕ} {a b : A} → r ≡ wordOf (f a) → a ≡ b → r ≡ wordOf (f b)
 told f e h = e ∙ ap (λ x. wordOf (f x)) h
+
+pub told-in : {A : Type 0} (meaning : A → Answer) {r : ℕ} {a b : A} → r ≡ wordOf (inFields (meaning a)) → a ≡ b → r ≡ wordOf (inFields (meaning b))
+told-in meaning e h = told (λ x. inFields (meaning x)) e h
 
 -- ---- what is narrow
 

@@ -1,0 +1,83 @@
+-- The fields of the answers whose fields are not their values in order. The others go by `inFields` of words: a list has its rows, an
+-- AS_PATH its segments and numbers, a writer its bytes.
+use Prim.Native.Nat.{ℕ, _+_, _*_}
+use mathlib.Core.List.{List, [], _∷_}
+use lib.Dec.{ltb}
+use Rattle.wire.specs.Answer.{Answer, given, refusal, numberIn, valueIn}
+use Rattle.wire.specs.Choice.{pick}
+use Rattle.wire.specs.Extent.{Extent}
+use Rattle.wire.specs.Refusal.{noRoom}
+use Rattle.routes.specs.Promises.{rowsIn, verdictIn}
+use Rattle.asns.specs.declared.AggregatorAnswer.{AggregatorAnswer}
+use Rattle.asns.specs.declared.AggregatorAnswer.the-variants as G
+use Rattle.paths.specs.declared.PathAnswer.{PathAnswer}
+use Rattle.paths.specs.declared.PathAnswer.the-variants as P
+use Rattle.messages.specs.declared.MessageAnswer.{MessageAnswer}
+use Rattle.messages.specs.declared.MessageAnswer.the-variants as M
+use Rattle.updates.specs.declared.PartsAnswer.{PartsAnswer}
+use Rattle.updates.specs.declared.PartsAnswer.the-variants as S
+use Rattle.updates.specs.declared.UpdateAnswer.{UpdateAnswer}
+use Rattle.updates.specs.declared.UpdateAnswer.the-variants as U
+use Rattle.words.specs.Word.{Fields, fields, bit}
+
+-- ---- each answer as document 01 has it
+
+-- a message: its type, what it claims, what is taken of it, and its three flags
+abbrev pub messageMeaning : MessageAnswer → Answer
+messageMeaning (M.Message kind claimed taken marker cut trailing) = given (kind ∷ claimed ∷ taken ∷ bit marker ∷ bit cut ∷ bit trailing ∷ [])
+messageMeaning (M.Refused n) = refusal n
+
+-- the sections of an UPDATE body: their lengths
+abbrev pub partsMeaning : PartsAnswer → Answer
+partsMeaning (S.Parts w a n) = given (w ∷ a ∷ n ∷ [])
+partsMeaning (S.Refused m) = refusal m
+
+-- an UPDATE: rows and verdict of each section
+abbrev pub updateMeaning : UpdateAnswer → Answer
+updateMeaning (U.Update withdrawn announced) = given (rowsIn withdrawn ∷ verdictIn withdrawn ∷ rowsIn announced ∷ verdictIn announced ∷ [])
+updateMeaning (U.Refused n) = refusal n
+
+-- an AS_PATH: its segments and their numbers
+abbrev pub pathMeaning : PathAnswer → Answer
+pathMeaning (P.Path segments numbers) = given (segments ∷ numbers ∷ [])
+pathMeaning (P.Refused n) = refusal n
+
+-- an AGGREGATOR: its AS number, its identifier, and whether its width differs
+abbrev pub aggregatorMeaning : AggregatorAnswer → Answer
+aggregatorMeaning (G.Aggregator asn identifier differs) = given (asn ∷ identifier ∷ bit differs ∷ [])
+aggregatorMeaning (G.Refused n) = refusal n
+
+-- ---- messages
+
+-- what it claims, what is taken of it, and its type with its three flags
+abbrev pub messageFields : MessageAnswer → Fields
+messageFields a =
+    fields (valueIn 1 (messageMeaning a)) (valueIn 2 (messageMeaning a))
+    (valueIn 0 (messageMeaning a) + 256 * valueIn 3 (messageMeaning a) + 512 * valueIn 4 (messageMeaning a) + 1024 * valueIn 5 (messageMeaning a))
+    (numberIn (messageMeaning a))
+
+-- ---- UPDATE bodies
+
+-- where a section starts, and its length
+abbrev pub partFields : (PartsAnswer → Extent) → PartsAnswer → Fields
+partFields section a = fields (section a .start) (section a .size) 0 (numberIn (partsMeaning a))
+
+-- the rows of both sections, and the verdict of each
+abbrev pub updateFields : UpdateAnswer → Fields
+updateFields a =
+    fields (valueIn 0 (updateMeaning a)) (valueIn 2 (updateMeaning a))
+    (valueIn 1 (updateMeaning a) + 256 * valueIn 3 (updateMeaning a)) (numberIn (updateMeaning a))
+
+-- ---- AGGREGATOR
+
+-- two words in a store of so many places, 11 last: how many words, and whether the width differs
+abbrev pub aggregatorSize : ℕ
+aggregatorSize = 2
+
+abbrev pub aggregatorStored : Answer → ℕ → Answer
+aggregatorStored (given values) places = pick (ltb places aggregatorSize) (refusal noRoom) (given (aggregatorSize ∷ valueIn 2 (given values) ∷ []))
+aggregatorStored (refusal n) places = refusal n
+
+-- AS number and identifier
+abbrev pub aggregatorWords : Answer → List ℕ
+aggregatorWords a = valueIn 0 a ∷ valueIn 1 a ∷ []
