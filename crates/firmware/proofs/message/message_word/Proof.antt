@@ -1,4 +1,6 @@
+use Prim.Native.Nat.{_≤_}
 use native.Mathlib.Omega.{arith}
+use mir.Val.{boolByte}
 use Rattle.words.proofs.FlagLaws.{bit-byte, byte-small}
 use borrow.Author.Needs.{needs}
 use Rattle.firmware.proofs.message.message_word.Statement.{statement}
@@ -19,29 +21,33 @@ cast-word-3 c = search needs
 cast-word-4 : tie.Need-cast-word-4
 cast-word-4 c = search needs
 
+-- each flag is 0 or 1
+small : (c : tie.After-known-told) → let f = c .before .a .given .0 .1 .1 .1 in (boolByte (f .0) ≤ 1) × (boolByte (f .1 .0) ≤ 1) × (boolByte (f .1 .1 .0) ≤ 1)
+small c = let f = c .before .a .given .0 .1 .1 .1 in (byte-small (f .0), byte-small (f .1 .0), byte-small (f .1 .1 .0))
+
 mul-word : tie.Need-mul-word
-mul-word c = let f = c .before .a .given .0 .1 .1 .1 in omega (arith, byte-small (f .0))
+mul-word c = omega (arith, small c)
 
 add-word : tie.Need-add-word
-add-word c = let f = c .before .a .given .0 .1 .1 .1 in omega (arith, byte-small (f .0))
+add-word c = omega (arith, small c)
 
 cast-word-5 : tie.Need-cast-word-5
 cast-word-5 c = search needs
 
 mul-word-2 : tie.Need-mul-word-2
-mul-word-2 c = let f = c .before .a .given .0 .1 .1 .1 in omega (arith, byte-small (f .1 .0))
+mul-word-2 c = omega (arith, small c)
 
 add-word-2 : tie.Need-add-word-2
-add-word-2 c = let f = c .before .a .given .0 .1 .1 .1 in omega (arith, byte-small (f .0), byte-small (f .1 .0))
+add-word-2 c = omega (arith, small c)
 
 cast-word-6 : tie.Need-cast-word-6
 cast-word-6 c = search needs
 
 mul-word-3 : tie.Need-mul-word-3
-mul-word-3 c = let f = c .before .a .given .0 .1 .1 .1 in omega (arith, byte-small (f .1 .1 .0))
+mul-word-3 c = omega (arith, small c)
 
 add-word-3 : tie.Need-add-word-3
-add-word-3 c = let f = c .before .a .given .0 .1 .1 .1 in omega (arith, byte-small (f .0), byte-small (f .1 .0), byte-small (f .1 .1 .0))
+add-word-3 c = omega (arith, small c)
 
 word-requires : tie.Need-word-requires
 word-requires c κs = search needs
