@@ -1,4 +1,4 @@
--- What the definitions say, apart from the code: a line's numbers are those that it was made of.
+-- A line's numbers are those that it was made of: digits stand for the number that they spell.
 -- Assumes nothing.
 use Prim.Native.Nat.{ℕ, zero, suc, _+_, _-_, _*_, _^_, _/_, _%_, _<_}
 use mathlib.Core.Path.{_≡_, sym, ap, _∙_}
@@ -7,12 +7,7 @@ use native.Mathlib.Nat.{pow-succ'}
 use native.Mathlib.Omega.{arith}
 use lib.Dec.{ltb}
 use Rattle.wire.proofs.ChoiceLaws.{pick-any}
-use Rattle.slot_table.specs.Line.{digits}
-
--- the number that digits stand for, after one that was read before them
-abbrev pub numeral : ℕ → List ℕ → ℕ
-numeral n [] = n
-numeral n (d ∷ ds) = numeral (n * 10 + (d - 48)) ds
+use Rattle.slot_table.specs.Line.{digits, numeral}
 
 digits-value : (f n : ℕ) (acc : List ℕ) → n < 10 ^ f → numeral 0 (digits f n acc) ≡ numeral n acc
 unfolding digits
