@@ -2,6 +2,7 @@
 -- says which one each of its cases is.
 use Prim.Native.Nat.{ℕ, zero, suc, _-_}
 use mathlib.Core.List.{List, [], _∷_}
+use mathlib.Core.Bool.{Bool, true, false}
 use lib.ListN.{getD}
 use lib.Dec.{leb}
 use Rattle.wire.specs.Choice.{pick}
@@ -23,6 +24,11 @@ numberIn (refusal n) = n
 abbrev pub valueIn : ℕ → Answer → ℕ
 valueIn i (given values) = getD values i 0
 valueIn i (refusal n) = 0
+
+-- a flag as a value
+abbrev pub flag : Bool → ℕ
+flag true = 1
+flag false = 0
 
 -- a lent store or output afterwards: values from its front where something is given, and as it was where it is refused
 abbrev pub filled : Answer → List ℕ → List ℕ → List ℕ
