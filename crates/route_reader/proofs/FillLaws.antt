@@ -18,9 +18,8 @@ use Rattle.routes.proofs.PrefixLaws.{Took}
 use Rattle.routes.specs.Private.{Bounded}
 use Rattle.routes.specs.List.{formBy, fixed, stepOf, listOf}
 use Rattle.routes.proofs.ListLaws.{sound, step-form, step-took, list-fixed}
-use Rattle.routes.specs.Promises.{Fitting}
 use Rattle.routes.specs.declared.Row.{Row}
-use Rattle.route_reader.specs.Words.{head, address, between, Octets}
+use Rattle.route_reader.specs.Private.{headWords, addressWords, between, Octets, Fitting}
 use Rattle.route_reader.proofs.WordsLaws.{item-words}
 
 -- what stands from `at` on, as the part `&s[at..]` has it
@@ -35,9 +34,9 @@ pub record Turn (max : ℕ) (mode : AddPath) (st₀ : Form) (s d₀ : List ℕ) 
   pub front : idSize form < length (from s at)
   pub place : (n seam end : ℕ) → octets max ≤ n → seam ≡ at + (idSize form + 1) → end ≡ at + used → Octets n seam end s
   -- its head is put, then its address, and the turn is done
-  pub more : (d₁ : List ℕ) → d₁ ≡ laid d to (head form (from s at)) → to + 2 + 4 ≤ length d₁
+  pub more : (d₁ : List ℕ) → d₁ ≡ laid d to (headWords form (from s at)) → to + 2 + 4 ≤ length d₁
   pub next : (d₁ d₂ : List ℕ) (seam end : ℕ) → seam ≡ at + (idSize form + 1) → end ≡ at + used
-      → d₁ ≡ laid d to (head form (from s at)) → d₂ ≡ laid d₁ (to + 2) (address (between seam end s))
+      → d₁ ≡ laid d to (headWords form (from s at)) → d₂ ≡ laid d₁ (to + 2) (addressWords (between seam end s))
       → Filled (stepOf max mode) words st₀ s d₀ form end (to + 6) d₂
 
 module _ (max : ℕ) (mode : AddPath) (st₀ : Form) (s d₀ : List ℕ) (st : Form) (at to : ℕ) (d : List ℕ) (h : Filled (stepOf max mode) words st₀ s d₀ st at to d) where
@@ -47,9 +46,9 @@ module _ (max : ℕ) (mode : AddPath) (st₀ : Form) (s d₀ : List ℕ) (st : F
       let item = step-took max mode st form (drop at s) used _ step in
       let fits = fill-fits (stepOf max mode) (sound max mode) words st₀ s d₀ st at to d h form used _ step in
       let bounds : Bounded form used (from s at) = record { front = omega (arith, item .size); within = rw rest (item .room) } in
-      let hd : List ℕ = head form (from s at) in
+      let hd : List ℕ = headWords form (from s at) in
       let b : ℕ = idSize form + 1 in
-      let row : hd ++ address (between b used (from s at)) ≡ words (itemRow form (take used (drop at s))) =
+      let row : hd ++ addressWords (between b used (from s at)) ≡ words (itemRow form (take used (drop at s))) =
       sym (item-words form used (from s at) bounds) ∙ ap (λ (t : List ℕ). words (itemRow form (take used t))) (rest s at) in
       record {
         some = fits .0;
@@ -67,7 +66,7 @@ module _ (max : ℕ) (mode : AddPath) (st₀ : Form) (s d₀ : List ℕ) (st : F
             let same : between seam end s ≡ between b used (from s at) =
             ap₂ take long (ap (λ (j : ℕ). drop j s) e ∙ sym (drop-drop b at s) ∙ ap (drop b) (sym (rest s at))) in
             let put : d₂ ≡ laid d to (words (itemRow form (take used (drop at s)))) =
-            k ∙ ap₂ (λ (l o : List ℕ). laid l (to + 2) (address o)) g same ∙ laid-laid d to hd (address (between b used (from s at))) (omega (arith, fits .2)) ∙ ap (laid d to) row in
+            k ∙ ap₂ (λ (l o : List ℕ). laid l (to + 2) (addressWords o)) g same ∙ laid-laid d to hd (addressWords (between b used (from s at))) (omega (arith, fits .2)) ∙ ap (laid d to) row in
             rw (put, f) (fill-step (stepOf max mode) (sound max mode) words st₀ s d₀ st at to d h form used _ step)
             );
       }

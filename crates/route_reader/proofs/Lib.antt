@@ -1,3 +1,4 @@
 pub mod WordsLaws
 pub mod FillLaws
 pub mod PairLaws
+pub mod Tight

@@ -11,8 +11,9 @@ use Rattle.wire.specs.Refusal.{noRoom}
 use Rattle.wire.specs.Walk.{Reading}
 use Rattle.routes.specs.List.{listOf, sectionOf}
 use Rattle.routes.proofs.ListLaws.{words-length, count-rows, section-counted}
-use Rattle.routes.specs.Promises.{countAnswer, Fitting}
-use Rattle.route_reader.specs.Pair.{hasRoom, pairBy}
+use Rattle.routes.specs.Promises.{countAnswer, hasRoom}
+use Rattle.route_reader.specs.Pair.{readPairBy}
+use Rattle.route_reader.specs.Private.{Fitting}
 use Rattle.families.specs.declared.AddPath.{AddPath}
 use Rattle.routes.specs.declared.Row.{Row}
 use Rattle.routes.specs.declared.ListAnswer.{ListAnswer}
@@ -20,16 +21,16 @@ use Rattle.routes.specs.declared.ListAnswer.the-variants as L
 use Rattle.route_reader.specs.declared.PairAnswer.the-variants.{Sections, Refused}
 
 module _ (a b : ListAnswer) (places places′ : ℕ) where
-  pub pair-first : hasRoom a places ≡ false → pairBy a b places places′ ≡ Refused noRoom
-  unfolding pairBy
+  pub pair-first : hasRoom a places ≡ false → readPairBy a b places places′ ≡ Refused noRoom
+  unfolding readPairBy
   pair-first h = rw h
 
-  pub pair-second : hasRoom a places ≡ true → hasRoom b places′ ≡ false → pairBy a b places places′ ≡ Refused noRoom
-  unfolding pairBy
+  pub pair-second : hasRoom a places ≡ true → hasRoom b places′ ≡ false → readPairBy a b places places′ ≡ Refused noRoom
+  unfolding readPairBy
   pair-second h k = rw (h, k)
 
-  pub pair-both : hasRoom a places ≡ true → hasRoom b places′ ≡ true → pairBy a b places places′ ≡ Sections a b
-  unfolding pairBy
+  pub pair-both : hasRoom a places ≡ true → hasRoom b places′ ≡ true → readPairBy a b places places′ ≡ Sections a b
+  unfolding readPairBy
   pair-both h k = rw (h, k)
 
 -- a section that was counted and has room is a good list that has room

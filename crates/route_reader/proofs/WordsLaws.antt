@@ -23,7 +23,7 @@ use Rattle.families.specs.declared.Form.{Form}
 use Rattle.routes.specs.Prefix.{wordAt, rowOf, itemRow, words}
 use Rattle.routes.proofs.PrefixLaws.{item-row}
 use Rattle.routes.specs.Private.{Bounded}
-use Rattle.route_reader.specs.Words.{head, address, between, masks, Octets}
+use Rattle.route_reader.specs.Private.{headWords, addressWords, between, masks, Octets}
 
 -- ---- a number of w bytes with all but its first m cleared
 
@@ -86,17 +86,20 @@ masked t n i x y h few place e f =
     ∙ ap (λ (q : ℕ). q / 2 ^ k * 2 ^ k) e
     ∙ cut-at 4 i n t h
 
--- as a reader has the two: s from `seam` on, and a table of masks from the place of the mask on
-pub mask-there : (table : List ℕ) (n k : ℕ) → table ≡ masks → k ≤ 16 → k ≤ length (take (length table - (16 - n)) (drop (16 - n) table))
-mask-there table n k e le = rw rest (omega (arith, ap length e, length-drop (16 - n) table))
+-- a word of a part that holds it
+word-within : (t : List ℕ) (k i : ℕ) → i + 4 ≤ k → beAt (take k t) i 4 ≡ beAt t i 4
+unfolding beAt
+word-within t k i le = ap (λ (o : List ℕ). be (padded 4 o)) (drop-take i k t) ∙ ap be (padded-of-more 4 (k - i) (drop i t) (omega arith))
 
+-- as a reader has the two: sixteen octets of s from `seam` on, and sixteen of a table of masks from the place of the mask on
 pub masked-at : (s table : List ℕ) (seam n : ℕ) → Bytes s → table ≡ masks → n ≤ 16 → (i x y : ℕ) → i ≤ 12
-    → x ≡ beAt (take (length s - seam) (drop seam s)) i 4 → y ≡ beAt (take (length table - (16 - n)) (drop (16 - n) table)) i 4 → bitAnd x y ≡ beAt (take n (drop seam s)) i 4
+    → x ≡ beAt (take (seam + 16 - seam) (drop seam s)) i 4 → y ≡ beAt (take (16 - n + 16 - (16 - n)) (drop (16 - n) table)) i 4 → bitAnd x y ≡ beAt (take n (drop seam s)) i 4
 unfolding beAt
 masked-at s table seam n h e few i x y le f g =
     masked (drop seam s) n i x y (bytes-drop seam s h) few le
-    (f ∙ ap (λ (t : List ℕ). be (padded 4 (drop i t))) (rest s seam))
-    (g ∙ ap (λ (t : List ℕ). be (padded 4 (drop i t))) (rest table (16 - n)) ∙ ap (λ (t : List ℕ). be (padded 4 t)) (drop-drop i (16 - n) table) ∙ ap (λ (t : List ℕ). be (padded 4 (drop (16 - n + i) t))) e)
+    (f ∙ word-within (drop seam s) (seam + 16 - seam) i (omega arith))
+    (g ∙ word-within (drop (16 - n) table) (16 - n + 16 - (16 - n)) i (omega arith)
+    ∙ ap (λ (t : List ℕ). be (padded 4 t)) (drop-drop i (16 - n) table) ∙ ap (λ (t : List ℕ). be (padded 4 (drop (16 - n + i) t))) e)
 
 -- ---- the last octets of a list
 
@@ -144,16 +147,16 @@ beyond o i le = ap (λ (p : List ℕ). be (padded 4 p)) (sym (drop-of-length-le 
 
 -- ---- the address words of octets, from words that were read
 
-pub address-parts : (o : List ℕ) (w0 w1 w2 w3 : ℕ) → w0 ≡ beAt o 0 4 → w1 ≡ beAt o 4 4 → w2 ≡ beAt o 8 4 → w3 ≡ beAt o 12 4 → w0 ∷ w1 ∷ w2 ∷ w3 ∷ [] ≡ address o
+pub address-parts : (o : List ℕ) (w0 w1 w2 w3 : ℕ) → w0 ≡ beAt o 0 4 → w1 ≡ beAt o 4 4 → w2 ≡ beAt o 8 4 → w3 ≡ beAt o 12 4 → w0 ∷ w1 ∷ w2 ∷ w3 ∷ [] ≡ addressWords o
 unfolding wordAt
 address-parts o w0 w1 w2 w3 e f g h = cc
 
 -- of at most four, where the others are 0
-pub address-first : (o : List ℕ) (w : ℕ) → length o ≤ 4 → w ≡ beAt o 0 4 → w ∷ 0 ∷ 0 ∷ 0 ∷ [] ≡ address o
+pub address-first : (o : List ℕ) (w : ℕ) → length o ≤ 4 → w ≡ beAt o 0 4 → w ∷ 0 ∷ 0 ∷ 0 ∷ [] ≡ addressWords o
 address-first o w few e = address-parts o w 0 0 0 e (beyond o 4 few) (beyond o 8 (omega arith)) (beyond o 12 (omega arith))
 
 -- of at most four between two places, from the last word up to the second
-pub last-between : (s : List ℕ) (seam end w : ℕ) → Octets 4 seam end s → w ≡ beAt (take end s) (length (take end s) - (end - seam)) 4 → w ∷ 0 ∷ 0 ∷ 0 ∷ [] ≡ address (between seam end s)
+pub last-between : (s : List ℕ) (seam end w : ℕ) → Octets 4 seam end s → w ≡ beAt (take end s) (length (take end s) - (end - seam)) 4 → w ∷ 0 ∷ 0 ∷ 0 ∷ [] ≡ addressWords (between seam end s)
 unfolding beAt
 last-between s seam end w o e =
     let long : length (take end s) ≡ end = length-take-le end s (o .there) in
@@ -163,7 +166,7 @@ last-between s seam end w o e =
 
 -- ---- the words of an item's row are its head and its address
 
-pub item-words : (form : Form) (e : ℕ) (s : List ℕ) → Bounded form e s → words (itemRow form (take e s)) ≡ head form s ++ address (between (idSize form + 1) e s)
+pub item-words : (form : Form) (e : ℕ) (s : List ℕ) → Bounded form e s → words (itemRow form (take e s)) ≡ headWords form s ++ addressWords (between (idSize form + 1) e s)
 unfolding rowOf
 item-words form e s b =
     sym (ap words (item-row s form e (idSize form) _ _ refl refl refl (b .front) (b .within)))

@@ -1,37 +1,43 @@
 -- What the call on two sections answers and leaves: both, or neither store is touched.
-use Prim.Native.Nat.{ℕ, _/_}
-use mathlib.Core.List.{List}
-use mathlib.Core.Bool.{Bool, true}
-use lib.Dec.{leb}
+use Prim.Native.Nat.{ℕ}
+use mathlib.Core.List.{List, [], _∷_}
+use Rattle.wire.specs.Answer.{Answer, given, refusal, filled}
 use Rattle.wire.specs.Choice.{pick}
 use Rattle.wire.specs.Refusal.{noRoom}
-use Rattle.wire.specs.Walk.{Reading}
+use Rattle.wire.specs.Walk.{Reading, flat}
+use Rattle.routes.specs.Prefix.{words}
 use Rattle.routes.specs.List.{sectionOf}
-use Rattle.routes.specs.Promises.{countAnswer, filled}
+use Rattle.routes.specs.Promises.{listMeaning, rowsIn, verdictIn, countAnswer, hasRoom}
 use Rattle.families.specs.declared.AddPath.{AddPath}
 use Rattle.routes.specs.declared.Row.{Row}
 use Rattle.routes.specs.declared.ListAnswer.{ListAnswer}
-use Rattle.routes.specs.declared.ListAnswer.the-variants as L
 use Rattle.route_reader.specs.declared.PairAnswer.{PairAnswer}
 use Rattle.route_reader.specs.declared.PairAnswer.the-variants.{Sections, Refused}
 
--- a store of so many places has room for what was counted; nothing needs no room
-abbrev pub hasRoom : ListAnswer → ℕ → Bool
-hasRoom (L.Rows n) places = leb n (places / 6)
-hasRoom (L.Refused n) places = true
+-- as document 01 has it: the rows and the verdict of each section; a good section's verdict is 0, and a malformed one has no rows
+abbrev pub sectionsMeaning : PairAnswer → Answer
+sectionsMeaning (Sections a b) = given (rowsIn a ∷ verdictIn a ∷ rowsIn b ∷ verdictIn b ∷ [])
+sectionsMeaning (Refused n) = refusal n
+
+-- each section by itself
+abbrev pub firstMeaning : PairAnswer → Answer
+firstMeaning (Sections a b) = listMeaning a
+firstMeaning (Refused n) = refusal n
+
+abbrev pub secondMeaning : PairAnswer → Answer
+secondMeaning (Sections a b) = listMeaning b
+secondMeaning (Refused n) = refusal n
 
 -- each section as counted, where each good one has room
-unfoldable pub pairBy : ListAnswer → ListAnswer → ℕ → ℕ → PairAnswer
-pairBy a b places places′ = pick (hasRoom a places) (pick (hasRoom b places′) (Sections a b) (Refused noRoom)) (Refused noRoom)
+unfoldable pub readPairBy : ListAnswer → ListAnswer → ℕ → ℕ → PairAnswer
+readPairBy a b places places′ = pick (hasRoom a places) (pick (hasRoom b places′) (Sections a b) (Refused noRoom)) (Refused noRoom)
 
-unfoldable pub pairAnswer : List ℕ → List ℕ → ℕ → AddPath → ℕ → ℕ → PairAnswer
-pairAnswer s t max mode places places′ = pairBy (countAnswer s (sectionOf s max mode)) (countAnswer t (sectionOf t max mode)) places places′
+unfoldable pub readPair : List ℕ → List ℕ → ℕ → AddPath → ℕ → ℕ → PairAnswer
+readPair s t max mode places places′ = readPairBy (countAnswer s (sectionOf s max mode)) (countAnswer t (sectionOf t max mode)) places places′
 
 -- the stores afterwards, by the answer
-abbrev pub firstAfter : PairAnswer → Reading Row → List ℕ → List ℕ
-firstAfter (Sections a b) r store = filled a (r .rows) store
-firstAfter (Refused n) r store = store
+abbrev pub readPairFirst : PairAnswer → Reading Row → List ℕ → List ℕ
+readPairFirst a r store = filled (firstMeaning a) (flat words (r .rows)) store
 
-abbrev pub secondAfter : PairAnswer → Reading Row → List ℕ → List ℕ
-secondAfter (Sections a b) r store = filled b (r .rows) store
-secondAfter (Refused n) r store = store
+abbrev pub readPairSecond : PairAnswer → Reading Row → List ℕ → List ℕ
+readPairSecond a r store = filled (secondMeaning a) (flat words (r .rows)) store

@@ -5,6 +5,7 @@ ghost use mathlib.Core.Bool.{true};
 ghost use Prim.Native.Nat.{_+_, _-_, _≤_, _<_};
 ghost use mathlib.Core.List.{[], _∷_};
 ghost use lib.ListN.{length};
+ghost use Rattle.wire.specs.Answer.{filled};
 ghost use Rattle.wire.specs.Number.{beAt};
 ghost use Rattle.wire.specs.Store.{laid};
 ghost use Rattle.wire.specs.Walk.{flat};
@@ -13,9 +14,9 @@ ghost use Rattle.families.specs.declared.Afi.the-variants.{Ipv4, Ipv6};
 ghost use Rattle.families.specs.declared.AddPath.the-variants.{Guess};
 ghost use Rattle.routes.specs.Prefix.{itemEnd, words};
 ghost use Rattle.routes.specs.List.{fixed, listOf, sectionOf};
-ghost use Rattle.routes.specs.Promises.{countAnswer, readAnswer, filled, storeAfter, Fitting};
-ghost use Rattle.route_reader.specs.Words.{head, address, between, masks, Octets};
-ghost use Rattle.route_reader.specs.Pair.{hasRoom, pairAnswer, firstAfter, secondAfter};
+ghost use Rattle.routes.specs.Promises.{listMeaning, countAnswer, hasRoom, readAnswer, storeAfter};
+ghost use Rattle.route_reader.specs.Private.{headWords, addressWords, between, masks, Octets, Fitting};
+ghost use Rattle.route_reader.specs.Pair.{readPair, readPairFirst, readPairSecond};
 use families::AddPath;
 use families::Afi;
 use families::Form;
@@ -64,20 +65,14 @@ const MASKS: [u8; 32] = [
     0,
 ];
 
-// The number of the four bytes at a place that has them.
-fn word_at(s: &[u8], at: usize) -> u32
-    requires { ⌜ at + 4 ≤ length (now s) ⌝ }
-    ensures { λ r. ⌜ r ≡ beAt (now (s .entry)) at 4 ⌝ }
-{
-    wire::join4(s[at], s[at + 1], s[at + 2], s[at + 3])
-}
-
-// The word of the last n octets of s: the last four, shifted up over those before.
+// The word of the last n octets of s: the last four, shifted up over those before. Here and below, a word is read from a part whose length is known
+// to hold it.
 fn last_word(s: &[u8], n: usize) -> u32
     requires { ⌜ (4 ≤ length (now s)) × (n ≤ 4) ⌝ }
     ensures { λ r. ⌜ r ≡ beAt (now (s .entry)) (length (now (s .entry)) - n) 4 ⌝ }
 {
-    let w = word_at(s, s.len() - 4) as u64;
+    let at = s.len() - 4;
+    let w = wire::u32_at(&s[at..], 0) as u64;
     ((w << (8 * (4 - n)) as u32) % 4294967296) as u32
 }
 
@@ -88,7 +83,7 @@ fn id_of(s: &[u8], form: Form) -> u32
 {
     match form {
         Form::Plain => 0,
-        Form::Tagged => word_at(s, 0),
+        Form::Tagged => wire::u32_at(&s[..4], 0),
     }
 }
 
@@ -96,7 +91,7 @@ fn id_of(s: &[u8], form: Form) -> u32
 fn put_head(store: &mut [u32], to: usize, s: &[u8], form: Form)
     requires { ⌜ to + 2 ≤ length (now store) ⌝ }
     requires { ⌜ idSize form < length (now s) ⌝ }
-    ensures { λ _. ⌜ now (store .exit) ≡ laid (now (store .entry)) to (head form (now (s .entry))) ⌝ }
+    ensures { λ _. ⌜ now (store .exit) ≡ laid (now (store .entry)) to (headWords form (now (s .entry))) ⌝ }
 {
     let k = families::id_size(form);
     store[to] = wire::wide(s[k]) + families::mark_of(form);
@@ -117,7 +112,7 @@ fn put_words(store: &mut [u32], to: usize, w0: u32, w1: u32, w2: u32, w3: u32)
 // The address words of octets, of which no other byte is read. Here and below, a slice that is lent on whole goes in registers.
 fn put_exact(store: &mut [u32], to: usize, octets: &[u8])
     requires { ⌜ (to + 4 ≤ length (now store)) × (length (now octets) ≤ 16) ⌝ }
-    ensures { λ _. ⌜ now (store .exit) ≡ laid (now (store .entry)) to (address (now (octets .entry))) ⌝ }
+    ensures { λ _. ⌜ now (store .exit) ≡ laid (now (store .entry)) to (addressWords (now (octets .entry))) ⌝ }
 {
     let t = &octets[..];
     let n = t.len();
@@ -127,24 +122,31 @@ fn put_exact(store: &mut [u32], to: usize, octets: &[u8])
     }
     let last = last_word(t, n % 4);
     if n < 8 {
-        put_words(store, to, word_at(t, 0), last, 0, 0);
+        put_words(store, to, wire::u32_at(t, 0), last, 0, 0);
         return;
     }
     if n < 12 {
-        put_words(store, to, word_at(t, 0), word_at(t, 4), last, 0);
+        put_words(store, to, wire::u32_at(t, 0), wire::u32_at(t, 4), last, 0);
         return;
     }
     if n < 16 {
-        put_words(store, to, word_at(t, 0), word_at(t, 4), word_at(t, 8), last);
+        put_words(
+            store,
+            to,
+            wire::u32_at(t, 0),
+            wire::u32_at(t, 4),
+            wire::u32_at(t, 8),
+            last,
+        );
         return;
     }
     put_words(
         store,
         to,
-        word_at(t, 0),
-        word_at(t, 4),
-        word_at(t, 8),
-        word_at(t, 12),
+        wire::u32_at(t, 0),
+        wire::u32_at(t, 4),
+        wire::u32_at(t, 8),
+        wire::u32_at(t, 12),
     );
 }
 
@@ -152,7 +154,7 @@ fn put_exact(store: &mut [u32], to: usize, octets: &[u8])
 fn put_short(store: &mut [u32], to: usize, s: &[u8], seam: usize, end: usize)
     requires { ⌜ to + 4 ≤ length (now store) ⌝ }
     requires { ⌜ Octets 4 seam end (now s) ⌝ }
-    ensures { λ _. ⌜ now (store .exit) ≡ laid (now (store .entry)) to (address (between seam end (now (s .entry)))) ⌝ }
+    ensures { λ _. ⌜ now (store .exit) ≡ laid (now (store .entry)) to (addressWords (between seam end (now (s .entry)))) ⌝ }
 {
     if end < SHORT {
         put_exact(store, to, &s[seam..end]);
@@ -166,22 +168,24 @@ fn put_long(store: &mut [u32], to: usize, s: &[u8], seam: usize, end: usize, tab
     requires { ⌜ to + 4 ≤ length (now store) ⌝ }
     requires { ⌜ Octets 16 seam end (now s) ⌝ }
     requires { ⌜ now table ≡ masks ⌝ }
-    ensures { λ _. ⌜ now (store .exit) ≡ laid (now (store .entry)) to (address (between seam end (now (s .entry)))) ⌝ }
+    ensures { λ _. ⌜ now (store .exit) ≡ laid (now (store .entry)) to (addressWords (between seam end (now (s .entry)))) ⌝ }
 {
     if s.len() - seam < LONG {
         put_exact(store, to, &s[seam..end]);
         return;
     }
     let m = LONG - (end - seam);
-    let t = &s[seam..];
-    let u = &table[m..];
+    let until = seam + LONG;
+    let t = &s[seam..until];
+    let stop = m + LONG;
+    let u = &table[m..stop];
     put_words(
         store,
         to,
-        word_at(t, 0) & word_at(u, 0),
-        word_at(t, 4) & word_at(u, 4),
-        word_at(t, 8) & word_at(u, 8),
-        word_at(t, 12) & word_at(u, 12),
+        wire::u32_at(t, 0) & wire::u32_at(u, 0),
+        wire::u32_at(t, 4) & wire::u32_at(u, 4),
+        wire::u32_at(t, 8) & wire::u32_at(u, 8),
+        wire::u32_at(t, 12) & wire::u32_at(u, 12),
     );
 }
 
@@ -371,7 +375,7 @@ fn has_room(counted: ListAnswer, places: usize) -> bool
 fn fill_counted(s: &[u8], afi: Afi, mode: AddPath, counted: ListAnswer, store: &mut [u32])
     requires { ⌜ counted ≡ countAnswer (now s) (sectionOf (now s) (maxOf afi) mode) ⌝ }
     requires { ⌜ hasRoom counted (length (now store)) ≡ true ⌝ }
-    ensures { λ _. ⌜ now (store .exit) ≡ filled counted (sectionOf (now (s .entry)) (maxOf afi) mode .rows) (now (store .entry)) ⌝ }
+    ensures { λ _. ⌜ now (store .exit) ≡ filled (listMeaning counted) (flat words (sectionOf (now (s .entry)) (maxOf afi) mode .rows)) (now (store .entry)) ⌝ }
 {
     match counted {
         ListAnswer::Rows(_) => {
@@ -390,9 +394,9 @@ pub fn read_nlri_pair(
     first: &mut [u32],
     second: &mut [u32],
 ) -> PairAnswer
-    ensures answer { λ r. ⌜ r ≡ pairAnswer (now (s .entry)) (now (t .entry)) (maxOf afi) mode (length (now (first .entry))) (length (now (second .entry))) ⌝ }
-    ensures first { λ r. ⌜ now (first .exit) ≡ firstAfter r (sectionOf (now (s .entry)) (maxOf afi) mode) (now (first .entry)) ⌝ }
-    ensures second { λ r. ⌜ now (second .exit) ≡ secondAfter r (sectionOf (now (t .entry)) (maxOf afi) mode) (now (second .entry)) ⌝ }
+    ensures answer { λ r. ⌜ r ≡ readPair (now (s .entry)) (now (t .entry)) (maxOf afi) mode (length (now (first .entry))) (length (now (second .entry))) ⌝ }
+    ensures first { λ r. ⌜ now (first .exit) ≡ readPairFirst r (sectionOf (now (s .entry)) (maxOf afi) mode) (now (first .entry)) ⌝ }
+    ensures second { λ r. ⌜ now (second .exit) ≡ readPairSecond r (sectionOf (now (t .entry)) (maxOf afi) mode) (now (second .entry)) ⌝ }
 {
     let a = routes::count_nlri(s, afi, mode);
     let b = routes::count_nlri(t, afi, mode);

@@ -6,9 +6,10 @@ use mathlib.Core.List.{List, [], _∷_}
 use mathlib.Core.Bool.{Bool, true, false, not}
 use lib.Dec.{eqb}
 use native.Mathlib.Omega.{arith}
-use native.Mathlib.Nat.{not-suc-le-zero}
 use borrow.Author.Tests.{le-leb, lt-leb}
 use lib.ListN.{length, getD, take, drop}
+use Rattle.wire.specs.Answer.{filled, answerBy, unpacked}
+use Rattle.wire.proofs.AnswerLaws.{answer-refused, unpacked-count, unpacked-refused}
 use Rattle.wire.proofs.ChoiceLaws.{pick-leb}
 use Rattle.wire.specs.Refusal.{tooLong, oneByteSection, noRoom, pastAll, listLimit}
 use Rattle.wire.specs.Store.{laid}
@@ -18,8 +19,8 @@ use Rattle.wire.proofs.WalkLaws.{Sound, tally-one, flat-length, all-blind}
 use Rattle.routes.specs.Prefix.{itemRow, words, prefixOf}
 use Rattle.routes.proofs.PrefixLaws.{Took, prefix-took, prefix-names}
 use Rattle.routes.specs.List.{asStep, inForm, plainHere, tried, guessForm, formBy, fixed, stepOf, listOf, strange, sectionOf}
-use Rattle.routes.specs.Promises.{answerBy, countAnswer, unpacked, readAnswer, filled, storeAfter}
-use Rattle.routes.specs.Size.{sizeOf, sized, kept}
+use Rattle.routes.specs.Promises.{sized, listMeaning, countAnswer, readAnswer, storeAfter}
+use Rattle.routes.specs.Private.{sizeOf, kept}
 use Rattle.families.specs.declared.Form.{Form}
 use Rattle.families.specs.declared.Form.the-variants.{Plain, Tagged}
 use Rattle.families.specs.declared.AddPath.{AddPath}
@@ -160,21 +161,9 @@ list-fixed s max form =
 pub words-length : (rows : List Row) → length (flat words rows) ≡ 6 * length rows
 words-length = flat-length words 6 (λ _. refl)
 
-answer-rows : (v n m : ℕ) → answerBy v m ≡ L.Rows n → (v ≡ 0) × (m ≡ n)
+answer-rows : (v n m : ℕ) → answerBy v (L.Rows m) L.Refused ≡ L.Rows n → (v ≡ 0) × (m ≡ n)
 answer-rows zero n m e = (refl, cc)
 answer-rows (suc v) n m e = let z : _≡_ {A = ℕ} 0 1 = cc in absurd (zero-ne-one z)
-
-answer-refused : (n m : ℕ) → 0 < n → answerBy n m ≡ L.Refused n
-answer-refused zero m h = absurd (not-suc-le-zero h)
-answer-refused (suc n) m h = refl
-
-pub unpacked-count : (v : ℕ) → pastAll ≤ v → unpacked v ≡ L.Rows (v - pastAll)
-unfolding unpacked
-unpacked-count v h = rw (le-leb pastAll v h)
-
-pub unpacked-refused : (v : ℕ) → v < pastAll → unpacked v ≡ L.Refused v
-unfolding unpacked
-unpacked-refused v h = rw (lt-leb pastAll v h)
 
 module _ (s : List ℕ) (r : Reading Row) where
   pub count-long : listLimit < length s → countAnswer s r ≡ L.Refused tooLong
@@ -187,7 +176,7 @@ module _ (s : List ℕ) (r : Reading Row) where
 
   pub count-bad : (n : ℕ) → length s ≤ listLimit → r .verdict ≡ n → 0 < n → countAnswer s r ≡ L.Refused n
   unfolding countAnswer
-  count-bad n h e pos = rw (le-leb (length s) listLimit h, e) (answer-refused n _ pos)
+  count-bad n h e pos = rw (le-leb (length s) listLimit h, e) (answer-refused n _ L.Refused pos)
 
   pub count-rows : (n : ℕ) → countAnswer s r ≡ L.Rows n → (r .verdict ≡ 0) × (length (r .rows) ≡ n)
   unfolding countAnswer
@@ -198,9 +187,9 @@ module _ (s : List ℕ) (r : Reading Row) where
 
   -- the answer and the store that a reading leaves, by what the count says
   module _ (d : List ℕ) where
-    leave : (a : ListAnswer) → a ≡ readAnswer s r (length d) → (a ≡ readAnswer s r (length d)) × (filled a (r .rows) d ≡ storeAfter s r d)
+    leave : (a : ListAnswer) → a ≡ readAnswer s r (length d) → (a ≡ readAnswer s r (length d)) × (filled (listMeaning a) (flat words (r .rows)) d ≡ storeAfter s r d)
     unfolding storeAfter
-    leave a e = (e, ap (λ (x : ListAnswer). filled x (r .rows) d) e)
+    leave a e = (e, ap (λ (x : ListAnswer). filled (listMeaning x) (flat words (r .rows)) d) e)
 
     pub leave-refused : (n : ℕ) → countAnswer s r ≡ L.Refused n → (L.Refused n ≡ readAnswer s r (length d)) × (d ≡ storeAfter s r d)
     unfolding readAnswer
@@ -251,17 +240,17 @@ module _ (max : ℕ) (mode : AddPath) (st₀ : Form) (s : List ℕ) where
         (fits .0, fits .1, record { past = omega (arith, h .past); counted = rw more at next })
 
     module _ (small : length s ≤ listLimit) where
-      pub packed-stop : (n : ℕ) → at < length s → stepOf max mode st (drop at s) ≡ stop n → unpacked n ≡ countAnswer s (readAll (stepOf max mode) st₀ s)
+      pub packed-stop : (n : ℕ) → at < length s → stepOf max mode st (drop at s) ≡ stop n → unpacked L.Rows L.Refused n ≡ countAnswer s (readAll (stepOf max mode) st₀ s)
       unfolding stepOf inForm
       packed-stop n lt e =
           let named = form-names (drop at s) max (formBy max mode st (drop at s)) _ n refl e in
-          unpacked-refused n (named .1)
+          unpacked-refused L.Rows L.Refused n (named .1)
           ∙ sym (count-bad s (readAll (stepOf max mode) st₀ s) n small
           (count-stop (stepOf max mode) (sound max mode) (λ _. 1) 1 (light max mode) st₀ s st at (count - pastAll) (h .counted) n lt e) (named .0))
 
-      pub packed-done : length s ≤ at → unpacked count ≡ countAnswer s (readAll (stepOf max mode) st₀ s)
+      pub packed-done : length s ≤ at → unpacked L.Rows L.Refused count ≡ countAnswer s (readAll (stepOf max mode) st₀ s)
       packed-done le =
-          unpacked-count count (h .past)
+          unpacked-count L.Rows L.Refused count (h .past)
           ∙ sym (count-good s (readAll (stepOf max mode) st₀ s) (count - pastAll) small
           (count-done (stepOf max mode) (sound max mode) (λ _. 1) 1 (light max mode) st₀ s st at (count - pastAll) (h .counted) le))
 

@@ -8,19 +8,21 @@ use native.Mathlib.Nat.{lt-of-not-le}
 use native.Mathlib.Decide.{decLe}
 use lib.ListN.{length, getD, drop, length-drop}
 use lib.Seq.{getD-drop}
+use Rattle.wire.specs.Answer.{unpacked}
 use Rattle.wire.specs.Refusal.{truncated, prefixLength, pastAll, listLimit}
 use Rattle.wire.specs.Walk.{readAll}
 use Rattle.families.specs.Family.{idSize, octets}
 use Rattle.routes.proofs.PrefixLaws.{prefix-none, prefix-long, prefix-short, took-prefix}
 use Rattle.routes.specs.List.{asStep, fixed, stepOf, listOf}
-use Rattle.routes.specs.Promises.{countAnswer, unpacked}
+use Rattle.routes.specs.Promises.{countAnswer}
 use Rattle.routes.proofs.ListLaws.{Packed, packed-start, packed-step, packed-stop, packed-done, fixed-step, list-fixed}
 use Rattle.families.specs.declared.Form.{Form}
+use Rattle.routes.specs.declared.ListAnswer.the-variants.{Rows, Refused}
 
 -- at its head: the place is that of the length byte of the item at `at`; or past all that one can have, since the last item is not all there
 pub data Seated (max : ℕ) (form : Form) (s : List ℕ) (seat count : ℕ) : Type 0 where
   item : (at : ℕ) → seat ≡ at + idSize form → Packed max (fixed form) form s form at count → Seated max form s seat count
-  over : length s + idSize form < seat → unpacked truncated ≡ countAnswer s (readAll (stepOf max (fixed form)) form s) → Seated max form s seat count
+  over : length s + idSize form < seat → unpacked Rows Refused truncated ≡ countAnswer s (readAll (stepOf max (fixed form)) form s) → Seated max form s seat count
 
 module _ (max : ℕ) (form : Form) (s : List ℕ) where
   as-list : countAnswer s (readAll (stepOf max (fixed form)) form s) ≡ countAnswer s (listOf s max (fixed form))
@@ -41,7 +43,7 @@ module _ (max : ℕ) (form : Form) (s : List ℕ) where
     seat-few (over past e) lt = omega arith
 
     pub seat-long : Seated max form s seat count → length s ≤ listLimit → seat < length s → max < getD s seat 0
-        → unpacked prefixLength ≡ countAnswer s (listOf s max (fixed form))
+        → unpacked Rows Refused prefixLength ≡ countAnswer s (listOf s max (fixed form))
     seat-long (item at e h) small lt long =
         let there : idSize form < length (drop at s) = omega (arith, length-drop at s) in
         let over-max : max < getD (drop at s) (idSize form) 0 = rw (at-seat at seat e) long in
@@ -72,12 +74,12 @@ module _ (max : ℕ) (form : Form) (s : List ℕ) where
 
     -- ---- after the loop
 
-    pub seat-done : Seated max form s seat count → length s ≤ listLimit → seat ≡ length s + idSize form → unpacked count ≡ countAnswer s (listOf s max (fixed form))
+    pub seat-done : Seated max form s seat count → length s ≤ listLimit → seat ≡ length s + idSize form → unpacked Rows Refused count ≡ countAnswer s (listOf s max (fixed form))
     seat-done (item at e h) small end = packed-done max (fixed form) form s form at count h small (omega arith) ∙ as-list
     seat-done (over past e) small end = absurd (omega arith)
 
     pub seat-cut : Seated max form s seat count → length s ≤ listLimit → length s ≤ seat → (seat ≡ length s + idSize form → ⊥)
-        → unpacked truncated ≡ countAnswer s (listOf s max (fixed form))
+        → unpacked Rows Refused truncated ≡ countAnswer s (listOf s max (fixed form))
     seat-cut (item at e h) small le other =
         elim (decLe (length s) at) [
           | yes all ↦ absurd (other (omega (arith, h .counted .within)))

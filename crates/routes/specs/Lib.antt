@@ -1,5 +1,5 @@
 pub mod Prefix
+pub mod WellFormed
 pub mod List
 pub mod Promises
-pub mod Size
 pub mod Private

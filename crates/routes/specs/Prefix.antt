@@ -4,6 +4,7 @@ use Prim.Native.Nat.{ℕ, _+_}
 use mathlib.Core.List.{List, [], _∷_}
 use lib.ListN.{length, getD, take, drop}
 use lib.Dec.{ltb, leb}
+use Rattle.wire.specs.Answer.{Answer, given, refusal}
 use Rattle.wire.specs.Choice.{pick}
 use Rattle.wire.specs.Number.{be, beAt}
 use Rattle.wire.specs.Refusal.{truncated, prefixLength}
@@ -28,6 +29,11 @@ itemRow form item = rowOf (drop (idSize form + 1) item) (getD item (idSize form)
 -- six words to a row
 abbrev pub words : Row → List ℕ
 words r = r .first ∷ r .id ∷ r .w0 ∷ r .w1 ∷ r .w2 ∷ r .w3 ∷ []
+
+-- one route as document 01 has it: the bytes that it takes, and its six words
+abbrev pub prefixMeaning : PrefixAnswer → Answer
+prefixMeaning (Prefix used row) = given (used ∷ words row)
+prefixMeaning (Refused n) = refusal n
 
 -- the bytes of the item at the front: id, length byte, octets
 abbrev pub itemEnd : Form → List ℕ → ℕ

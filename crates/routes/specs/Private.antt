@@ -1,11 +1,27 @@
--- What private functions ask of each other; no promise rests on it.
+-- What private functions ask of each other and answer each other; no promise rests on it.
 use Prim.Native.Nat.{ℕ, _+_, _≤_}
 use mathlib.Core.List.{List}
 use lib.ListN.{length}
 use Rattle.families.specs.Family.{idSize}
 use Rattle.families.specs.declared.Form.{Form}
+use Rattle.routes.specs.declared.PrefixAnswer.{PrefixAnswer}
+use Rattle.routes.specs.declared.PrefixAnswer.the-variants as P
+use Rattle.routes.specs.declared.SizeAnswer.{SizeAnswer}
+use Rattle.routes.specs.declared.SizeAnswer.the-variants as Z
+use Rattle.routes.specs.declared.StepAnswer.{StepAnswer}
+use Rattle.routes.specs.declared.StepAnswer.the-variants as S
 
 -- that the first `used` bytes of s hold an item's id and length byte
 pub record Bounded (form : Form) (used : ℕ) (s : List ℕ) : Type 0 where
   pub front : idSize form + 1 ≤ used
   pub within : used ≤ length s
+
+-- how many bytes an item takes
+abbrev pub sizeOf : PrefixAnswer → SizeAnswer
+sizeOf (P.Prefix used row) = Z.Size used
+sizeOf (P.Refused n) = Z.Refused n
+
+-- an item's size, with the form it was read in
+abbrev pub kept : SizeAnswer → Form → StepAnswer
+kept (Z.Size used) form = S.Item used form
+kept (Z.Refused n) form = S.Refused n

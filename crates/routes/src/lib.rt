@@ -2,14 +2,14 @@
 ghost use mathlib.Core.Path.{_≡_};
 ghost use Prim.Native.Nat.{_+_, _≤_, _<_};
 ghost use lib.ListN.{length, getD, take};
+ghost use Rattle.wire.specs.Answer.{unpacked};
 ghost use Rattle.wire.specs.Number.{beAt};
 ghost use Rattle.wire.specs.Refusal.{listLimit};
 ghost use Rattle.families.specs.Family.{maxOf, idSize};
 ghost use Rattle.routes.specs.Prefix.{itemRow, prefixOf};
-ghost use Rattle.routes.specs.Private.{Bounded};
+ghost use Rattle.routes.specs.Private.{Bounded, sizeOf, kept};
 ghost use Rattle.routes.specs.List.{plainHere, fixed, stepOf, listOf, sectionOf, strange};
-ghost use Rattle.routes.specs.Size.{sizeOf, sized, kept};
-ghost use Rattle.routes.specs.Promises.{rowsIn, verdictIn, countAnswer, unpacked};
+ghost use Rattle.routes.specs.Promises.{sized, rowsIn, verdictIn, countAnswer};
 use families::AddPath;
 use families::Afi;
 use families::Form;
@@ -168,7 +168,7 @@ pub fn item_step(s: &[u8], max: u8, mode: AddPath, form: Form) -> StepAnswer
 // not all there is the last, and alone leaves the place elsewhere than at the end.
 fn count_form(s: &[u8], max: u8, form: Form) -> usize
     requires { ⌜ length (now s) ≤ listLimit ⌝ }
-    ensures { λ r. ⌜ unpacked r ≡ countAnswer (now (s .entry)) (listOf (now (s .entry)) max (fixed form)) ⌝ }
+    ensures { λ r. ⌜ unpacked ListAnswer.Rows ListAnswer.Refused r ≡ countAnswer (now (s .entry)) (listOf (now (s .entry)) max (fixed form)) ⌝ }
 {
     let k = families::id_size(form);
     let mut seat: usize = k;
@@ -191,7 +191,7 @@ fn count_form(s: &[u8], max: u8, form: Form) -> usize
 // How many rows a list has by the guess, in one number.
 fn count_guess(s: &[u8], max: u8) -> usize
     requires { ⌜ length (now s) ≤ listLimit ⌝ }
-    ensures { λ r. ⌜ unpacked r ≡ countAnswer (now (s .entry)) (listOf (now (s .entry)) max AddPath.Guess) ⌝ }
+    ensures { λ r. ⌜ unpacked ListAnswer.Rows ListAnswer.Refused r ≡ countAnswer (now (s .entry)) (listOf (now (s .entry)) max AddPath.Guess) ⌝ }
 {
     let mut at: usize = 0;
     let mut count: usize = refusal::PAST_ALL;
@@ -213,7 +213,7 @@ fn count_guess(s: &[u8], max: u8) -> usize
 
 // How many rows a list has under a setting, in one number.
 fn count_rows(s: &[u8], max: u8, mode: AddPath) -> usize
-    ensures { λ r. ⌜ unpacked r ≡ countAnswer (now (s .entry)) (listOf (now (s .entry)) max mode) ⌝ }
+    ensures { λ r. ⌜ unpacked ListAnswer.Rows ListAnswer.Refused r ≡ countAnswer (now (s .entry)) (listOf (now (s .entry)) max mode) ⌝ }
 {
     // So that the slice is handed on in registers.
     let whole = &s[..];

@@ -1,7 +1,7 @@
 use mathlib.Core.Path.{sym, ap, _∙_}
 use lib.ListN.{length}
 use Rattle.families.specs.Family.{maxOf}
-use Rattle.route_reader.specs.Pair.{hasRoom}
+use Rattle.routes.specs.Promises.{hasRoom}
 use Rattle.routes.proofs.ListLaws.{section-counted}
 use Rattle.route_reader.proofs.PairLaws.{counted-fits}
 use Rattle.routes.specs.declared.ListAnswer.{ListAnswer}

@@ -12,7 +12,7 @@ use Rattle.routes.specs.Prefix.{words}
 use Rattle.routes.specs.List.{fixed, stepOf}
 use Rattle.routes.proofs.ListLaws.{sound, fixed-form, list-fixed}
 use Rattle.routes.specs.declared.Row.{Row}
-use Rattle.route_reader.specs.Words.{Octets}
+use Rattle.route_reader.specs.Private.{Octets}
 use Rattle.route_reader.proofs.FillLaws.{Turn, turn-chosen, front-there, fitting-form}
 use borrow.Author.Needs.{needs}
 use Rattle.route_reader.proofs.fill_long.Statement.{statement}

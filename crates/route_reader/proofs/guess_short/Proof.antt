@@ -10,8 +10,8 @@ use Rattle.families.specs.declared.Form.the-variants.{Plain}
 use Rattle.routes.specs.Prefix.{words}
 use Rattle.routes.specs.List.{stepOf, listOf}
 use Rattle.routes.proofs.ListLaws.{sound, turn-took, turn-refused}
-use Rattle.routes.specs.Size.{sized}
-use Rattle.route_reader.specs.Words.{Octets}
+use Rattle.routes.specs.Promises.{sized}
+use Rattle.route_reader.specs.Private.{Octets}
 use Rattle.route_reader.proofs.FillLaws.{Turn, turn-by}
 use borrow.Author.Needs.{needs}
 use Rattle.route_reader.proofs.guess_short.Statement.{statement}

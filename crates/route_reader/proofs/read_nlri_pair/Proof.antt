@@ -1,6 +1,6 @@
 use mathlib.Core.Path.{refl, sym, _∙_}
 use borrow.Author.Tests.{not-true, not-false}
-use Rattle.route_reader.specs.Pair.{pairAnswer}
+use Rattle.route_reader.specs.Pair.{readPair}
 use Rattle.route_reader.proofs.PairLaws.{pair-first, pair-second, pair-both}
 use borrow.Author.Needs.{needs}
 use Rattle.route_reader.proofs.read_nlri_pair.Statement.{statement}
@@ -16,14 +16,14 @@ has-room-requires : tie.Need-has-room-requires
 has-room-requires c κs = search needs
 
 returns : tie.Need-returns
-unfolding pairAnswer
+unfolding readPair
 returns c = (rw (← c .before .before .before .count-nlri .ensures, ← c .before .before .count-nlri2 .ensures) (sym (pair-first _ _ _ _ (sym (c .before .has-room .ensures) ∙ not-true _ (c .if1 .taken)))), (refl, refl))
 
 has-room-requires-2 : tie.Need-has-room-requires-2
 has-room-requires-2 c κs = search needs
 
 returns-2 : tie.Need-returns-2
-unfolding pairAnswer
+unfolding readPair
 returns-2 c = (
   rw (← c .before .before .before .before .before .count-nlri .ensures, ← c .before .before .before .before .count-nlri2 .ensures)
       (sym (pair-second _ _ _ _ (sym (c .before .before .before .has-room .ensures) ∙ not-false _ (c .before .before .if1 .left)) (sym (c .before .has-room2 .ensures) ∙ not-true _ (c .if2 .taken)))),
@@ -43,7 +43,7 @@ same-length-2 : tie.Need-same-length-2
 same-length-2 c = search needs
 
 returns-3 : tie.Need-returns-3
-unfolding pairAnswer
+unfolding readPair
 returns-3 c =
     let one = sym (c .before .before .before .before .before .before .before .before .before .before .before .has-room .ensures) ∙ not-false _ (c .before .before .before .before .before .before .before .before .before .before .if1 .left) in
     let two = sym (c .before .before .before .before .before .before .before .before .before .has-room2 .ensures) ∙ not-false _ (c .before .before .before .before .before .before .before .before .if2 .left) in

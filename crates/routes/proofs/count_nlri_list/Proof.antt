@@ -4,8 +4,10 @@ use mathlib.Core.Logic.{⊎-elim}
 use Rattle.families.specs.Family.{maxOf}
 use Rattle.routes.specs.declared.ListAnswer.{ListAnswer}
 use Rattle.routes.specs.List.{listOf}
-use Rattle.routes.specs.Promises.{countAnswer, unpacked}
-use Rattle.routes.proofs.ListLaws.{unpacked-count, unpacked-refused}
+use Rattle.wire.specs.Answer.{unpacked}
+use Rattle.wire.proofs.AnswerLaws.{unpacked-count, unpacked-refused}
+use Rattle.routes.specs.declared.ListAnswer.the-variants.{Rows, Refused}
+use Rattle.routes.specs.Promises.{countAnswer}
 use borrow.Author.Needs.{needs}
 use Rattle.routes.proofs.count_nlri_list.Statement.{statement}
 use Rattle.routes.proofs.count_nlri_list.Tie as tie
@@ -32,20 +34,20 @@ cast-t11 : tie.Need-cast-t11
 cast-t11 c = search needs
 
 -- the number, of either family
-number : (c : tie.At-match-came) → let a = c .before .before .args in unpacked (c .match .n) ≡ countAnswer (a .s .now) (listOf (a .s .now) (maxOf (a .afi)) (a .mode))
+number : (c : tie.At-match-came) → let a = c .before .before .args in unpacked Rows Refused (c .match .n) ≡ countAnswer (a .s .now) (listOf (a .s .now) (maxOf (a .afi)) (a .mode))
 number c =
     let a = c .before .before .args in
     let at-max : ℕ → ListAnswer = λ m. countAnswer (a .s .now) (listOf (a .s .now) m (a .mode)) in
     ⊎-elim
-    (λ w. ap unpacked (w .4) ∙ w .3 .ensures ∙ ap at-max (w .2 .ensures ∙ ap maxOf (sym (w .1 .given .1))))
-    (λ w. ap unpacked (w .4) ∙ w .3 .ensures ∙ ap at-max (w .2 .ensures ∙ ap maxOf (sym (w .1 .given .1))))
+    (λ w. ap (unpacked Rows Refused) (w .4) ∙ w .3 .ensures ∙ ap at-max (w .2 .ensures ∙ ap maxOf (sym (w .1 .given .1))))
+    (λ w. ap (unpacked Rows Refused) (w .4) ∙ w .3 .ensures ∙ ap at-max (w .2 .ensures ∙ ap maxOf (sym (w .1 .given .1))))
     (c .match .came)
 
 returns : tie.Need-returns
-returns c = sym (unpacked-refused _ (c .before .if1 .taken)) ∙ number (c .before .before)
+returns c = sym (unpacked-refused Rows Refused _ (c .before .if1 .taken)) ∙ number (c .before .before)
 
 returns-2 : tie.Need-returns-2
-returns-2 c = sym (unpacked-count _ (c .before .if1 .left)) ∙ number (c .before .before)
+returns-2 c = sym (unpacked-count Rows Refused _ (c .before .if1 .left)) ∙ number (c .before .before)
 
 pub count-nlri-list-spec : {M : Type 1} → statement M
 count-nlri-list-spec =

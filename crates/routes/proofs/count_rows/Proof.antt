@@ -2,7 +2,9 @@ use mathlib.Core.Path.{sym, _∙_}
 use native.Mathlib.Omega.{arith}
 use Rattle.wire.specs.Refusal.{tooLong}
 use Rattle.routes.specs.List.{listOf}
-use Rattle.routes.proofs.ListLaws.{unpacked-refused, count-long}
+use Rattle.wire.proofs.AnswerLaws.{unpacked-refused}
+use Rattle.routes.specs.declared.ListAnswer.the-variants.{Rows, Refused}
+use Rattle.routes.proofs.ListLaws.{count-long}
 use borrow.Author.Needs.{needs}
 use Rattle.routes.proofs.count_rows.Statement.{statement}
 use Rattle.routes.proofs.count_rows.Tie as tie
@@ -11,7 +13,7 @@ cast-result : tie.Need-cast-result
 cast-result c = search needs
 
 returns : tie.Need-returns
-returns c = let a = c .before .before .args in unpacked-refused tooLong (omega arith) ∙ sym (count-long (a .s .now) (listOf (a .s .now) (a .max) (a .mode)) (c .if1 .taken))
+returns c = let a = c .before .before .args in unpacked-refused Rows Refused tooLong (omega arith) ∙ sym (count-long (a .s .now) (listOf (a .s .now) (a .max) (a .mode)) (c .if1 .taken))
 
 enum-told : tie.Need-enum-told
 enum-told c = search needs

@@ -5,7 +5,7 @@ use lib.ListN.{getD}
 use Rattle.families.specs.Family.{idSize, octets}
 use Rattle.routes.specs.Prefix.{itemEnd}
 use Rattle.routes.proofs.PrefixLaws.{prefix-none, prefix-long, prefix-short, took-prefix}
-use Rattle.routes.specs.Size.{sizeOf}
+use Rattle.routes.specs.Private.{sizeOf}
 use borrow.Author.Needs.{needs}
 use Rattle.routes.proofs.front_size.Statement.{statement}
 use Rattle.routes.proofs.front_size.Tie as tie

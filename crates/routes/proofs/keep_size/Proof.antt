@@ -1,6 +1,6 @@
 use mathlib.Core.Path.{sym, ap}
 use Rattle.routes.specs.declared.SizeAnswer.{SizeAnswer}
-use Rattle.routes.specs.Size.{kept}
+use Rattle.routes.specs.Private.{kept}
 use borrow.Author.Needs.{needs}
 use Rattle.routes.proofs.keep_size.Statement.{statement}
 use Rattle.routes.proofs.keep_size.Tie as tie
