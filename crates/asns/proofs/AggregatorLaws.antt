@@ -13,7 +13,8 @@ use Rattle.wire.proofs.NumberLaws.{length-toBe}
 use Rattle.wire.specs.Refusal.{tooLong, aggregatorLength, noRoom, wideNumber, listLimit}
 use Rattle.wire.specs.Store.{laid, placed}
 use Rattle.wire.proofs.StoreLaws.{placed-fits, laid-laid, length-laid}
-use Rattle.asns.specs.Asn.{widthOf, fitsWidth, withNumber, written}
+use Rattle.wire.specs.Answer.{filled, writeMeaning}
+use Rattle.asns.specs.Asn.{widthOf, fitsWidth, withNumber}
 use Rattle.asns.proofs.AsnLaws.{put-room}
 use Rattle.asns.specs.Aggregator.{unlike, aggregatorIn, aggregatorOf, aggregatorBytes, aggregatorWritten, aggregatorLeft}
 use Rattle.asns.specs.declared.AsnLength.{AsnLength}
@@ -55,36 +56,37 @@ module _ (asn identifier : ℕ) (width : AsnLength) where
   bytes-length =
       length-append (toBe (widthOf width) asn) (toBe 4 identifier) ∙ ap (λ (k : ℕ). k + 4) (length-toBe (widthOf width) asn)
 
-  module _ (out : List ℕ) where
-    -- an answer, and the output that goes with it
-    pub leave : (x : WriteAnswer) → aggregatorWritten asn identifier width (length out) ≡ x
-        → (x ≡ aggregatorWritten asn identifier width (length out)) × (written x (aggregatorBytes width asn identifier) out ≡ aggregatorLeft asn identifier width out)
-    unfolding aggregatorLeft
-    leave x e = (sym e, ap (λ (y : WriteAnswer). written y (aggregatorBytes width asn identifier) out) (sym e))
-
-    pub too-wide : fitsWidth asn width ≡ false → aggregatorWritten asn identifier width (length out) ≡ W.Refused wideNumber
+  module _ (places : ℕ) where
+    pub too-wide : fitsWidth asn width ≡ false → aggregatorWritten asn identifier width places ≡ W.Refused wideNumber
     unfolding aggregatorWritten
     too-wide e = rw e
 
-    pub no-place : fitsWidth asn width ≡ true → length out < widthOf width + 4 → aggregatorWritten asn identifier width (length out) ≡ W.Refused noRoom
+    pub no-place : fitsWidth asn width ≡ true → places < widthOf width + 4 → aggregatorWritten asn identifier width places ≡ W.Refused noRoom
     unfolding aggregatorWritten
-    no-place e h = rw (e, bytes-length, lt-leb (widthOf width + 4) (length out) h)
+    no-place e h = rw (e, bytes-length, lt-leb (widthOf width + 4) places h)
 
-    module _ (e : fitsWidth asn width ≡ true) (h : widthOf width + 4 ≤ length out) where
-      pub all-written : aggregatorWritten asn identifier width (length out) ≡ W.Bytes (widthOf width + 4)
-      unfolding aggregatorWritten
-      all-written = rw (e, bytes-length, le-leb (widthOf width + 4) (length out) h)
+    pub all-written : fitsWidth asn width ≡ true → widthOf width + 4 ≤ places → aggregatorWritten asn identifier width places ≡ W.Bytes (widthOf width + 4)
+    unfolding aggregatorWritten
+    all-written e h = rw (e, bytes-length, le-leb (widthOf width + 4) places h)
 
-      -- the number, and the identifier after it
-      pub both-put : placed (withNumber out 0 asn width) (widthOf width) (take 4 (toBe 4 identifier)) ≡ laid out 0 (aggregatorBytes width asn identifier)
-      unfolding aggregatorBytes
-      both-put =
-          let w : ℕ = widthOf width in
-          let n : List ℕ = toBe w asn in
-          let size : length n ≡ w = length-toBe w asn in
-          let place : w ≡ 0 + length n = omega (arith, size) in
-          let fit : 0 + length n ≤ length out = omega (arith, size) in
-          ap₂ (λ (d l : List ℕ). placed d w l) (put-room out 0 asn width e (omega arith)) (take-all 4 (toBe 4 identifier) (omega arith))
-          ∙ placed-fits (laid out 0 n) w (toBe 4 identifier) (omega (arith, length-laid out 0 n fit))
-          ∙ ap (λ (k : ℕ). laid (laid out 0 n) k (toBe 4 identifier)) place
-          ∙ laid-laid out 0 n (toBe 4 identifier) (omega (arith, size))
+  module _ (out : List ℕ) where
+    -- an answer, and the output that goes with it
+    pub leave : (x : WriteAnswer) → aggregatorWritten asn identifier width (length out) ≡ x
+        → (x ≡ aggregatorWritten asn identifier width (length out)) × (filled (writeMeaning x) (aggregatorBytes width asn identifier) out ≡ aggregatorLeft asn identifier width out)
+    unfolding aggregatorLeft
+    leave x e = (sym e, ap (λ (y : WriteAnswer). filled (writeMeaning y) (aggregatorBytes width asn identifier) out) (sym e))
+
+    -- the number, and the identifier after it
+    pub both-put : fitsWidth asn width ≡ true → widthOf width + 4 ≤ length out
+        → placed (withNumber out 0 asn width) (widthOf width) (take 4 (toBe 4 identifier)) ≡ laid out 0 (aggregatorBytes width asn identifier)
+    unfolding aggregatorBytes
+    both-put e h =
+        let w : ℕ = widthOf width in
+        let n : List ℕ = toBe w asn in
+        let size : length n ≡ w = length-toBe w asn in
+        let place : w ≡ 0 + length n = omega (arith, size) in
+        let fit : 0 + length n ≤ length out = omega (arith, size) in
+        ap₂ (λ (d l : List ℕ). placed d w l) (put-room out 0 asn width e (omega arith)) (take-all 4 (toBe 4 identifier) (omega arith))
+        ∙ placed-fits (laid out 0 n) w (toBe 4 identifier) (omega (arith, length-laid out 0 n fit))
+        ∙ ap (λ (k : ℕ). laid (laid out 0 n) k (toBe 4 identifier)) place
+        ∙ laid-laid out 0 n (toBe 4 identifier) (omega (arith, size))

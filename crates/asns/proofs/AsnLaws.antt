@@ -1,18 +1,19 @@
 -- Laws of AS numbers as bytes, over the width.
 -- Assumes nothing.
 use Prim.Native.Nat.{ℕ, zero, suc, _+_, _-_, _*_, _^_, _≤_, _<_}
-use mathlib.Core.Path.{_≡_, sym, _∙_}
-use mathlib.Core.List.{List}
+use mathlib.Core.Path.{_≡_, sym, ap, _∙_}
+use mathlib.Core.List.{List, _++_}
 use mathlib.Core.Bool.{true, false}
 use native.Mathlib.Nat.{not-suc-le-zero, zero-mul, suc-mul}
 use native.Mathlib.Numerals.{sub-one}
 use native.Mathlib.Omega.{arith}
 use borrow.Author.Tests.{le-leb, lt-leb, leb-true, ltb-true}
 use lib.Dec.{leb}
-use lib.ListN.{length}
+use lib.ListN.{length, length-append}
+use lib.Seq.{take-at, drop-at}
 use Rattle.wire.proofs.ChoiceLaws.{and-true}
-use Rattle.wire.specs.Number.{toBe}
-use Rattle.wire.proofs.NumberLaws.{length-toBe}
+use Rattle.wire.specs.Number.{be, toBe, padded, beAt}
+use Rattle.wire.proofs.NumberLaws.{length-toBe, be-toBe, padded-take}
 use Rattle.wire.specs.Store.{laid, placed}
 use Rattle.wire.proofs.StoreLaws.{placed-fits}
 use Rattle.asns.specs.Asn.{widthOf, span, eightFor, fitsWidth, withNumber}
@@ -61,6 +62,17 @@ fits-lt asn width e = ltb-true asn (256 ^ widthOf width) e
 -- every number of 32 bits fits four bytes
 pub fits-four : (asn : ℕ) → asn < 2 ^ 32 → fitsWidth asn Bits32 ≡ true
 fits-four asn h = le-leb _ _ h
+
+-- ---- a number read again
+
+-- the number whose bytes stand after s, whatever follows them
+pub number-back : (s : List ℕ) (at w v : ℕ) (t : List ℕ) → length s ≡ at → v < 256 ^ w → beAt (s ++ (toBe w v ++ t)) at w ≡ v
+unfolding beAt
+number-back s at w v t e h =
+    let n : length (toBe w v) ≡ w = length-toBe w v in
+    ap (λ (l : List ℕ). be (padded w l)) (drop-at s (toBe w v ++ t) at e)
+    ∙ ap be (padded-take w (toBe w v ++ t) (omega (arith, n, length-append (toBe w v) t)) ∙ take-at (toBe w v) t w n)
+    ∙ be-toBe w v h
 
 -- ---- a number put
 

@@ -1,2 +1,4 @@
 pub mod AsnLaws
 pub mod AggregatorLaws
+pub mod RoundTrip
+pub mod Tight

@@ -1,13 +1,14 @@
 -- AGGREGATOR. RFC 4271 section 4.3: an AS number of two octets and an identifier of four. RFC 6793 section 4.1: an AS number of four.
 use Prim.Native.Nat.{ℕ}
-use mathlib.Core.List.{List, _++_}
+use mathlib.Core.List.{List, [], _∷_, _++_}
 use mathlib.Core.Bool.{Bool, true, false}
 use lib.ListN.{length}
 use lib.Dec.{leb, eqb}
 use Rattle.wire.specs.Choice.{pick}
 use Rattle.wire.specs.Number.{beAt, toBe}
 use Rattle.wire.specs.Refusal.{tooLong, aggregatorLength, noRoom, wideNumber, listLimit}
-use Rattle.asns.specs.Asn.{widthOf, fitsWidth, written}
+use Rattle.wire.specs.Answer.{Answer, given, refusal, filled, writeMeaning}
+use Rattle.asns.specs.Asn.{widthOf, fitsWidth}
 use Rattle.asns.specs.declared.AsnLength.{AsnLength}
 use Rattle.asns.specs.declared.AsnLength.the-variants.{Bits16, Bits32}
 use Rattle.asns.specs.declared.AggregatorAnswer.{AggregatorAnswer}
@@ -16,6 +17,11 @@ use Rattle.wire.specs.declared.WriteAnswer.{WriteAnswer}
 use Rattle.wire.specs.declared.WriteAnswer.the-variants as W
 
 -- ---- reading
+
+-- the number, the identifier, and 1 where the width is not the configured one
+abbrev pub aggregatorMeaning : AggregatorAnswer → Answer
+aggregatorMeaning (A.Aggregator asn identifier differs) = given (asn ∷ identifier ∷ pick differs 1 0 ∷ [])
+aggregatorMeaning (A.Refused n) = refusal n
 
 -- the width found is not the one configured
 abbrev pub unlike : AsnLength → AsnLength → Bool
@@ -50,4 +56,4 @@ aggregatorWritten asn identifier width places =
 
 -- the output afterwards
 unfoldable pub aggregatorLeft : ℕ → ℕ → AsnLength → List ℕ → List ℕ
-aggregatorLeft asn identifier width out = written (aggregatorWritten asn identifier width (length out)) (aggregatorBytes width asn identifier) out
+aggregatorLeft asn identifier width out = filled (writeMeaning (aggregatorWritten asn identifier width (length out))) (aggregatorBytes width asn identifier) out

@@ -5,11 +5,9 @@ use mathlib.Core.Bool.{Bool, _&&_}
 use lib.Dec.{ltb, leb}
 use Rattle.wire.specs.Choice.{pick}
 use Rattle.wire.specs.Number.{toBe}
-use Rattle.wire.specs.Store.{laid, placed}
+use Rattle.wire.specs.Store.{placed}
 use Rattle.asns.specs.declared.AsnLength.{AsnLength}
 use Rattle.asns.specs.declared.AsnLength.the-variants.{Bits16, Bits32}
-use Rattle.wire.specs.declared.WriteAnswer.{WriteAnswer}
-use Rattle.wire.specs.declared.WriteAnswer.the-variants as W
 
 -- the bytes of an AS number
 abbrev pub widthOf : AsnLength → ℕ
@@ -32,8 +30,3 @@ fitsWidth asn width = ltb asn (256 ^ widthOf width)
 -- an output with the number at a place, where the width holds it and there is room
 unfoldable pub withNumber : List ℕ → ℕ → ℕ → AsnLength → List ℕ
 withNumber out to asn width = pick (fitsWidth asn width) (placed out to (toBe (widthOf width) asn)) out
-
--- an output afterwards: the bytes from its front where they were written, and else as it was
-abbrev pub written : WriteAnswer → List ℕ → List ℕ → List ℕ
-written (W.Bytes n) bytes out = laid out 0 bytes
-written (W.Refused n) bytes out = out

@@ -4,7 +4,6 @@ use Prim.Native.Nat.{ℕ, _+_, _-_, _≤_, _<_}
 use mathlib.Core.Path.{_≡_, refl, sym, ap, ap₂, _∙_}
 use mathlib.Core.List.{List, [], _∷_, _++_}
 use mathlib.Core.Bool.{true}
-use native.Mathlib.Nat.{not-suc-le-zero}
 use native.Mathlib.Omega.{arith}
 use borrow.Author.Tests.{leb-true, le-leb, eqb-true}
 use lib.ListN.{length, getD, take, drop, length-append, length-drop, take-append-drop}
@@ -12,20 +11,18 @@ use lib.Seq.{length-take-le, take-at, drop-at}
 use lib.Dec.{leb}
 use Rattle.wire.specs.Walk.{took, Reading, more, readAll, flat}
 use Rattle.wire.proofs.WalkLaws.{all-nil, all-took, all-ind}
+use Rattle.wire.specs.Cutting.{Each, none, one}
 use Rattle.paths.specs.Segment.{Segment, Rule, pairOf, asnsOf}
+use Rattle.paths.proofs.FormedLaws.{two-more}
 use Rattle.path_writer.specs.Write.{addsUp, allFit, mostNumbers, lentOf, lentPath}
 use Rattle.path_writer.proofs.WriteLaws.{fit-append, holds, adds-pair, fault-none, none-fault, lent-took, took-lent, lent-names, lent-sound}
 
 -- ---- segments that can be written
 
-pub record Writable (rule : Rule) (w : ℕ) (g : Segment) : Type 0 where
+pub record WritableSegment (rule : Rule) (w : ℕ) (g : Segment) : Type 0 where
   pub fine : rule (g .kind) (length (g .asns)) ≡ 0
   pub short : length (g .asns) ≤ mostNumbers
   pub fit : allFit w (g .asns) ≡ true
-
-pub data AllWritable (rule : Rule) (w : ℕ) : List Segment → Type 0 where
-  none : AllWritable rule w []
-  one : {g : Segment} {rows : List Segment} → Writable rule w g → AllWritable rule w rows → AllWritable rule w (g ∷ rows)
 
 -- ---- what is lent, where it adds up and nothing stands against it, is what its segments are lent as
 
@@ -33,16 +30,11 @@ empty : (l : List ℕ) → length l ≡ 0 → [] ≡ l
 empty [] e = refl
 empty (x ∷ l) e = absurd (omega (arith, e))
 
-pub two-more : (s : List ℕ) → 2 ≤ length s → getD s 0 0 ∷ getD s 1 0 ∷ drop 2 s ≡ s
-two-more [] h = absurd (not-suc-le-zero h)
-two-more (x ∷ []) h = absurd (omega arith)
-two-more (x ∷ y ∷ s) h = refl
-
 module _ (rule : Rule) (w : ℕ) where
   -- what a good reading of pairs and numbers says
   abbrev Back : List ℕ → List ℕ → Reading Segment → Type 0
   Back numbers pairs r =
-      addsUp pairs (length numbers) ≡ true → r .verdict ≡ 0 → AllWritable rule w (r .rows) × (flat pairOf (r .rows) ≡ pairs) × (flat asnsOf (r .rows) ≡ numbers)
+      addsUp pairs (length numbers) ≡ true → r .verdict ≡ 0 → Each (WritableSegment rule w) (r .rows) × (flat pairOf (r .rows) ≡ pairs) × (flat asnsOf (r .rows) ≡ numbers)
 
   back-took : (st st′ s : List ℕ) (used : ℕ) (g : Segment) → lentOf rule w st s ≡ took used g st′
       → Back st′ (drop used s) (readAll (lentOf rule w) st′ (drop used s)) → Back st s (more g (readAll (lentOf rule w) st′ (drop used s)))
@@ -59,7 +51,7 @@ module _ (rule : Rule) (w : ℕ) where
       let rest = ih (ap₂ (λ (u k : ℕ). addsUp (drop u s) k) (t .size) left ∙ sums .1) v in
       let f = fault-none rule w (getD s 0 0) c (take c st) (t .fine) in
       let kind-is : g .kind ≡ getD s 0 0 = ap (λ (h : Segment). h .kind) (t .is) in
-      let good : Writable rule w g = record {
+      let good : WritableSegment rule w g = record {
         fine = ap₂ rule kind-is len ∙ f .0;
         short = omega (arith, len, f .1);
         fit = ap (allFit w) asns-is ∙ f .2;
@@ -71,7 +63,7 @@ module _ (rule : Rule) (w : ℕ) where
       )
 
   pub lent-back : (pairs numbers : List ℕ) → addsUp pairs (length numbers) ≡ true → lentPath rule w pairs numbers .verdict ≡ 0
-      → AllWritable rule w (lentPath rule w pairs numbers .rows)
+      → Each (WritableSegment rule w) (lentPath rule w pairs numbers .rows)
       × (flat pairOf (lentPath rule w pairs numbers .rows) ≡ pairs)
       × (flat asnsOf (lentPath rule w pairs numbers .rows) ≡ numbers)
   unfolding lentPath flat addsUp
@@ -83,7 +75,7 @@ module _ (rule : Rule) (w : ℕ) where
       numbers pairs
 
   -- so each number fits
-  rows-fit : (rows : List Segment) → AllWritable rule w rows → allFit w (flat asnsOf rows) ≡ true
+  rows-fit : (rows : List Segment) → Each (WritableSegment rule w) rows → allFit w (flat asnsOf rows) ≡ true
   unfolding flat allFit
   rows-fit [] none = refl
   rows-fit (g ∷ rows) (one r rs) = fit-append w (g .asns) (flat asnsOf rows) (r .fit) (rows-fit rows rs)
@@ -102,13 +94,13 @@ module _ (rule : Rule) (w : ℕ) where
     tail-is : drop (length (asnsOf g)) (asnsOf g ++ ns) ≡ ns
     tail-is = drop-at (asnsOf g) ns (length (asnsOf g)) refl
 
-    pub lend-one : Writable rule w g → lentOf rule w (asnsOf g ++ ns) (pairOf g ++ ps) ≡ took 2 g ns
+    pub lend-one : WritableSegment rule w g → lentOf rule w (asnsOf g ++ ns) (pairOf g ++ ps) ≡ took 2 g ns
     lend-one h =
         let fault = none-fault rule w (g .kind) (length (asnsOf g)) (asnsOf g) (h .fine) (h .short) (h .fit) in
         took-lent rule w (asnsOf g ++ ns) (pairOf g ++ ps) (omega arith) (sym (rw head-is fault))
         ∙ ap₂ (λ (a l : List ℕ). took 2 (record { kind = g .kind; asns = a }) l) head-is tail-is
 
-  pub lend : (rows : List Segment) → AllWritable rule w rows
+  pub lend : (rows : List Segment) → Each (WritableSegment rule w) rows
       → (lentPath rule w (flat pairOf rows) (flat asnsOf rows) ≡ record { rows = rows; verdict = 0 }) × (addsUp (flat pairOf rows) (length (flat asnsOf rows)) ≡ true)
   unfolding lentPath flat addsUp
   lend [] none = (all-nil (lentOf rule w) [], refl)

@@ -5,4 +5,4 @@ pub mod Lent
 pub mod PromiseLaws
 pub mod RoundTrip
 pub mod RuleTheorems
-pub mod Theorems
+pub mod Tight

@@ -6,27 +6,27 @@ use mathlib.Core.List.{List}
 use mathlib.Core.Bool.{Bool, true, false}
 use native.Mathlib.Nat.{not-suc-le-zero}
 use native.Mathlib.Omega.{arith}
-use borrow.Author.Tests.{le-leb, lt-leb}
 use lib.ListN.{length}
 use Rattle.wire.specs.Refusal.{tooLong, noRoom, notWritable, listLimit}
 use Rattle.wire.specs.Choice.{pick}
-use Rattle.wire.proofs.ChoiceLaws.{pick-leb}
 use Rattle.wire.specs.Store.{laid}
-use Rattle.asns.specs.Asn.{span, written}
+use Rattle.wire.specs.Answer.{filled, answerBy, writeMeaning, limited}
+use Rattle.wire.proofs.AnswerLaws.{limited-long, limited-full, limited-fits, limited-bytes}
+use Rattle.asns.specs.Asn.{span}
 use Rattle.paths.specs.Segment.{Rule}
 use Rattle.wire.specs.declared.WriteAnswer.{WriteAnswer}
 use Rattle.wire.specs.declared.WriteAnswer.the-variants as W
 use Rattle.path_writer.specs.Write.{addsUp, lentPath}
 use Rattle.path_writer.proofs.WriteLaws.{path-length}
 use Rattle.path_writer.proofs.Lent.{lent-back}
-use Rattle.path_writer.specs.Promises.{sizedBy, bytesOf, encodeAnswer, encodeLeft}
+use Rattle.path_writer.specs.Promises.{bytesOf, encodeAnswer, encodeLeft}
 
 module _ (rule : Rule) (w : ℕ) (pairs numbers : List ℕ) where
   -- an answer, and the output that goes with it
   pub leave : (out : List ℕ) (x : WriteAnswer) → encodeAnswer rule w pairs numbers (length out) ≡ x
-      → (x ≡ encodeAnswer rule w pairs numbers (length out)) × (written x (bytesOf rule w pairs numbers) out ≡ encodeLeft rule w pairs numbers out)
+      → (x ≡ encodeAnswer rule w pairs numbers (length out)) × (filled (writeMeaning x) (bytesOf rule w pairs numbers) out ≡ encodeLeft rule w pairs numbers out)
   unfolding encodeLeft
-  leave out x e = (sym e, ap (λ (y : WriteAnswer). written y (bytesOf rule w pairs numbers) out) (sym e))
+  leave out x e = (sym e, ap (λ (y : WriteAnswer). filled (writeMeaning y) (bytesOf rule w pairs numbers) out) (sym e))
 
   module _ (places : ℕ) where
     pub not-whole : addsUp pairs (length numbers) ≡ false → encodeAnswer rule w pairs numbers places ≡ W.Refused notWritable
@@ -47,23 +47,19 @@ module _ (rule : Rule) (w : ℕ) (pairs numbers : List ℕ) where
             let back = lent-back rule w pairs numbers adds (sym good) in
             path-length w (lentPath rule w pairs numbers .rows) ∙ ap₂ (λ (p n : List ℕ). length p + span w (length n)) (back .1) (back .2)
 
-        by-size : (x : WriteAnswer) → sizedBy 0 (length pairs + span w (length numbers)) places ≡ x → encodeAnswer rule w pairs numbers places ≡ x
+        by-size : (x : WriteAnswer) → limited listLimit (length pairs + span w (length numbers)) places ≡ x → encodeAnswer rule w pairs numbers places ≡ x
         unfolding encodeAnswer
         by-size x e = rw (adds, ← good, size-is) e
 
         pub too-long : listLimit < length pairs + span w (length numbers) → encodeAnswer rule w pairs numbers places ≡ W.Refused tooLong
-        too-long h = by-size (W.Refused tooLong) (rw (lt-leb (length pairs + span w (length numbers)) listLimit h) refl)
+        too-long h = by-size _ (limited-long listLimit _ places h)
 
         pub no-place : length pairs + span w (length numbers) ≤ listLimit → places < length pairs + span w (length numbers) → encodeAnswer rule w pairs numbers places ≡ W.Refused noRoom
-        no-place h k =
-            by-size (W.Refused noRoom)
-            (rw (le-leb (length pairs + span w (length numbers)) listLimit h, lt-leb (length pairs + span w (length numbers)) places k) refl)
+        no-place h k = by-size _ (limited-full listLimit _ places h k)
 
         pub all-written : length pairs + span w (length numbers) ≤ listLimit → length pairs + span w (length numbers) ≤ places
             → encodeAnswer rule w pairs numbers places ≡ W.Bytes (length pairs + span w (length numbers))
-        all-written h k =
-            by-size (W.Bytes (length pairs + span w (length numbers)))
-            (rw (le-leb (length pairs + span w (length numbers)) listLimit h, le-leb (length pairs + span w (length numbers)) places k) refl)
+        all-written h k = by-size _ (limited-fits listLimit _ places h k)
 
     -- what an accepted writing says
     pub encode-written : (n : ℕ) → encodeAnswer rule w pairs numbers places ≡ W.Bytes n
@@ -71,16 +67,11 @@ module _ (rule : Rule) (w : ℕ) (pairs numbers : List ℕ) where
     unfolding encodeAnswer
     encode-written n = by-adds (addsUp pairs (length numbers))
       where
-        by-verdict : (v size : ℕ) → sizedBy v size places ≡ W.Bytes n → (v ≡ 0) × (size ≡ n) × (n ≤ listLimit) × (n ≤ places)
-        by-verdict zero size =
-            pick-leb (λ (x : WriteAnswer). x ≡ W.Bytes n → (_≡_ {A = ℕ} 0 0) × (size ≡ n) × (n ≤ listLimit) × (n ≤ places)) size listLimit _ _
-            (λ h. pick-leb (λ (x : WriteAnswer). x ≡ W.Bytes n → (_≡_ {A = ℕ} 0 0) × (size ≡ n) × (n ≤ listLimit) × (n ≤ places)) size places _ _
-            (λ k e. let a : size ≡ n = cc in (refl, a, rw a at h, rw a at k))
-            (λ _ e. let z : _≡_ {A = ℕ} 0 1 = cc in absurd (omega (arith, z))))
-            (λ _ e. let z : _≡_ {A = ℕ} 0 1 = cc in absurd (omega (arith, z)))
-        by-verdict (suc v) size = λ e. let z : _≡_ {A = ℕ} 0 1 = cc in absurd (omega (arith, z))
+        by-verdict : (v size : ℕ) → answerBy v (limited listLimit size places) W.Refused ≡ W.Bytes n → (v ≡ 0) × (size ≡ n) × (n ≤ listLimit) × (n ≤ places)
+        by-verdict zero size e = let b = limited-bytes listLimit size places n e in (refl, b .2, rw (b .2) at (b .0), rw (b .2) at (b .1))
+        by-verdict (suc v) size e = let z : _≡_ {A = ℕ} 0 1 = cc in absurd (omega (arith, z))
 
-        by-adds : (t : Bool) → pick t (sizedBy (lentPath rule w pairs numbers .verdict) (length (bytesOf rule w pairs numbers)) places) (W.Refused notWritable) ≡ W.Bytes n
+        by-adds : (t : Bool) → pick t (answerBy (lentPath rule w pairs numbers .verdict) (limited listLimit (length (bytesOf rule w pairs numbers)) places) W.Refused) (W.Refused notWritable) ≡ W.Bytes n
             → (t ≡ true) × (lentPath rule w pairs numbers .verdict ≡ 0) × (length (bytesOf rule w pairs numbers) ≡ n) × (n ≤ listLimit) × (n ≤ places)
         by-adds true e = let h = by-verdict (lentPath rule w pairs numbers .verdict) (length (bytesOf rule w pairs numbers)) e in (refl, h .0, h .1, h .2, h .3)
         by-adds false e = let z : _≡_ {A = ℕ} 0 1 = cc in absurd (omega (arith, z))
@@ -88,4 +79,4 @@ module _ (rule : Rule) (w : ℕ) (pairs numbers : List ℕ) where
   -- the output of an accepted writing
   pub written-out : (out : List ℕ) (n : ℕ) → encodeAnswer rule w pairs numbers (length out) ≡ W.Bytes n → encodeLeft rule w pairs numbers out ≡ laid out 0 (bytesOf rule w pairs numbers)
   unfolding encodeLeft
-  written-out out n e = ap (λ (y : WriteAnswer). written y (bytesOf rule w pairs numbers) out) e
+  written-out out n e = ap (λ (y : WriteAnswer). filled (writeMeaning y) (bytesOf rule w pairs numbers) out) e

@@ -1,70 +1,110 @@
--- The five theorems of a path, over any rule and the idea of a segment that it decides, and over the width: the proofs behind Theorems.
+-- What reading and writing a path are, over any rule, the idea of a segment that it is for, and any width: the laws behind the demands.
 -- Assumes nothing.
-use Prim.Native.Nat.{ℕ, _+_, _*_, _≤_}
-use mathlib.Core.Path.{_≡_, sym, ap, ap₂, _∙_}
+use Prim.Native.Nat.{ℕ, _+_, _*_, _/_, _≤_}
+use mathlib.Core.Path.{_≡_, sym, ap, ap₂, subst, _∙_}
 use mathlib.Core.List.{List, map}
 use native.Mathlib.Omega.{arith}
-use lib.ListN.{length, take}
+use lib.ListN.{length, take, length-map}
 use lib.Seq.{take-append-seam}
 use Rattle.wire.specs.Number.{Bytes}
 use Rattle.wire.specs.Refusal.{listLimit}
 use Rattle.wire.specs.Store.{laid}
 use Rattle.wire.specs.Walk.{Reading, flat}
+use Rattle.wire.proofs.WalkLaws.{tally-one, tally-flat}
+use Rattle.wire.specs.Cutting.{Each, Cutting}
+use Rattle.wire.proofs.CuttingLaws as cuttings
 use Rattle.asns.specs.Asn.{span}
-use Rattle.paths.specs.Segment.{Segment, Rule, pathOf, pairOf, asnsOf}
-use Rattle.paths.specs.Promises.{readAnswer, pairsAfter, numbersAfter}
-use Rattle.paths.proofs.PromiseLaws.{read-path, path-read, path-stores, pairs-length}
+use Rattle.paths.specs.Segment.{Segment, Rule, segmentAt, segmentOf, pathOf, pairOf, asnsOf}
+use Rattle.paths.specs.WellFormed.{WellFormed, headOf, asNumbers}
+use Rattle.paths.specs.Promises.{countAnswer, readAnswer, pairsAfter, numbersAfter}
+use Rattle.paths.proofs.FormedLaws.{RuleFor, decides, items-pairs, items-numbers}
+use Rattle.paths.proofs.PromiseLaws.{count-good, count-path, read-path, path-read, path-stores, pairs-length}
 use Rattle.paths.specs.declared.PathAnswer.the-variants.{Path}
 use Rattle.wire.specs.declared.WriteAnswer.the-variants as W
 use Rattle.path_writer.specs.Write.{segmentBytes, lentPath, pathBytes}
-use Rattle.path_writer.proofs.Lent.{lent-back, lend}
+use Rattle.path_writer.proofs.Lent.{WritableSegment, lent-back, lend}
 use Rattle.path_writer.specs.Promises.{bytesOf, encodeAnswer, encodeLeft}
 use Rattle.path_writer.proofs.PromiseLaws.{size-is, all-written, encode-written, written-out}
-use Rattle.path_writer.specs.WellFormed.{Cutting, headOf, asNumbers}
-use Rattle.path_writer.proofs.RoundTrip.{Decides, accepted, path-back, cut-read}
+use Rattle.path_writer.proofs.RoundTrip.{stands}
 
 -- what was laid at the front
 front : (d vs : List ℕ) (n : ℕ) → length vs ≡ n → take n (laid d 0 vs) ≡ vs
 front d vs n e = ap (λ (k : ℕ). take k (laid d 0 vs)) (sym e) ∙ take-append-seam vs _
 
-module _ (rule : Rule) (allowed : ℕ → ℕ → Type 0) (decides : Decides rule allowed) (w : ℕ) where
-  -- what is asked of a store of p pairs' places and q numbers' places, for a cutting
-  abbrev pub Room : List (List ℕ) → ℕ → ℕ → Type 0
-  Room items p q = (2 * length items ≤ p) × (length (flat (asNumbers w) items) ≤ q)
+module _ (rule : Rule) (allowed : ℕ → ℕ → Type 0) (for : RuleFor rule allowed) (w : ℕ) where
+  -- two cuttings of the same bytes are equal
+  pub one-cutting : (s : List ℕ) (items items′ : List (List ℕ)) → Cutting (WellFormed allowed w) s items → Cutting (WellFormed allowed w) s items′ → items ≡ items′
+  one-cutting s items items′ c c′ = cuttings.one-cutting (segmentOf rule w) (WellFormed allowed w) (segmentAt w) (decides rule allowed for w) tt s items items′ c c′
 
   module _ (s : List ℕ) where
-    pub accepted-cut : (p q m n : ℕ) → Bytes s → readAnswer s (pathOf rule w s) p q ≡ Path m n
-        → (items : List (List ℕ)) × Cutting allowed w s items × (length s ≤ listLimit) × Room items p q
-    accepted-cut p q m n b e =
-        let r = read-path s (pathOf rule w s) m n p q e in
-        let a = accepted rule allowed decides w s b (r .1) in
-        let items : List (List ℕ) = map (segmentBytes w) (pathOf rule w s .rows) in
-        let c = cut-read rule allowed decides w s items (a .2) in
-        let same : c .0 ≡ pathOf rule w s .rows = ap (λ (x : Reading Segment). x .rows) (sym (c .1)) in
-        let many : length items ≡ m = sym (c .2 .many) ∙ ap length same ∙ r .2 in
-        let total : length (flat (asNumbers w) items) ≡ n = ap length (sym (c .2 .numbers) ∙ ap (flat asnsOf) same) ∙ r .3 in
-        (items, a .2, r .0, (omega (arith, many, r .4), omega (arith, total, r .5)))
+    -- ---- bytes that can be cut
 
-    module _ (items : List (List ℕ)) (c : Cutting allowed w s items) where
-      pub cut-accepted : (p q : ℕ) → length s ≤ listLimit → Room items p q → readAnswer s (pathOf rule w s) p q ≡ Path (length items) (length (flat (asNumbers w) items))
-      cut-accepted p q short h =
-          let k = cut-read rule allowed decides w s items c in
-          let rows-is : pathOf rule w s .rows ≡ k .0 = ap (λ (x : Reading Segment). x .rows) (k .1) in
-          path-read s (pathOf rule w s) (length items) (length (flat (asNumbers w) items)) p q short (ap (λ (x : Reading Segment). x .verdict) (k .1))
-          (ap length rows-is ∙ k .2 .many) (ap (λ (l : List Segment). length (flat asnsOf l)) rows-is ∙ ap length (k .2 .numbers)) (h .0) (h .1)
+    module _ (items : List (List ℕ)) (c : Cutting (WellFormed allowed w) s items) where
+      cut-path : pathOf rule w s ≡ record { rows = map (segmentAt w) items; verdict = 0 }
+      unfolding pathOf
+      cut-path = cuttings.cut-read (segmentOf rule w) (WellFormed allowed w) (segmentAt w) (decides rule allowed for w) tt s items c
+
+      cut-good : pathOf rule w s .verdict ≡ 0
+      cut-good = ap (λ (r : Reading Segment). r .verdict) cut-path
+
+      cut-rows : pathOf rule w s .rows ≡ map (segmentAt w) items
+      cut-rows = ap (λ (r : Reading Segment). r .rows) cut-path
+
+      cut-many : length (pathOf rule w s .rows) ≡ length items
+      cut-many = ap length cut-rows ∙ length-map items (segmentAt w)
+
+      cut-pairs : flat pairOf (pathOf rule w s .rows) ≡ flat headOf items
+      cut-pairs = ap (flat pairOf) cut-rows ∙ items-pairs rule allowed for w items
+
+      cut-numbers : flat asnsOf (pathOf rule w s .rows) ≡ flat (asNumbers w) items
+      cut-numbers = ap (flat asnsOf) cut-rows ∙ items-numbers rule allowed for w items (c .each)
+
+      pub cut-counted : length s ≤ listLimit → countAnswer s (pathOf rule w s) ≡ Path (length items) (length (flat (asNumbers w) items))
+      cut-counted short =
+          sym (count-good s (pathOf rule w s) (length items) (length (flat (asNumbers w) items)) short cut-good
+          (tally-one (pathOf rule w s .rows) ∙ cut-many) (tally-flat asnsOf (pathOf rule w s .rows) ∙ ap length cut-numbers))
+
+      pub cut-accepted : (p q : ℕ) → length s ≤ listLimit → length items ≤ p / 2 → length (flat (asNumbers w) items) ≤ q
+          → readAnswer s (pathOf rule w s) p q ≡ Path (length items) (length (flat (asNumbers w) items))
+      cut-accepted p q short h k = path-read s (pathOf rule w s) (length items) (length (flat (asNumbers w) items)) p q short cut-good cut-many (ap length cut-numbers) h k
 
       pub cut-stores : (pairs numbers : List ℕ) (m n : ℕ) → readAnswer s (pathOf rule w s) (length pairs) (length numbers) ≡ Path m n
           → (m ≡ length items) × (n ≡ length (flat (asNumbers w) items))
           × (pairsAfter s (pathOf rule w s) pairs (length numbers) ≡ laid pairs 0 (flat headOf items))
           × (numbersAfter s (pathOf rule w s) (length pairs) numbers ≡ laid numbers 0 (flat (asNumbers w) items))
       cut-stores pairs numbers m n e =
-          let k = cut-read rule allowed decides w s items c in
           let r = read-path s (pathOf rule w s) m n (length pairs) (length numbers) e in
-          let rows-is : pathOf rule w s .rows ≡ k .0 = ap (λ (x : Reading Segment). x .rows) (k .1) in
-          let pairs-is : flat pairOf (pathOf rule w s .rows) ≡ flat headOf items = ap (flat pairOf) rows-is ∙ k .2 .pairs in
-          let numbers-is : flat asnsOf (pathOf rule w s .rows) ≡ flat (asNumbers w) items = ap (flat asnsOf) rows-is ∙ k .2 .numbers in
           let st = path-stores s (pathOf rule w s) pairs numbers m n e in
-          (sym (r .2) ∙ ap length rows-is ∙ k .2 .many, sym (r .3) ∙ ap length numbers-is, st .0 ∙ ap (laid pairs 0) pairs-is, st .1 ∙ ap (laid numbers 0) numbers-is)
+          (sym (r .2) ∙ cut-many, sym (r .3) ∙ ap length cut-numbers, st .0 ∙ ap (laid pairs 0) cut-pairs, st .1 ∙ ap (laid numbers 0) cut-numbers)
+
+    -- ---- bytes that are accepted
+
+    path-cut : pathOf rule w s .verdict ≡ 0 → (items : List (List ℕ)) × Cutting (WellFormed allowed w) s items
+    unfolding pathOf
+    path-cut v = cuttings.read-cut (segmentOf rule w) (WellFormed allowed w) (segmentAt w) (decides rule allowed for w) tt s v
+
+    pub counted-cut : (m n : ℕ) → countAnswer s (pathOf rule w s) ≡ Path m n
+        → (items : List (List ℕ)) × Cutting (WellFormed allowed w) s items × (length items ≡ m) × (length (flat (asNumbers w) items) ≡ n) × (length s ≤ listLimit)
+    counted-cut m n e =
+        let r = count-path s (pathOf rule w s) m n e in
+        let k = path-cut (r .1) in
+        (k .0, k .1, sym (cut-many (k .0) (k .1)) ∙ r .2, ap length (sym (cut-numbers (k .0) (k .1))) ∙ r .3, r .0)
+
+    pub accepted-cut : (p q m n : ℕ) → readAnswer s (pathOf rule w s) p q ≡ Path m n
+        → (items : List (List ℕ)) × Cutting (WellFormed allowed w) s items × (length items ≡ m) × (length (flat (asNumbers w) items) ≡ n) × (length s ≤ listLimit) × (m ≤ p / 2) × (n ≤ q)
+    accepted-cut p q m n e =
+        let r = read-path s (pathOf rule w s) m n p q e in
+        let k = path-cut (r .1) in
+        (k .0, k .1, sym (cut-many (k .0) (k .1)) ∙ r .2, ap length (sym (cut-numbers (k .0) (k .1))) ∙ r .3, r .0, r .4, r .5)
+
+    -- its segments can be written, and are written as it
+    accepted : Bytes s → pathOf rule w s .verdict ≡ 0 → Each (WritableSegment rule w) (pathOf rule w s .rows) × (pathBytes w (pathOf rule w s .rows) ≡ s)
+    unfolding pathBytes
+    accepted b v =
+        let k = path-cut v in
+        let rows-is = cut-rows (k .0) (k .1) in
+        let h = cuttings.items-written (WellFormed allowed w) (segmentAt w) (WritableSegment rule w) (segmentBytes w) (stands rule allowed for w) (k .0) (k .1 .each) (subst Bytes (sym (k .1 .whole)) b) in
+        (subst (Each (WritableSegment rule w)) (sym rows-is) (h .0), ap (flat (segmentBytes w)) rows-is ∙ h .2 ∙ k .1 .whole)
 
     -- ---- writing what was read
 
@@ -77,7 +117,7 @@ module _ (rule : Rule) (allowed : ℕ → ℕ → Type 0) (decides : Decides rul
       read-written out room =
           let rows : List Segment = pathOf rule w s .rows in
           let r = read-path s (pathOf rule w s) m n (length pairs) (length numbers) e in
-          let a = accepted rule allowed decides w s b (r .1) in
+          let a = accepted b (r .1) in
           let st = path-stores s (pathOf rule w s) pairs numbers m n e in
           let p : List ℕ = flat pairOf rows in
           let q : List ℕ = flat asnsOf rows in
@@ -95,6 +135,11 @@ module _ (rule : Rule) (allowed : ℕ → ℕ → Type 0) (decides : Decides rul
 
   -- ---- what is written stands for one input alone
 
+  same-segments : (rows rows′ : List Segment) → Each (WritableSegment rule w) rows → Each (WritableSegment rule w) rows′ → pathBytes w rows ≡ pathBytes w rows′ → rows ≡ rows′
+  unfolding pathBytes
+  same-segments rows rows′ h h′ e =
+      cuttings.same-rows (WellFormed allowed w) (segmentAt w) (WritableSegment rule w) (segmentBytes w) (stands rule allowed for w) (segmentOf rule w) (decides rule allowed for w) tt rows rows′ h h′ e
+
   pub written-once : (pairs numbers out : List ℕ) (n : ℕ) (pairs′ numbers′ out′ : List ℕ) (n′ : ℕ)
       → encodeAnswer rule w pairs numbers (length out) ≡ W.Bytes n → encodeAnswer rule w pairs′ numbers′ (length out′) ≡ W.Bytes n′
       → take n (encodeLeft rule w pairs numbers out) ≡ take n′ (encodeLeft rule w pairs′ numbers′ out′) → (pairs ≡ pairs′) × (numbers ≡ numbers′)
@@ -109,6 +154,5 @@ module _ (rule : Rule) (allowed : ℕ → ℕ → Type 0) (decides : Decides rul
       let bytes : pathBytes w rows ≡ pathBytes w rows′ =
       sym (ap (take n) (written-out rule w pairs numbers out n e) ∙ front out (pathBytes w rows) n (h .2))
       ∙ same ∙ ap (take n′) (written-out rule w pairs′ numbers′ out′ n′ e′) ∙ front out′ (pathBytes w rows′) n′ (h′ .2) in
-      let equal : rows ≡ rows′ =
-      ap (λ (x : Reading Segment). x .rows) (sym (path-back rule w rows (back .0)) ∙ ap (pathOf rule w) bytes ∙ path-back rule w rows′ (back′ .0)) in
+      let equal : rows ≡ rows′ = same-segments rows rows′ (back .0) (back′ .0) bytes in
       (sym (back .1) ∙ ap (flat pairOf) equal ∙ back′ .1, sym (back .2) ∙ ap (flat asnsOf) equal ∙ back′ .2)

@@ -20,7 +20,8 @@ use Rattle.wire.specs.Refusal.{longSegment, wideNumber}
 use Rattle.wire.specs.Walk.{Step, took, stop, flat}
 use Rattle.wire.proofs.WalkLaws.{Sound}
 use Rattle.asns.specs.Asn.{span}
-use Rattle.paths.specs.Segment.{Segment, Rule, judged, pairOf, asnsOf}
+use Rattle.wire.specs.Answer.{answerBy}
+use Rattle.paths.specs.Segment.{Segment, Rule, pairOf, asnsOf}
 use Rattle.asns.proofs.AsnLaws.{span-add}
 use Rattle.path_writer.specs.Write.{segmentBytes, addsUp, allFit, mostNumbers, either, writeFault, lentSegment, lentOf, pathBytes}
 
@@ -201,7 +202,7 @@ module _ (rule : Rule) (w : ℕ) where
     fault : ℕ
     fault = writeFault rule w (getD pairs 0 0) (getD pairs 1 0) (take (getD pairs 1 0) numbers)
 
-    said-judged : (n : ℕ) → 2 ≤ length pairs → fault ≡ n → Said numbers pairs (judged n (took 2 (lentSegment numbers pairs) (drop (getD pairs 1 0) numbers)))
+    said-judged : (n : ℕ) → 2 ≤ length pairs → fault ≡ n → Said numbers pairs (answerBy n (took 2 (lentSegment numbers pairs) (drop (getD pairs 1 0) numbers)) stop)
     unfolding Said fault
     said-judged zero h e = record { there = h; size = refl; fine = e; is = refl; after = refl }
     said-judged (suc n) h e = omega arith

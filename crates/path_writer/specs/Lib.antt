@@ -1,3 +1,2 @@
 pub mod Write
 pub mod Promises
-pub mod WellFormed

@@ -8,7 +8,8 @@ use Rattle.wire.specs.Choice.{pick}
 use Rattle.wire.specs.Number.{toBe}
 use Rattle.wire.specs.Refusal.{longSegment, wideNumber, notWritable}
 use Rattle.wire.specs.Walk.{Step, took, stop, Reading, readAll, flat}
-use Rattle.paths.specs.Segment.{Segment, Rule, judged}
+use Rattle.wire.specs.Answer.{answerBy}
+use Rattle.paths.specs.Segment.{Segment, Rule}
 
 -- the bytes of a segment: its type, its count, and its numbers of w bytes each
 unfoldable pub segmentBytes : ℕ → Segment → List ℕ
@@ -48,7 +49,7 @@ unfoldable pub lentOf : Rule → ℕ → List ℕ → List ℕ → Step (List �
 lentOf rule w numbers pairs =
     let count : ℕ = getD pairs 1 0 in
     pick (leb 2 (length pairs))
-    (judged (writeFault rule w (getD pairs 0 0) count (take count numbers)) (took 2 (lentSegment numbers pairs) (drop count numbers)))
+    (answerBy (writeFault rule w (getD pairs 0 0) count (take count numbers)) (took 2 (lentSegment numbers pairs) (drop count numbers)) stop)
     (stop notWritable)
 
 -- the segments lent before the first that cannot be written, and its refusal number

@@ -1,4 +1,6 @@
 pub mod SegmentLaws
+pub mod FormedLaws
 pub mod NumberTurn
 pub mod PromiseLaws
 pub mod PathTurn
+pub mod Tight

@@ -15,7 +15,7 @@ use Rattle.wire.proofs.Turn.{rest, Counted, count-start, count-step, count-stop
 use Rattle.asns.specs.Asn.{span}
 use Rattle.paths.specs.Segment.{Segment, numbersOf, Rule, segmentAt, segmentOf, pathOf, pairOf, asnsOf}
 use Rattle.paths.proofs.SegmentLaws.{segment-sound, segment-taken, counted-taken, counted-refused, light-segments, light-numbers, length-numbers}
-use Rattle.paths.specs.Size.{countIn}
+use Rattle.paths.specs.Private.{countIn}
 use Rattle.paths.specs.Promises.{countAnswer}
 use Rattle.paths.proofs.PromiseLaws.{count-good, count-bad}
 use Rattle.paths.specs.declared.PathAnswer.the-variants.{Path, Refused}

@@ -7,13 +7,14 @@ use native.Mathlib.Nat.{not-suc-le-zero}
 use native.Mathlib.Omega.{arith}
 use borrow.Author.Tests.{le-leb, lt-leb}
 use lib.ListN.{length}
+use Rattle.wire.specs.Answer.{filled, answerBy}
 use Rattle.wire.proofs.ChoiceLaws.{pick-leb}
 use Rattle.wire.specs.Refusal.{tooLong, noRoom, listLimit}
 use Rattle.wire.specs.Store.{laid}
 use Rattle.wire.specs.Walk.{Reading, tally, flat}
 use Rattle.wire.proofs.WalkLaws.{tally-one, tally-flat, flat-length}
 use Rattle.paths.specs.Segment.{Segment, pairOf, asnsOf}
-use Rattle.paths.specs.Promises.{answerBy, countAnswer, roomed, readAnswer, filled, pairsAfter, numbersAfter}
+use Rattle.paths.specs.Promises.{pathMeaning, countAnswer, inStores, readAnswer, pairsAfter, numbersAfter}
 use Rattle.paths.specs.declared.PathAnswer.{PathAnswer}
 use Rattle.paths.specs.declared.PathAnswer.the-variants.{Path, Refused}
 
@@ -36,7 +37,7 @@ module _ (s : List ℕ) (r : Reading Segment) where
   count-bad (suc n) h v pos = rw (le-leb (length s) listLimit h, v)
 
   -- what a good count says
-  good-by : (v m n m′ n′ : ℕ) → answerBy v m′ n′ ≡ Path m n → (v ≡ 0) × (m′ ≡ m) × (n′ ≡ n)
+  good-by : (v m n m′ n′ : ℕ) → answerBy v (Path m′ n′) Refused ≡ Path m n → (v ≡ 0) × (m′ ≡ m) × (n′ ≡ n)
   good-by zero m n m′ n′ e = (refl, (cc), (cc))
   good-by (suc v) m n m′ n′ e = let z : _≡_ {A = ℕ} 0 1 = cc in absurd (omega (arith, z))
 
@@ -52,14 +53,14 @@ module _ (s : List ℕ) (r : Reading Segment) where
   -- ---- reading
 
   -- an answer, and the stores that go with it
-  pub leave : (pairs numbers : List ℕ) (y x : PathAnswer) → countAnswer s r ≡ y → roomed y (length pairs) (length numbers) ≡ x
+  pub leave : (pairs numbers : List ℕ) (y x : PathAnswer) → countAnswer s r ≡ y → inStores y (length pairs) (length numbers) ≡ x
       → (x ≡ readAnswer s r (length pairs) (length numbers))
-      × ((filled x (flat pairOf (r .rows)) pairs ≡ pairsAfter s r pairs (length numbers))
-      × (filled x (flat asnsOf (r .rows)) numbers ≡ numbersAfter s r (length pairs) numbers))
+      × ((filled (pathMeaning x) (flat pairOf (r .rows)) pairs ≡ pairsAfter s r pairs (length numbers))
+      × (filled (pathMeaning x) (flat asnsOf (r .rows)) numbers ≡ numbersAfter s r (length pairs) numbers))
   unfolding readAnswer pairsAfter numbersAfter
   leave pairs numbers y x counted sized =
-      let e : roomed (countAnswer s r) (length pairs) (length numbers) ≡ x = ap (λ (z : PathAnswer). roomed z (length pairs) (length numbers)) counted ∙ sized in
-      (sym e, (ap (λ (z : PathAnswer). filled z (flat pairOf (r .rows)) pairs) (sym e), ap (λ (z : PathAnswer). filled z (flat asnsOf (r .rows)) numbers) (sym e)))
+      let e : inStores (countAnswer s r) (length pairs) (length numbers) ≡ x = ap (λ (z : PathAnswer). inStores z (length pairs) (length numbers)) counted ∙ sized in
+      (sym e, (ap (λ (z : PathAnswer). filled (pathMeaning z) (flat pairOf (r .rows)) pairs) (sym e), ap (λ (z : PathAnswer). filled (pathMeaning z) (flat asnsOf (r .rows)) numbers) (sym e)))
 
 -- two places for each segment
 pub pairs-length : (rows : List Segment) → length (flat pairOf rows) ≡ 2 * length rows
@@ -67,43 +68,43 @@ pairs-length = flat-length pairOf 2 (λ g. refl)
 
 -- ---- room
 
-pub no-pairs : (m n p q : ℕ) → p / 2 < m → roomed (Path m n) p q ≡ Refused noRoom
+pub no-pairs : (m n p q : ℕ) → p / 2 < m → inStores (Path m n) p q ≡ Refused noRoom
 no-pairs m n p q h = rw (lt-leb m (p / 2) h)
 
-pub no-numbers : (m n p q : ℕ) → m ≤ p / 2 → q < n → roomed (Path m n) p q ≡ Refused noRoom
+pub no-numbers : (m n p q : ℕ) → m ≤ p / 2 → q < n → inStores (Path m n) p q ≡ Refused noRoom
 no-numbers m n p q h k = rw (le-leb m (p / 2) h, lt-leb n q k)
 
-pub room : (m n p q : ℕ) → m ≤ p / 2 → n ≤ q → roomed (Path m n) p q ≡ Path m n
+pub room : (m n p q : ℕ) → m ≤ p / 2 → n ≤ q → inStores (Path m n) p q ≡ Path m n
 room m n p q h k = rw (le-leb m (p / 2) h, le-leb n q k)
 
 -- what an accepted reading says: the count, and room for it
-pub roomed-path : (y : PathAnswer) (m n p q : ℕ) → roomed y p q ≡ Path m n → (y ≡ Path m n) × (m ≤ p / 2) × (n ≤ q)
-roomed-path (Path m′ n′) m n p q =
+pub stores-path : (y : PathAnswer) (m n p q : ℕ) → inStores y p q ≡ Path m n → (y ≡ Path m n) × (m ≤ p / 2) × (n ≤ q)
+stores-path (Path m′ n′) m n p q =
     pick-leb (λ (x : PathAnswer). x ≡ Path m n → (Path m′ n′ ≡ Path m n) × (m ≤ p / 2) × (n ≤ q)) m′ (p / 2) _ _
     (λ h. pick-leb (λ (x : PathAnswer). x ≡ Path m n → (Path m′ n′ ≡ Path m n) × (m ≤ p / 2) × (n ≤ q)) n′ q _ _
     (λ k e. let a : m′ ≡ m = cc in let b : n′ ≡ n = cc in (e, rw a at h, rw b at k))
     (λ _ e. let z : _≡_ {A = ℕ} 0 1 = cc in absurd (omega (arith, z))))
     (λ _ e. let z : _≡_ {A = ℕ} 0 1 = cc in absurd (omega (arith, z)))
-roomed-path (Refused k) m n p q = λ e. let z : _≡_ {A = ℕ} 0 1 = cc in absurd (omega (arith, z))
+stores-path (Refused k) m n p q = λ e. let z : _≡_ {A = ℕ} 0 1 = cc in absurd (omega (arith, z))
 
 module _ (s : List ℕ) (r : Reading Segment) (m n p q : ℕ) where
   pub read-path : readAnswer s r p q ≡ Path m n
-      → (length s ≤ listLimit) × (r .verdict ≡ 0) × (length (r .rows) ≡ m) × (length (flat asnsOf (r .rows)) ≡ n) × (2 * m ≤ p) × (n ≤ q)
+      → (length s ≤ listLimit) × (r .verdict ≡ 0) × (length (r .rows) ≡ m) × (length (flat asnsOf (r .rows)) ≡ n) × (m ≤ p / 2) × (n ≤ q)
   unfolding readAnswer
   read-path e =
-      let a = roomed-path (countAnswer s r) m n p q e in
+      let a = stores-path (countAnswer s r) m n p q e in
       let b = count-path s r m n (a .0) in
-      (b .0, b .1, b .2, b .3, omega (arith, a .1), a .2)
+      (b .0, b .1, b .2, b .3, a .1, a .2)
 
-  pub path-read : length s ≤ listLimit → r .verdict ≡ 0 → length (r .rows) ≡ m → length (flat asnsOf (r .rows)) ≡ n → 2 * m ≤ p → n ≤ q → readAnswer s r p q ≡ Path m n
+  pub path-read : length s ≤ listLimit → r .verdict ≡ 0 → length (r .rows) ≡ m → length (flat asnsOf (r .rows)) ≡ n → m ≤ p / 2 → n ≤ q → readAnswer s r p q ≡ Path m n
   unfolding readAnswer
   path-read short v a b h k =
       let c : countAnswer s r ≡ Path m n = sym (count-good s r m n short v (tally-one (r .rows) ∙ a) (tally-flat asnsOf (r .rows) ∙ b)) in
-      ap (λ (y : PathAnswer). roomed y p q) c ∙ room m n p q (omega arith) k
+      ap (λ (y : PathAnswer). inStores y p q) c ∙ room m n p q h k
 
 -- the stores of an accepted reading
 pub path-stores : (s : List ℕ) (r : Reading Segment) (pairs numbers : List ℕ) (m n : ℕ) → readAnswer s r (length pairs) (length numbers) ≡ Path m n
     → (pairsAfter s r pairs (length numbers) ≡ laid pairs 0 (flat pairOf (r .rows))) × (numbersAfter s r (length pairs) numbers ≡ laid numbers 0 (flat asnsOf (r .rows)))
 unfolding pairsAfter numbersAfter
 path-stores s r pairs numbers m n e =
-    (ap (λ (y : PathAnswer). filled y (flat pairOf (r .rows)) pairs) e, ap (λ (y : PathAnswer). filled y (flat asnsOf (r .rows)) numbers) e)
+    (ap (λ (y : PathAnswer). filled (pathMeaning y) (flat pairOf (r .rows)) pairs) e, ap (λ (y : PathAnswer). filled (pathMeaning y) (flat asnsOf (r .rows)) numbers) e)

@@ -11,14 +11,15 @@ use lib.ListN.{length, getD, drop}
 use lib.Seq.{drop-drop}
 use Rattle.wire.proofs.ChoiceLaws.{pick-leb}
 use Rattle.asns.proofs.AsnLaws.{span-many}
+use Rattle.wire.specs.Answer.{answerBy}
 use Rattle.wire.specs.Number.{beAt}
 use Rattle.wire.specs.Walk.{Step, took, stop}
 use Rattle.wire.proofs.WalkLaws.{Sound}
 use Rattle.wire.proofs.Turn.{Light}
-use Rattle.paths.specs.Size.{countIn}
+use Rattle.paths.specs.Private.{countIn}
 use Rattle.paths.specs.declared.SegmentAnswer.the-variants.{Numbers, Refused}
 use Rattle.asns.specs.Asn.{span}
-use Rattle.paths.specs.Segment.{Segment, numbersOf, Rule, typeFault, NoState, judged, segmentAt, segmentOf, asnsOf}
+use Rattle.paths.specs.Segment.{Segment, numbersOf, Rule, typeFault, NoState, segmentAt, segmentOf, asnsOf}
 
 -- ---- numbers
 
@@ -70,7 +71,7 @@ module _ (rule : Rule) (w : ℕ) where
   Said s (stop n) = 0 < n
 
   said-judged : (s : List ℕ) (n : ℕ) → 2 ≤ length s → 2 + span w (getD s 1 0) ≤ length s → rule (getD s 0 0) (getD s 1 0) ≡ n
-      → Said s (judged n (took (2 + span w (getD s 1 0)) (segmentAt w s) tt))
+      → Said s (answerBy n (took (2 + span w (getD s 1 0)) (segmentAt w s) tt) stop)
   unfolding Said
   said-judged s zero h k e = record { there = h; size = refl; room = k; fine = e; is = refl }
   said-judged s (suc n) h k e = omega arith

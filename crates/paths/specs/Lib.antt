@@ -1,3 +1,4 @@
 pub mod Segment
-pub mod Size
+pub mod WellFormed
 pub mod Promises
+pub mod Private

@@ -7,6 +7,7 @@ use lib.Dec.{leb}
 use Rattle.wire.specs.Choice.{pick}
 use Rattle.wire.specs.Number.{beAt}
 use Rattle.wire.specs.Refusal.{truncated, segmentType}
+use Rattle.wire.specs.Answer.{answerBy}
 use Rattle.asns.specs.Asn.{span}
 use Rattle.wire.specs.Walk.{Step, took, stop, Reading, readAll}
 
@@ -42,11 +43,6 @@ knownType kind count = typeFault kind
 abbrev pub NoState : Type 0
 NoState = Unit
 
--- a step that no fault stands against
-abbrev pub judged : {S A : Type 0} → ℕ → Step S A → Step S A
-judged zero good = good
-judged (suc n) good = stop (suc n)
-
 -- the segment whose bytes stand at the front
 unfoldable pub segmentAt : ℕ → List ℕ → Segment
 segmentAt w s = record { kind = getD s 0 0; asns = numbersOf w (getD s 1 0) (drop 2 s) }
@@ -56,7 +52,7 @@ unfoldable pub segmentOf : Rule → ℕ → NoState → List ℕ → Step NoStat
 segmentOf rule w st s =
     let size : ℕ = 2 + span w (getD s 1 0) in
     pick (leb 2 (length s))
-    (pick (leb size (length s)) (judged (rule (getD s 0 0) (getD s 1 0)) (took size (segmentAt w s) tt)) (stop truncated))
+    (pick (leb size (length s)) (answerBy (rule (getD s 0 0) (getD s 1 0)) (took size (segmentAt w s) tt) stop) (stop truncated))
     (stop truncated)
 
 -- the segments of a path before its refusal, and the refusal's number

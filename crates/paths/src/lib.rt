@@ -10,7 +10,7 @@ ghost use Rattle.wire.specs.Store.{laid, PutAhead};
 ghost use Rattle.wire.specs.Walk.{flat};
 ghost use Rattle.asns.specs.Asn.{widthOf, span};
 ghost use Rattle.paths.specs.Segment.{numbersOf, typeFault, knownType, pairOf, asnsOf, segmentOf, pathOf};
-ghost use Rattle.paths.specs.Size.{countIn};
+ghost use Rattle.paths.specs.Private.{countIn};
 ghost use Rattle.paths.specs.Promises.{countAnswer, readAnswer, pairsAfter, numbersAfter};
 use asns::AsnLength;
 use wire::refusal;

@@ -18,7 +18,7 @@ fits-width-requires : tie.Need-fits-width-requires
 fits-width-requires c κs = search needs
 
 returns : tie.Need-returns
-returns c = let a = c .before .before .before .args in leave (a .asn) (a .identifier) (a .width) (a .out .now) _ (too-wide (a .asn) (a .identifier) (a .width) (a .out .now) (sym (c .before .fits-width .ensures) ∙ not-true _ (c .if1 .taken)))
+returns c = let a = c .before .before .before .args in leave (a .asn) (a .identifier) (a .width) (a .out .now) _ (too-wide (a .asn) (a .identifier) (a .width) (length (a .out .now)) (sym (c .before .fits-width .ensures) ∙ not-true _ (c .if1 .taken)))
 
 asn-bytes-requires : tie.Need-asn-bytes-requires
 asn-bytes-requires c κs = search needs
@@ -30,7 +30,7 @@ returns-2 : tie.Need-returns-2
 returns-2 c =
     let a = c .before .before .before .before .before .args in
     leave (a .asn) (a .identifier) (a .width) (a .out .now) _
-    (no-place (a .asn) (a .identifier) (a .width) (a .out .now) (sym (c .before .before .before .fits-width .ensures) ∙ not-false _ (c .before .before .if1 .left)) (omega (arith, c .if2 .taken, c .before .asn-bytes .ensures)))
+    (no-place (a .asn) (a .identifier) (a .width) (length (a .out .now)) (sym (c .before .before .before .fits-width .ensures) ∙ not-false _ (c .before .before .if1 .left)) (omega (arith, c .if2 .taken, c .before .asn-bytes .ensures)))
 
 put-number-requires : tie.Need-put-number-requires
 put-number-requires c κs = search needs
@@ -50,7 +50,7 @@ returns-3 c =
     let w : c .before .before .before .before .before .before .before .before .before .asn-bytes .result ≡ widthOf (a .width) = c .before .before .before .before .before .before .before .before .before .asn-bytes .ensures in
     let e = sym (c .before .before .before .before .before .before .before .before .before .before .before .fits-width .ensures) ∙ not-false _ (c .before .before .before .before .before .before .before .before .before .before .if1 .left) in
     let room : widthOf (a .width) + 4 ≤ length (a .out .now) = omega (arith, w, c .before .before .before .before .before .before .before .before .if2 .left) in
-    let h = leave (a .asn) (a .identifier) (a .width) (a .out .now) _ (all-written (a .asn) (a .identifier) (a .width) (a .out .now) e room) in (
+    let h = leave (a .asn) (a .identifier) (a .width) (a .out .now) _ (all-written (a .asn) (a .identifier) (a .width) (length (a .out .now)) e room) in (
       ap (λ (k : ℕ). W.Bytes (k + 4)) w ∙ h .0,
       c .before .before .put-octets .ensures
           ∙ ap₂ (λ (d : List ℕ) (k : ℕ). placed d k (take 4 (toBe 4 (a .identifier)))) (c .before .before .before .before .before .before .put-number .ensures) w

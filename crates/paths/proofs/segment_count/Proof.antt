@@ -10,7 +10,7 @@ use Rattle.asns.specs.Asn.{widthOf, span}
 use Rattle.paths.specs.Segment.{segmentOf, typeFault, knownType}
 use Rattle.asns.proofs.AsnLaws.{span-most}
 use Rattle.paths.proofs.SegmentLaws.{fault-segment, count-taken}
-use Rattle.paths.specs.Size.{countIn}
+use Rattle.paths.specs.Private.{countIn}
 use borrow.Author.Needs.{needs}
 use Rattle.paths.proofs.segment_count.Statement.{statement}
 use Rattle.paths.proofs.segment_count.Tie as tie

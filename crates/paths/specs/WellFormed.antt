@@ -1,10 +1,10 @@
--- An AS_PATH as the RFCs have it, over bytes alone and apart from any reader or writer: what the bytes of a segment are, and what
+-- The bytes of a segment as the RFCs have them, over bytes alone and apart from any reader or writer: `Cutting` of wire over `WellFormed` is what
 -- it is to cut bytes into segments.
 use Prim.Native.Nat.{ℕ, zero, suc, _*_, _≤_}
 use mathlib.Core.Path.{_≡_}
-use mathlib.Core.List.{List, [], _∷_, _++_}
+use mathlib.Core.List.{List, [], _∷_}
 use lib.ListN.{length, getD, take, drop}
-use Rattle.wire.specs.Number.{be, Bytes}
+use Rattle.wire.specs.Number.{be}
 
 -- the segment types: 1 AS_SET, 2 AS_SEQUENCE (RFC 4271 section 4.3), 3 AS_CONFED_SEQUENCE, 4 AS_CONFED_SET (RFC 5065 section 3)
 abbrev pub Known : ℕ → ℕ → Type 0
@@ -16,23 +16,8 @@ pub record WellFormed (allowed : ℕ → ℕ → Type 0) (w : ℕ) (item : List 
   pub count : ℕ
   pub body : List ℕ
   pub parts : item ≡ kind ∷ count ∷ body
-  pub octets : Bytes item
   pub meant : allowed kind count
   pub long : length body ≡ count * w
-
-pub data Each (P : List ℕ → Type 0) : List (List ℕ) → Type 0 where
-  none : Each P []
-  one : {item : List ℕ} {items : List (List ℕ)} → P item → Each P items → Each P (item ∷ items)
-
--- lists one after another
-unfoldable pub joined : List (List ℕ) → List ℕ
-joined [] = []
-joined (item ∷ items) = item ++ joined items
-
--- a cutting of s: segments whose bytes, one after another, are s
-pub record Cutting (allowed : ℕ → ℕ → Type 0) (w : ℕ) (s : List ℕ) (items : List (List ℕ)) : Type 0 where
-  pub each : Each (WellFormed allowed w) items
-  pub whole : joined items ≡ s
 
 -- n numbers of w bytes each, the first byte highest (RFC 4271 section 4)
 unfoldable pub numbersIn : ℕ → ℕ → List ℕ → List ℕ

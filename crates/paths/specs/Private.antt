@@ -1,4 +1,4 @@
--- How many numbers a step found: the part of it that counting needs.
+-- What only private functions' contracts name: how many numbers a step found, the part of it that counting needs.
 use lib.ListN.{length}
 use Rattle.wire.specs.Walk.{Step, took, stop}
 use Rattle.paths.specs.Segment.{Segment, NoState, asnsOf}
