@@ -131,14 +131,14 @@ module _ (n x y : ℕ) where
 
 -- ---- a row that can be written
 
-pub record Writable (max : ℕ) (form : Form) (r : Row) : Type 0 where
+pub record WritableRow (max : ℕ) (form : Form) (r : Row) : Type 0 where
   pub mark : markOf form ≤ r .first
   pub fits : lengthOf form r ≤ max
   pub id : idFits form (r .id) ≡ true
   pub past : allZero (drop (octets (lengthOf form r)) (address r)) ≡ true
 
 module _ (max : ℕ) (form : Form) (r : Row) where
-  pub is-writable : writable max form r ≡ true → Writable max form r
+  pub is-writable : writable max form r ≡ true → WritableRow max form r
   unfolding writable
   is-writable e =
       let p = and-true _ _ e in
@@ -146,7 +146,7 @@ module _ (max : ℕ) (form : Form) (r : Row) where
       let t = and-true _ _ (q .1) in
       record { mark = leb-true _ _ (p .0); fits = leb-true _ _ (q .0); id = t .0; past = t .1 }
 
-  pub writable-is : Writable max form r → writable max form r ≡ true
+  pub writable-is : WritableRow max form r → writable max form r ≡ true
   unfolding writable
   writable-is w = simp (le-leb (markOf form) (r .first) (w .mark), le-leb (lengthOf form r) max (w .fits), w .id, w .past)
 
@@ -167,7 +167,7 @@ pub record WriteTook (ws : List ℕ) (max : ℕ) (form : Form) (used : ℕ) (row
   pub size : used ≡ 6
   pub there : 6 ≤ length ws
   pub is : row ≡ frontRow ws
-  pub good : Writable max form (frontRow ws)
+  pub good : WritableRow max form (frontRow ws)
 
 step-by : (t : Bool) (row : Row) (used : ℕ) (a : Row) (st : Unit {0}) → pick t (took 6 row tt) (stop notWritable) ≡ took used a st → (t ≡ true) × (used ≡ 6) × (a ≡ row)
 step-by true row used a st e = (refl, cc, cc)
@@ -185,7 +185,7 @@ module _ (max : ℕ) (form : Form) where
       let b = and-true _ _ (t .0) in
       record { size = t .1; there = leb-true _ _ (b .0); is = t .2; good = is-writable max form (frontRow ws) (b .1) }
 
-  pub took-write : (st : Unit {0}) (ws : List ℕ) → 6 ≤ length ws → Writable max form (frontRow ws) → writeStep max form st ws ≡ took 6 (frontRow ws) tt
+  pub took-write : (st : Unit {0}) (ws : List ℕ) → 6 ≤ length ws → WritableRow max form (frontRow ws) → writeStep max form st ws ≡ took 6 (frontRow ws) tt
   unfolding writeStep
   took-write st ws h w = simp (le-leb 6 (length ws) h, writable-is max form (frontRow ws) w)
 
@@ -243,11 +243,11 @@ module _ (ws : List ℕ) (max : ℕ) (form : Form) where
   -- and what one that can be written has
   pub front-writable : markOf form ≤ getD ws 0 0 → getD ws 0 0 - markOf form ≤ max → idFits form (getD ws 1 0) ≡ true
       → allZero (drop (octets (getD ws 0 0 - markOf form)) (fourWords (getD ws 2 0) (getD ws 3 0) (getD ws 4 0) (getD ws 5 0))) ≡ true
-      → Writable max form (frontRow ws)
+      → WritableRow max form (frontRow ws)
   unfolding frontRow
   front-writable m f i p = record { mark = m; fits = f; id = i; past = p }
 
-  pub front-parts : Writable max form (frontRow ws) → max ≤ 128
+  pub front-parts : WritableRow max form (frontRow ws) → max ≤ 128
       → (markOf form ≤ getD ws 0 0) × (getD ws 0 0 - markOf form ≤ max) × (length (rowBytes form (frontRow ws)) ≡ idSize form + 1 + octets (getD ws 0 0 - markOf form))
   unfolding frontRow
   front-parts w small = (w .mark, w .fits, row-size form (frontRow ws) (omega (arith, w .fits)))

@@ -1,2 +1,4 @@
 pub mod EncodeLaws
 pub mod PromiseLaws
+pub mod RowLaws
+pub mod Tight

@@ -4,12 +4,13 @@ use Prim.Native.Nat.{ℕ, zero, suc, _+_, _-_, _*_, _/_, _%_, _≤_, _<_}
 use mathlib.Core.Path.{_≡_, refl, sym, ap, _∙_}
 use mathlib.Core.List.{List}
 use mathlib.Core.Bool.{false}
-use native.Mathlib.Nat.{not-suc-le-zero}
 use native.Mathlib.Omega.{arith}
-use borrow.Author.Tests.{le-leb, lt-leb}
+use borrow.Author.Tests.{lt-leb}
 use lib.ListN.{length, getD, take, drop, length-drop}
 use lib.Dec.{leb}
+use Rattle.wire.specs.Answer.{answerBy, unpacked}
 use Rattle.wire.specs.Refusal.{notWritable, pastAll}
+use Rattle.wire.proofs.AnswerLaws.{answer-refused, unpacked-count, unpacked-refused}
 use Rattle.wire.proofs.Turn.{rest, Counted, count-start, count-step, count-stop, count-done}
 use Rattle.wire.specs.Walk.{Step, took, stop, tally}
 use Rattle.wire.proofs.WalkLaws.{tally-flat}
@@ -17,8 +18,9 @@ use Rattle.families.specs.Family.{idSize, markOf, octets}
 use Rattle.families.specs.declared.Form.{Form}
 use Rattle.routes.specs.declared.Row.{Row}
 use Rattle.route_bytes.specs.Encode.{rowBytes, writable, frontRow, writeStep, writing, bytesOf}
-use Rattle.route_bytes.proofs.EncodeLaws.{Writable, write-took, took-write, write-stop, stop-write, write-sound, write-light, front-parts, no-and}
-use Rattle.route_bytes.specs.Promises.{sizeBy, answerBy, measured, unpacked}
+use Rattle.route_bytes.proofs.EncodeLaws.{WritableRow, write-took, took-write, write-stop, stop-write, write-sound, write-light, front-parts, no-and}
+use Rattle.route_bytes.specs.Promises.{measured}
+use Rattle.route_bytes.specs.Private.{sizeBy}
 use Rattle.wire.specs.declared.WriteAnswer.{WriteAnswer}
 use Rattle.wire.specs.declared.WriteAnswer.the-variants.{Bytes, Refused}
 
@@ -31,7 +33,7 @@ module _ (ws : List ℕ) (max : ℕ) (form : Form) where
   pub size-refused : writable max form (frontRow ws) ≡ false → Refused notWritable ≡ sizeBy form (writeStep max form tt ws)
   size-refused e = rw (stop-write max form tt ws (rw e (no-and (leb 6 (length ws)))))
 
-  pub size-good : max ≤ 128 → 6 ≤ length ws → Writable max form (frontRow ws)
+  pub size-good : max ≤ 128 → 6 ≤ length ws → WritableRow max form (frontRow ws)
       → Bytes (idSize form + 1 + octets (getD ws 0 0 - markOf form)) ≡ sizeBy form (writeStep max form tt ws)
   size-good small h w = rw (took-write max form tt ws h w) (ap Bytes (sym (front-parts ws max form w small .2)))
 
@@ -50,13 +52,9 @@ unsize-stop form (stop m) n e = let p : m ≡ n = cc in ap stop p
 
 -- ---- all rows
 
-answer-bytes : (v n m : ℕ) → answerBy v m ≡ Bytes n → (v ≡ 0) × (m ≡ n)
+answer-bytes : (v n m : ℕ) → answerBy v (Bytes m) Refused ≡ Bytes n → (v ≡ 0) × (m ≡ n)
 answer-bytes zero n m e = (refl, cc)
 answer-bytes (suc v) n m e = let z : _≡_ {A = ℕ} 0 1 = cc in absurd (zero-ne-one z)
-
-answer-refused : (n m : ℕ) → 0 < n → answerBy n m ≡ Refused n
-answer-refused zero m h = absurd (not-suc-le-zero h)
-answer-refused (suc n) m h = refl
 
 module _ (ws : List ℕ) (max : ℕ) (form : Form) where
   pub measured-good : (n : ℕ) → (writing ws max form .verdict ≡ 0) × (tally (λ row. length (rowBytes form row)) (writing ws max form .rows) ≡ n) → measured ws max form ≡ Bytes n
@@ -65,21 +63,11 @@ module _ (ws : List ℕ) (max : ℕ) (form : Form) where
 
   pub measured-bad : (n : ℕ) → writing ws max form .verdict ≡ n → 0 < n → measured ws max form ≡ Refused n
   unfolding measured
-  measured-bad n e pos = rw e (answer-refused n _ pos)
+  measured-bad n e pos = rw e (answer-refused n _ Refused pos)
 
   pub measured-bytes : (n : ℕ) → measured ws max form ≡ Bytes n → (writing ws max form .verdict ≡ 0) × (length (bytesOf ws max form) ≡ n)
   unfolding measured
   measured-bytes n e = answer-bytes (writing ws max form .verdict) n _ e
-
--- ---- an answer in one number
-
-pub unpack-refused : (v : ℕ) → v < pastAll → Refused v ≡ unpacked v
-unfolding unpacked
-unpack-refused v h = rw (lt-leb pastAll v h)
-
-pub unpack-bytes : (v : ℕ) → pastAll ≤ v → Bytes (v - pastAll) ≡ unpacked v
-unfolding unpacked
-unpack-bytes v h = rw (le-leb pastAll v h)
 
 -- ---- the loop over the rows
 
@@ -92,26 +80,26 @@ module _ (ws : List ℕ) (max : ℕ) (form : Form) (small : max ≤ 128) where
   sizing-start = count-start (writeStep max form) (write-sound max form) (λ row. length (rowBytes form row)) 4 (write-light max form small) tt ws
 
   module _ (i total : ℕ) (h : Sizing ws max form i total) where
-    stopped : 6 * i < length ws → writeStep max form tt (drop (6 * i) ws) ≡ stop notWritable → unpacked notWritable ≡ measured ws max form
+    stopped : 6 * i < length ws → writeStep max form tt (drop (6 * i) ws) ≡ stop notWritable → unpacked Bytes Refused notWritable ≡ measured ws max form
     unfolding writing
     stopped lt e =
-        sym (unpack-refused notWritable (omega arith))
+        unpacked-refused Bytes Refused notWritable (omega arith)
         ∙ sym (measured-bad ws max form notWritable
         (count-stop (writeStep max form) (write-sound max form) (λ row. length (rowBytes form row)) 4 (write-light max form small) tt ws tt (6 * i) total h notWritable lt e)
         (omega arith))
 
     -- fewer words than a row has are left
-    pub sizing-cut : length ws / 6 ≤ i → (length ws % 6 ≡ 0 → ⊥) → unpacked notWritable ≡ measured ws max form
+    pub sizing-cut : length ws / 6 ≤ i → (length ws % 6 ≡ 0 → ⊥) → unpacked Bytes Refused notWritable ≡ measured ws max form
     sizing-cut le cut =
         let lt : 6 * i < length ws = omega (arith, h .within) in
         stopped lt (short-stop (drop (6 * i) ws) max form (omega (arith, length-drop (6 * i) ws)))
 
     -- none are
-    pub sizing-done : length ws / 6 ≤ i → length ws % 6 ≡ 0 → unpacked (pastAll + total) ≡ measured ws max form
+    pub sizing-done : length ws / 6 ≤ i → length ws % 6 ≡ 0 → unpacked Bytes Refused (pastAll + total) ≡ measured ws max form
     unfolding writing
     sizing-done le whole =
         let bytes : pastAll + total - pastAll ≡ total = omega arith in
-        sym (unpack-bytes (pastAll + total) (omega arith))
+        unpacked-count Bytes Refused (pastAll + total) (omega arith)
         ∙ ap Bytes bytes
         ∙ sym (measured-good ws max form total
         (count-done (writeStep max form) (write-sound max form) (λ row. length (rowBytes form row)) 4 (write-light max form small) tt ws tt (6 * i) total h (omega arith)))
@@ -133,7 +121,7 @@ module _ (ws : List ℕ) (max : ℕ) (form : Form) (small : max ≤ 128) where
           let six = write-took max form tt tt (drop (6 * i) ws) (u .0) (u .1) (u .2) .size in
           took-row (u .1) n (u .2 ∙ ap (λ (k : ℕ). took k (u .1) tt) six) (u .3)
 
-      pub sizing-refused : (n : ℕ) → r ≡ Refused n → 6 * i < length ws → unpacked notWritable ≡ measured ws max form
+      pub sizing-refused : (n : ℕ) → r ≡ Refused n → 6 * i < length ws → unpacked Bytes Refused notWritable ≡ measured ws max form
       sizing-refused n f lt =
           let x = unsize-stop form (writeStep max form tt (drop (6 * i) ws)) n (here ∙ f) in
           stopped lt (x ∙ ap stop (write-stop max form tt (drop (6 * i) ws) n x))

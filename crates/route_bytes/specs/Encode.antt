@@ -1,7 +1,7 @@
 -- The bytes of a row, the rows that have bytes, and a store of rows written row by row.
 -- RFC 4271 section 4.3: a length octet, and that many bits of address in whole octets. RFC 7911 section 3: where Add-Path is in
 -- use, four octets of path identifier before it.
-use Prim.Native.Nat.{ℕ, _-_}
+use Prim.Native.Nat.{ℕ, _-_, _^_, _<_}
 use mathlib.Core.List.{List, [], _∷_, _++_}
 use mathlib.Core.Bool.{Bool, true, _&&_}
 use lib.ListN.{length, getD, take, drop}
@@ -64,3 +64,7 @@ writing ws max form = readAll (writeStep max form) tt ws
 -- their bytes, one row after another
 unfoldable pub bytesOf : List ℕ → ℕ → Form → List ℕ
 bytesOf ws max form = flat (rowBytes form) (writing ws max form .rows)
+
+-- a store of 32-bit numbers, as every lent one is
+abbrev pub Words : List ℕ → Type 0
+Words ws = (i : ℕ) → getD ws i 0 < 2 ^ 32

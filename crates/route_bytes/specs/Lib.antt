@@ -1,2 +1,3 @@
 pub mod Encode
 pub mod Promises
+pub mod Private

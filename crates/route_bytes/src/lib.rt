@@ -4,10 +4,13 @@ ghost use mathlib.Core.Bool.{_&&_};
 ghost use Prim.Native.Nat.{_+_, _*_, _≤_, _<_};
 ghost use lib.ListN.{length, drop};
 ghost use lib.Dec.{eqb};
+ghost use Rattle.wire.specs.Answer.{unpacked};
 ghost use Rattle.wire.specs.Number.{toBe};
+ghost use Rattle.wire.specs.declared.WriteAnswer.the-variants.{Bytes, Refused};
 ghost use Rattle.families.specs.Family.{maxOf, octets};
 ghost use Rattle.route_bytes.specs.Encode.{fourWords, allZero, idFits, writeStep};
-ghost use Rattle.route_bytes.specs.Promises.{sizeBy, measured, unpacked};
+ghost use Rattle.route_bytes.specs.Promises.{measured};
+ghost use Rattle.route_bytes.specs.Private.{sizeBy};
 use families::Afi;
 use families::Form;
 use wire::WriteAnswer;
@@ -88,7 +91,7 @@ fn row_size(ws: &[u32], max: u8, form: Form) -> WriteAnswer
 // the slice stays in registers.
 fn size_within(rows: &[u32], max: u8, form: Form) -> usize
     requires { ⌜ max ≤ 128 ⌝ }
-    ensures { λ r. ⌜ unpacked r ≡ measured (now (rows .entry)) max form ⌝ }
+    ensures { λ r. ⌜ unpacked Bytes Refused r ≡ measured (now (rows .entry)) max form ⌝ }
 {
     let ws = &rows[..];
     let count = ws.len() / 6;

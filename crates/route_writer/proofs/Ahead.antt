@@ -19,19 +19,19 @@ use Rattle.families.specs.Family.{idSize, octets}
 use Rattle.families.specs.declared.Form.{Form}
 use Rattle.routes.specs.declared.Row.{Row}
 use Rattle.route_bytes.specs.Encode.{fourWords, address, lengthOf, rowBytes, frontRow, writeStep, writing, bytesOf}
-use Rattle.route_bytes.proofs.EncodeLaws.{Writable, row-size, write-took, took-write, write-sound}
+use Rattle.route_bytes.proofs.EncodeLaws.{WritableRow, row-size, write-took, took-write, write-sound}
 use Rattle.route_writer.specs.Private.{rowAt, headBytes, Fillable, Ahead}
 
 -- a turn of a loop that fills
 module _ (max : ℕ) (form : Form) (rows d₀ : List ℕ) (at to : ℕ) (d : List ℕ) (h : Filled (writeStep max form) (rowBytes form) tt rows d₀ tt at to d) (lt : at < length rows) where
-  fill-took : (writeStep max form tt (drop at rows) ≡ took 6 (frontRow (drop at rows)) tt) × (6 ≤ length (drop at rows)) × Writable max form (frontRow (drop at rows))
+  fill-took : (writeStep max form tt (drop at rows) ≡ took 6 (frontRow (drop at rows)) tt) × (6 ≤ length (drop at rows)) × WritableRow max form (frontRow (drop at rows))
   fill-took =
       let t = fill-takes (writeStep max form) (write-sound max form) (rowBytes form) tt rows d₀ tt at to d h lt in
       let w = write-took max form tt (t .2) (drop at rows) (t .0) (t .1) (t .3) in
       (took-write max form tt (drop at rows) (w .there) (w .good), w .there, w .good)
 
   -- the row there can be written and has room
-  fill-row : (6 ≤ length (drop at rows)) × Writable max form (frontRow (drop at rows)) × (to + length (rowBytes form (frontRow (drop at rows))) ≤ length d)
+  fill-row : (6 ≤ length (drop at rows)) × WritableRow max form (frontRow (drop at rows)) × (to + length (rowBytes form (frontRow (drop at rows))) ≤ length d)
   fill-row =
       let t = fill-took in
       (t .1, t .2, fill-fits (writeStep max form) (write-sound max form) (rowBytes form) tt rows d₀ tt at to d h tt 6 (frontRow (drop at rows)) (t .0) .2)
@@ -153,11 +153,11 @@ module _ (max : ℕ) (form : Form) (rows d₀ : List ℕ) (at to : ℕ) (d : Lis
         (row-at rows at) (fill-next max form rows d₀ at to (h .clean) (h .filled) lt)
 
     -- which is all there, can be written, and has its bytes below the end
-    pub ahead-row : (at + 6 ≤ length rows) × Writable max form (rowAt rows at) × (to + length (rowBytes form (rowAt rows at)) ≤ length (bytesOf rows max form))
+    pub ahead-row : (at + 6 ≤ length rows) × WritableRow max form (rowAt rows at) × (to + length (rowBytes form (rowAt rows at)) ≤ length (bytesOf rows max form))
     ahead-row =
         let r = fill-row max form rows d₀ at to (h .clean) (h .filled) lt in (
           omega (arith, r .0, length-drop at rows),
-          subst (Writable max form) (row-at rows at) (r .1),
+          subst (WritableRow max form) (row-at rows at) (r .1),
           omega (arith, filled-sum max form rows d₀ (at + 6) _ _ next-filled),
         )
 
@@ -200,7 +200,7 @@ module _ {max : ℕ} {form : Form} {rows d₀ : List ℕ} {total at to : ℕ} {d
   whole-room =
       (ahead-row max form rows d₀ at to d (t .ahead) there .0, omega (arith, t .fits, t .fillable .size, ahead-room max form rows d₀ at to d (t .ahead)))
 
-  pub whole-row : Writable max form (rowAt rows at)
+  pub whole-row : WritableRow max form (rowAt rows at)
   whole-row = ahead-row max form rows d₀ at to d (t .ahead) there .1
 
   -- the loop's head after they are put

@@ -1,4 +1,6 @@
 pub mod Ahead
 pub mod Octets
-pub mod PromiseLaws
 pub mod PairLaws
+pub mod PromiseLaws
+pub mod RouteTheorems
+pub mod Tight

@@ -12,41 +12,41 @@ use Rattle.wire.proofs.ChoiceLaws.{pick-any, pick-unless}
 use Rattle.wire.specs.Refusal.{tooLong, noRoom, listLimit}
 use Rattle.families.specs.declared.Form.{Form}
 use Rattle.route_bytes.specs.Promises.{measured}
-use Rattle.route_writer.specs.Pair.{pairEnd, pairSized, ifBoth, pairAnswer}
+use Rattle.route_writer.specs.Pair.{writePairEnd, writePairSized, ifBoth, writePairAnswer}
 use Rattle.wire.specs.declared.WriteAnswer.{WriteAnswer}
 use Rattle.wire.specs.declared.WriteAnswer.the-variants as W
 use Rattle.route_writer.specs.declared.ListsAnswer.{ListsAnswer}
 use Rattle.route_writer.specs.declared.ListsAnswer.the-variants.{Lists, Refused}
 
 -- lists measured x and y, of a and b bytes, that are not refused
-pub record PairFits (x y : WriteAnswer) (start between most places a b : ℕ) : Type 0 where
+pub record WritePairFits (x y : WriteAnswer) (start between most places a b : ℕ) : Type 0 where
   pub first : x ≡ W.Bytes a
   pub second : y ≡ W.Bytes b
   pub low : a ≤ listLimit
   pub high : b ≤ listLimit
-  pub whole : pairEnd start between a b ≤ most
-  pub room : pairEnd start between a b ≤ places
+  pub whole : writePairEnd start between a b ≤ most
+  pub room : writePairEnd start between a b ≤ places
 
 -- 1 for all of it, whatever the lists
-pub pair-over : (start between most places first second : ℕ) → most < pairEnd start between first second → pairSized start between most places first second ≡ Refused tooLong
-unfolding pairSized
-pair-over start between most places first second h =
+pub write-pair-over : (start between most places first second : ℕ) → most < writePairEnd start between first second → writePairSized start between most places first second ≡ Refused tooLong
+unfolding writePairSized
+write-pair-over start between most places first second h =
     let P : ListsAnswer → Type 0 = λ x. x ≡ Refused tooLong in
-    pick-any P (ltb listLimit first) (Refused tooLong) _ refl (pick-any P (ltb listLimit second) (Refused tooLong) _ refl (rw (lt-ltb most (pairEnd start between first second) h)))
+    pick-any P (ltb listLimit first) (Refused tooLong) _ refl (pick-any P (ltb listLimit second) (Refused tooLong) _ refl (rw (lt-ltb most (writePairEnd start between first second) h)))
 
 -- 11 or the sizes where nothing is too long
-pub pair-under : (start between most places first second : ℕ) (full : Bool) → first ≤ listLimit → second ≤ listLimit → pairEnd start between first second ≤ most
-    → ltb places (pairEnd start between first second) ≡ full → pairSized start between most places first second ≡ pick full (Refused noRoom) (Lists first second)
-unfolding pairSized
-pair-under start between most places first second full low high whole e =
-    rw (le-ltb listLimit first low, le-ltb listLimit second high, le-ltb most (pairEnd start between first second) whole, e)
+pub write-pair-under : (start between most places first second : ℕ) (full : Bool) → first ≤ listLimit → second ≤ listLimit → writePairEnd start between first second ≤ most
+    → ltb places (writePairEnd start between first second) ≡ full → writePairSized start between most places first second ≡ pick full (Refused noRoom) (Lists first second)
+unfolding writePairSized
+write-pair-under start between most places first second full low high whole e =
+    rw (le-ltb listLimit first low, le-ltb listLimit second high, le-ltb most (writePairEnd start between first second) whole, e)
 
 module _ (start between most places a b : ℕ) where
-  sized-fits : (v w : ℕ) → pairSized start between most places v w ≡ Lists a b → PairFits (W.Bytes v) (W.Bytes w) start between most places a b
-  unfolding pairSized
+  sized-fits : (v w : ℕ) → writePairSized start between most places v w ≡ Lists a b → WritePairFits (W.Bytes v) (W.Bytes w) start between most places a b
+  unfolding writePairSized
   sized-fits v w =
-      let end : ℕ = pairEnd start between v w in
-      let P : ListsAnswer → Type 0 = λ x. x ≡ Lists a b → PairFits (W.Bytes v) (W.Bytes w) start between most places a b in
+      let end : ℕ = writePairEnd start between v w in
+      let P : ListsAnswer → Type 0 = λ x. x ≡ Lists a b → WritePairFits (W.Bytes v) (W.Bytes w) start between most places a b in
       let never : (m : ℕ) → P (Refused m) = λ m e. let z : _≡_ {A = ℕ} 0 1 = cc in absurd (omega arith) in
       pick-unless P (ltb listLimit v) (Refused tooLong) _ (never tooLong) (λ low.
       pick-unless P (ltb listLimit w) (Refused tooLong) _ (never tooLong) (λ high.
@@ -63,12 +63,12 @@ module _ (start between most places a b : ℕ) where
         room = ltb-false places end room;
       })))))
 
-  both-fit : (x y : WriteAnswer) → ifBoth x y (pairSized start between most places) ≡ Lists a b → PairFits x y start between most places a b
+  both-fit : (x y : WriteAnswer) → ifBoth x y (writePairSized start between most places) ≡ Lists a b → WritePairFits x y start between most places a b
   both-fit (W.Bytes v) (W.Bytes w) e = sized-fits v w e
   both-fit (W.Bytes v) (W.Refused n) e = let z : _≡_ {A = ℕ} 0 1 = cc in absurd (omega arith)
   both-fit (W.Refused n) y e = let z : _≡_ {A = ℕ} 0 1 = cc in absurd (omega arith)
 
-  pub pair-fits : (first second : List ℕ) (max : ℕ) (form : Form) → pairAnswer first second max form start between most places ≡ Lists a b
-      → PairFits (measured first max form) (measured second max form) start between most places a b
-  unfolding pairAnswer
-  pair-fits first second max form e = both-fit (measured first max form) (measured second max form) e
+  pub write-pair-fits : (first second : List ℕ) (max : ℕ) (form : Form) → writePairAnswer first second max form start between most places ≡ Lists a b
+      → WritePairFits (measured first max form) (measured second max form) start between most places a b
+  unfolding writePairAnswer
+  write-pair-fits first second max form e = both-fit (measured first max form) (measured second max form) e

@@ -10,7 +10,7 @@ ghost use Rattle.route_bytes.specs.Promises.{measured};
 ghost use Rattle.wire.specs.declared.WriteAnswer.the-variants.{Bytes};
 ghost use Rattle.route_writer.specs.Private.{rowAt, headBytes, Fillable, Ahead};
 ghost use Rattle.route_writer.specs.Promises.{writeAnswer, outAfter};
-ghost use Rattle.route_writer.specs.Pair.{pairSized, pairAnswer, pairAfter};
+ghost use Rattle.route_writer.specs.Pair.{listsMeaning, writePairSized, writePairAnswer, writePairAfter};
 use families::Afi;
 use families::Form;
 use wire::WriteAnswer;
@@ -27,11 +27,8 @@ fn put_word(rows: &[u32], i: usize, out: &mut [u8], to: usize)
     requires { ⌜ (i < length (now rows)) × (to + 4 ≤ length (now out)) ⌝ }
     ensures { λ _. ⌜ now (out .exit) ≡ laid (now (out .entry)) to (toBe 4 (getD (now (rows .entry)) i 0)) ⌝ }
 {
-    let w = rows[i];
-    out[to] = (w / 16777216) as u8;
-    out[to + 1] = (w / 65536 % 256) as u8;
-    out[to + 2] = (w / 256 % 256) as u8;
-    out[to + 3] = (w % 256) as u8;
+    let end = to + 4;
+    outputs::put_u32(&mut out[to..end], 0, rows[i]);
 }
 
 // The sixteen address octets of the row at a place, at a place of the output. Each word is read just before it is put: its four bytes
@@ -205,7 +202,7 @@ fn pair_size(
     most: usize,
     places: usize,
 ) -> ListsAnswer
-    ensures { λ r. ⌜ r ≡ pairSized start between most places first second ⌝ }
+    ensures { λ r. ⌜ r ≡ writePairSized start between most places first second ⌝ }
 {
     if wire::LIST_LIMIT < first {
         return ListsAnswer::Refused(refusal::TOO_LONG);
@@ -239,7 +236,7 @@ fn measure_pair(
     most: usize,
     places: usize,
 ) -> ListsAnswer
-    ensures { λ r. ⌜ r ≡ pairAnswer (now (first .entry)) (now (second .entry)) (maxOf afi) form start between most places ⌝ }
+    ensures { λ r. ⌜ r ≡ writePairAnswer (now (first .entry)) (now (second .entry)) (maxOf afi) form start between most places ⌝ }
 {
     match route_bytes::measure_nlri_prefixes(first, afi, form) {
         WriteAnswer::Bytes(a) => match route_bytes::measure_nlri_prefixes(second, afi, form) {
@@ -270,8 +267,8 @@ pub fn encode_nlri_pair(
     most: usize,
     out: &mut [u8],
 ) -> ListsAnswer
-    ensures answer { λ r. ⌜ r ≡ pairAnswer (now (first .entry)) (now (second .entry)) (maxOf afi) form start between most (length (now (out .entry))) ⌝ }
-    ensures out { λ r. ⌜ now (out .exit) ≡ pairAfter r start between (bytesOf (now (first .entry)) (maxOf afi) form) (bytesOf (now (second .entry)) (maxOf afi) form) (now (out .entry)) ⌝ }
+    ensures answer { λ r. ⌜ r ≡ writePairAnswer (now (first .entry)) (now (second .entry)) (maxOf afi) form start between most (length (now (out .entry))) ⌝ }
+    ensures out { λ r. ⌜ now (out .exit) ≡ writePairAfter (listsMeaning r) start between (bytesOf (now (first .entry)) (maxOf afi) form) (bytesOf (now (second .entry)) (maxOf afi) form) (now (out .entry)) ⌝ }
 {
     match measure_pair(first, second, afi, form, start, between, most, out.len()) {
         ListsAnswer::Lists {

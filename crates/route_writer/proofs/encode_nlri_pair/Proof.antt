@@ -7,7 +7,7 @@ use Rattle.wire.specs.Store.{laid}
 use Rattle.families.specs.Family.{maxOf}
 use Rattle.route_bytes.specs.Encode.{bytesOf}
 use Rattle.route_bytes.specs.Promises.{measured}
-use Rattle.route_writer.proofs.PairLaws.{PairFits, pair-fits}
+use Rattle.route_writer.proofs.PairLaws.{WritePairFits, write-pair-fits}
 use borrow.Author.Needs.{needs}
 use Rattle.route_writer.proofs.encode_nlri_pair.Statement.{statement}
 use Rattle.route_writer.proofs.encode_nlri_pair.Tie as tie
@@ -22,12 +22,12 @@ enum-known-a c = search needs
 fits : (c : tie.After-known-told) →
     let k = c .before in
     let a = k .before .before .before .before .before .before .args in
-    PairFits (measured (a .first .now) (maxOf (a .afi)) (a .form)) (measured (a .second .now) (maxOf (a .afi)) (a .form))
+    WritePairFits (measured (a .first .now) (maxOf (a .afi)) (a .form)) (measured (a .second .now) (maxOf (a .afi)) (a .form))
     (a .start) (a .between) (a .most) (length (a .out .now)) (k .a .given .0 .0) (k .a .given .0 .1 .0)
 fits c =
     let k = c .before in
     let a = k .before .before .before .before .before .before .args in
-    pair-fits (a .start) (a .between) (a .most) (length (a .out .now)) _ _ (a .first .now) (a .second .now) (maxOf (a .afi)) (a .form) (sym (k .before .before .measure-pair .ensures) ∙ k .a .given .1)
+    write-pair-fits (a .start) (a .between) (a .most) (length (a .out .now)) _ _ (a .first .now) (a .second .now) (maxOf (a .afi)) (a .form) (sym (k .before .before .measure-pair .ensures) ∙ k .a .given .1)
 
 put-list-requires : tie.Need-put-list-requires
 put-list-requires c κs = let f = fits (c .before) in (f .first, omega (arith, f .room))

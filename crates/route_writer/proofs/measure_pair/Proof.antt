@@ -1,5 +1,5 @@
 use mathlib.Core.Path.{sym, _∙_}
-use Rattle.route_writer.specs.Pair.{pairAnswer}
+use Rattle.route_writer.specs.Pair.{writePairAnswer}
 use borrow.Author.Needs.{needs}
 use Rattle.route_writer.proofs.measure_pair.Statement.{statement}
 use Rattle.route_writer.proofs.measure_pair.Tie as tie
@@ -26,21 +26,21 @@ enum-known-n-2 : tie.Need-enum-known-n-2
 enum-known-n-2 c = search needs
 
 returns : tie.Need-returns
-unfolding pairAnswer
+unfolding writePairAnswer
 returns c =
     let b = c .before .before in
     let k = b .before .before .before .before in
     rw (sym (k .before .before .measure-nlri-prefixes .ensures) ∙ k .a .given .1, sym (b .before .before .measure-nlri-prefixes2 .ensures) ∙ b .b .given .1) (c .pair-size .ensures)
 
 returns-2 : tie.Need-returns-2
-unfolding pairAnswer
+unfolding writePairAnswer
 returns-2 c =
     let b = c .before in
     let k = b .before .before .before .before in
     rw (sym (k .before .before .measure-nlri-prefixes .ensures) ∙ k .a .given .1, sym (b .before .before .measure-nlri-prefixes2 .ensures) ∙ b .n .given .1)
 
 returns-3 : tie.Need-returns-3
-unfolding pairAnswer
+unfolding writePairAnswer
 returns-3 c = rw (sym (c .before .before .before .measure-nlri-prefixes .ensures) ∙ c .before .n2 .given .1)
 
 pub measure-pair-spec : {M : Type 1} → statement M

@@ -1,8 +1,8 @@
--- An item's bytes and its row stand for each other: laws behind the theorems.
+-- A route's bytes and its row stand for each other; and a store that can be written is the words of its rows.
 -- Assumes nothing.
 use Prim.Native.Nat.{ℕ, zero, suc, _+_, _-_, _^_, _≤_, _<_}
 use mathlib.Core.Path.{_≡_, refl, sym, ap, ap₂, _∙_}
-use mathlib.Core.List.{List, [], _∷_, _++_, map}
+use mathlib.Core.List.{List, [], _∷_, _++_}
 use mathlib.Core.Bool.{true}
 use native.Mathlib.Nat.{add-sub-of-le}
 use native.Mathlib.Omega.{arith}
@@ -10,19 +10,21 @@ use borrow.Author.Tests.{eqb-true}
 use lib.ListN.{length, getD, take, drop, replicate, length-drop, take-append-drop}
 use lib.Dec.{eqb}
 use lib.Seq.{take-length, length-take-le, take-at, drop-at, getD-at, getD-drop, drop-drop, take-append-seam, drop-append-seam}
-use Rattle.wire.proofs.ChoiceLaws.{and-true}
+use Rattle.wire.specs.Cutting.{Each, none, one}
 use Rattle.wire.specs.Number.{be, toBe, padded, beAt, Bytes}
-use Rattle.wire.proofs.NumberLaws.{toBe-be, be-toBe, length-toBe, bytes-drop, bytes-take, bytes-padded, length-padded, padded-add, padded-all, padded-of-take, padded-take, padded-cells}
-use Rattle.wire.specs.Walk.{whole, took, more, readAll, flat}
+use Rattle.wire.specs.Walk.{took, more, readAll, flat}
+use Rattle.wire.proofs.ChoiceLaws.{and-true}
+use Rattle.wire.proofs.CuttingLaws.{Stands}
+use Rattle.wire.proofs.NumberLaws.{be-lt, toBe-be, be-toBe, length-toBe, bytes-drop, bytes-take, bytes-padded, length-padded, padded-add, padded-all, padded-of-take, padded-take, padded-cells}
 use Rattle.wire.proofs.WalkLaws.{all-nil, all-took, all-ind}
 use Rattle.families.specs.Family.{idSize, markOf, octets}
-use Rattle.routes.specs.Prefix.{wordAt, rowOf, itemRow, words}
 use Rattle.families.specs.declared.Form.{Form}
 use Rattle.families.specs.declared.Form.the-variants.{Plain, Tagged}
+use Rattle.routes.specs.Prefix.{wordAt, rowOf, itemRow, words}
+use Rattle.routes.specs.WellFormed.{WellFormed}
 use Rattle.routes.specs.declared.Row.{Row}
-use Rattle.route_bytes.specs.Encode.{fourWords, address, lengthOf, rowBytes, allZero, idFits, frontRow, writeStep}
-use Rattle.route_bytes.proofs.EncodeLaws.{Writable, address-length, write-took, took-write, write-sound}
-use Rattle.route_theorems.specs.Cutting.{WellFormed, AllFormed, none, one, joined, Words}
+use Rattle.route_bytes.specs.Encode.{fourWords, address, lengthOf, rowBytes, allZero, idFits, frontRow, writeStep, Words}
+use Rattle.route_bytes.proofs.EncodeLaws.{WritableRow, address-length, write-took, took-write, write-sound}
 
 -- ---- octets that are 0
 
@@ -55,6 +57,12 @@ module _ (o : List ℕ) (b : Bytes o) where
       let p : List ℕ = padded 4 (drop i o) in
       ap (λ (n : ℕ). toBe n (be p)) (sym (length-padded 4 (drop i o))) ∙ toBe-be p (bytes-padded 4 (drop i o) (bytes-drop i o b))
 
+  word-wide : (i : ℕ) → wordAt o i < 2 ^ 32
+  unfolding wordAt beAt
+  word-wide i =
+      let p : List ℕ = padded 4 (drop i o) in
+      rw (length-padded 4 (drop i o)) at (be-lt p (bytes-padded 4 (drop i o) (bytes-drop i o b)))
+
   -- the sixteen octets are the item's, filled up with 0
   address-is : (first id : ℕ) → address (rowOf o first id) ≡ padded 16 o
   unfolding rowOf fourWords
@@ -63,6 +71,20 @@ module _ (o : List ℕ) (b : Bytes o) where
       ∙ ap (λ (l : List ℕ). padded 4 o ++ (padded 4 (drop 4 o) ++ l)) (ap (λ (t : List ℕ). padded 4 (drop 8 o) ++ padded 4 t) (sym (drop-drop 4 8 o)) ∙ padded-add 4 4 (drop 8 o))
       ∙ ap (λ (l : List ℕ). padded 4 o ++ l) (ap (λ (t : List ℕ). padded 4 (drop 4 o) ++ padded 8 t) (sym (drop-drop 4 4 o)) ∙ padded-add 4 8 (drop 4 o))
       ∙ padded-add 4 12 o
+
+-- ---- rows that can be written
+
+-- the words of a row as a store of 32-bit numbers has them, the first apart
+pub record Wide (r : Row) : Type 0 where
+  pub id : r .id < 2 ^ 32
+  pub w0 : r .w0 < 2 ^ 32
+  pub w1 : r .w1 < 2 ^ 32
+  pub w2 : r .w2 < 2 ^ 32
+  pub w3 : r .w3 < 2 ^ 32
+
+-- a row that can be written, as a store has it
+abbrev pub GoodRow : ℕ → Form → Row → Type 0
+GoodRow max form r = WritableRow max form r × Wide r
 
 -- ---- an item's row can be written, and is written as the item
 
@@ -91,7 +113,12 @@ module _ (max : ℕ) (small : max ≤ 128) (form : Form) (item : List ℕ) (w : 
   no-ident Plain (x ∷ p) e = absurd (let z : suc (length p) ≡ 0 = e in omega arith)
   no-ident Tagged p e = refl
 
-  pub item-written : Bytes item → Writable max form (itemRow form item) × (rowBytes form (itemRow form item) ≡ item)
+  ident-wide : (f : Form) (p : List ℕ) → length p ≡ idSize f → Bytes p → be p < 2 ^ 32
+  ident-wide Plain [] e b = omega arith
+  ident-wide Plain (x ∷ p) e b = absurd (let z : suc (length p) ≡ 0 = e in omega arith)
+  ident-wide Tagged p e b = rw e at (be-lt p b)
+
+  item-written : Bytes item → GoodRow max form (itemRow form item) × (rowBytes form (itemRow form item) ≡ item)
   unfolding rowBytes rowOf
   item-written b =
       let o : List ℕ = w .prefix in
@@ -103,7 +130,7 @@ module _ (max : ℕ) (small : max ≤ 128) (form : Form) (item : List ℕ) (w : 
       let len : w .len + markOf form - markOf form ≡ w .len = omega arith in
       let size : octets (w .len + markOf form - markOf form) ≡ length o = ap octets len ∙ sym (w .prefix-size) in
       let addr : address r ≡ o ++ replicate (16 - length o) 0 = address-is o ob (w .len + markOf form) (be p) ∙ padded-zeros o 16 short in
-      let good : Writable max form r = record {
+      let good : WritableRow max form r = record {
         mark = omega arith;
         fits = rw len (w .in-range);
         id = no-ident form p (w .ident-size);
@@ -112,7 +139,8 @@ module _ (max : ℕ) (small : max ≤ 128) (form : Form) (item : List ℕ) (w : 
       let ids : toBe (idSize form) (be p) ≡ p = ap (λ (n : ℕ). toBe n (be p)) (sym (w .ident-size)) ∙ toBe-be p pb in
       let bytes : rowBytes form r ≡ item =
       ap₂ _++_ ids (ap₂ _∷_ len (ap₂ (λ (n : ℕ) (a : List ℕ). take n a) size addr ∙ take-append-seam o (replicate (16 - length o) 0))) ∙ sym (w .parts) in
-      rw row-is (good, bytes)
+      let wide : Wide r = record { id = ident-wide form p (w .ident-size) pb; w0 = word-wide o ob 0; w1 = word-wide o ob 4; w2 = word-wide o ob 8; w3 = word-wide o ob 12 } in
+      rw row-is ((good, wide), bytes)
 
 -- ---- a row that can be written is the row of its bytes
 
@@ -126,22 +154,14 @@ part-is i r o =
     ∙ ap (take 4) (drop-at (padded i o) (padded (4 + r) (drop i o)) i (length-padded i o) ∙ sym (padded-add 4 r (drop i o)))
     ∙ take-at (padded 4 (drop i o)) (padded r (drop 4 (drop i o))) 4 (length-padded 4 (drop i o))
 
--- the words of a row as a store has them
-pub record Wide (r : Row) : Type 0 where
-  pub id : r .id < 2 ^ 32
-  pub w0 : r .w0 < 2 ^ 32
-  pub w1 : r .w1 < 2 ^ 32
-  pub w2 : r .w2 < 2 ^ 32
-  pub w3 : r .w3 < 2 ^ 32
-
-module _ (max : ℕ) (small : max ≤ 128) (form : Form) (r : Row) (g : Writable max form r) where
+module _ (max : ℕ) (small : max ≤ 128) (form : Form) (r : Row) (g : WritableRow max form r) where
   n-small : octets (lengthOf form r) ≤ 16
   n-small = omega (arith, g .fits)
 
   octets-long : length (take (octets (lengthOf form r)) (address r)) ≡ octets (lengthOf form r)
   octets-long = length-take-le (octets (lengthOf form r)) (address r) (omega (arith, address-length r, n-small))
 
-  pub row-formed : WellFormed max form (rowBytes form r)
+  row-formed : WellFormed max form (rowBytes form r)
   unfolding rowBytes
   row-formed = record {
     ident = toBe (idSize form) (r .id);
@@ -174,7 +194,7 @@ module _ (max : ℕ) (small : max ≤ 128) (form : Form) (r : Row) (g : Writable
   id-is Plain v e lt = sym (eqb-true v 0 e)
   id-is Tagged v e lt = be-toBe 4 v lt
 
-  pub row-read : Wide r → itemRow form (rowBytes form r) ≡ r
+  row-read : Wide r → itemRow form (rowBytes form r) ≡ r
   unfolding rowOf fourWords row-formed
   row-read h =
       let o : List ℕ = take (octets (lengthOf form r)) (address r) in
@@ -187,51 +207,28 @@ module _ (max : ℕ) (small : max ≤ 128) (form : Form) (r : Row) (g : Writable
       (word-is 8 4 (r .w2) refl (h .w2) refl)
       (word-is 12 0 (r .w3) refl (h .w3) refl)
 
+pub stands : (max : ℕ) → max ≤ 128 → (form : Form) → Stands (WellFormed max form) (itemRow form) (GoodRow max form) (rowBytes form)
+stands max small form = record {
+  written = λ item w b. item-written max small form item w b;
+  read = λ r g. (row-formed max small form r (g .0), row-read max small form r (g .0) (g .1));
+}
+
 -- ---- a store of rows
 
-pub data AllWritable (max : ℕ) (form : Form) : List Row → Type 0 where
-  no-row : AllWritable max form []
-  one-row : {r : Row} {rs : List Row} → Writable max form r → AllWritable max form rs → AllWritable max form (r ∷ rs)
-
-pub data AllWide : List Row → Type 0 where
-  no-wide : AllWide []
-  one-wide : {r : Row} {rs : List Row} → Wide r → AllWide rs → AllWide (r ∷ rs)
-
 -- a row's six words at the front are taken for it
-row-took : (max : ℕ) (form : Form) (r : Row) (t : List ℕ) → Writable max form r → writeStep max form tt (words r ++ t) ≡ took 6 r tt
+row-took : (max : ℕ) (form : Form) (r : Row) (t : List ℕ) → WritableRow max form r → writeStep max form tt (words r ++ t) ≡ took 6 r tt
 unfolding frontRow
 row-took max form r t g = took-write max form tt (words r ++ t) (omega arith) g
 
 -- rows that can be written are written, from the store that has their words
-pub rows-write : (max : ℕ) (form : Form) (rows : List Row) → AllWritable max form rows
+pub rows-write : (max : ℕ) (form : Form) (rows : List Row) → Each (GoodRow max form) rows
     → readAll (writeStep max form) tt (flat words rows) ≡ record { rows = rows; verdict = 0 }
 unfolding flat
-rows-write max form [] no-row = all-nil (writeStep max form) tt
-rows-write max form (r ∷ rs) (one-row g gs) =
+rows-write max form [] none = all-nil (writeStep max form) tt
+rows-write max form (r ∷ rs) (one g gs) =
     let t : List ℕ = flat words rs in
-    all-took (writeStep max form) tt tt (words r ++ t) 6 r (omega arith) (omega arith) (row-took max form r t g)
+    all-took (writeStep max form) tt tt (words r ++ t) 6 r (omega arith) (omega arith) (row-took max form r t (g .0))
     ∙ ap (more r) (rows-write max form rs gs)
-
--- the rows of items
-pub items-rows : (max : ℕ) → max ≤ 128 → (form : Form) (items : List (List ℕ)) → AllFormed max form items → Bytes (joined items)
-    → AllWritable max form (map (itemRow form) items) × (flat (rowBytes form) (map (itemRow form) items) ≡ joined items)
-unfolding flat
-items-rows max small form [] none b = (no-row, refl)
-items-rows max small form (item ∷ items) (one w ws) b =
-    let here : Bytes item = rw take-append-seam at (bytes-take (length item) (item ++ joined items) b) in
-    let after : Bytes (joined items) = rw drop-append-seam at (bytes-drop (length item) (item ++ joined items) b) in
-    let h = item-written max small form item w here in
-    let t = items-rows max small form items ws after in
-    (one-row (h .0) (t .0), ap₂ _++_ (h .1) (t .1))
-
--- the items of rows
-pub rows-items : (max : ℕ) → max ≤ 128 → (form : Form) (rows : List Row) → AllWritable max form rows → AllWide rows
-    → AllFormed max form (map (rowBytes form) rows) × (joined (map (rowBytes form) rows) ≡ flat (rowBytes form) rows) × (map (itemRow form) (map (rowBytes form) rows) ≡ rows)
-unfolding flat
-rows-items max small form [] no-row no-wide = (none, refl, refl)
-rows-items max small form (r ∷ rs) (one-row g gs) (one-wide h hs) =
-    let t = rows-items max small form rs gs hs in
-    (one (row-formed max small form r g) (t .0), ap (λ (l : List ℕ). rowBytes form r ++ l) (t .1), ap₂ _∷_ (row-read max small form r g h) (t .2))
 
 -- a store that is written whole is the words of its rows
 front-words : (ws : List ℕ) → 6 ≤ length ws → words (frontRow ws) ≡ take 6 ws
@@ -246,17 +243,17 @@ words-drop : (n : ℕ) (ws : List ℕ) → Words ws → Words (drop n ws)
 words-drop n ws h i = rw (getD-drop n ws i 0) (h (n + i))
 
 pub store-rows : (max : ℕ) (form : Form) (ws : List ℕ) → Words ws → readAll (writeStep max form) tt ws .verdict ≡ 0
-    → let rows = readAll (writeStep max form) tt ws .rows in AllWritable max form rows × AllWide rows × (flat words rows ≡ ws)
+    → let rows = readAll (writeStep max form) tt ws .rows in Each (GoodRow max form) rows × (flat words rows ≡ ws)
 unfolding flat
 store-rows max form ws =
-    all-ind (writeStep max form) (write-sound max form) (λ _ t r. Words t → r .verdict ≡ 0 → AllWritable max form (r .rows) × AllWide (r .rows) × (flat words (r .rows) ≡ t))
-    (λ _ _ _. (no-row, no-wide, refl))
+    all-ind (writeStep max form) (write-sound max form) (λ _ t r. Words t → r .verdict ≡ 0 → Each (GoodRow max form) (r .rows) × (flat words (r .rows) ≡ t))
+    (λ _ _ _. (none, refl))
     (λ st t n pos e _ v. absurd (let lt : 0 < n = write-sound max form .names st t n e in omega arith))
     (λ st st′ t used row pos e again h v.
     let k = write-took max form st st′ t used row e in
     let more-of = again (words-drop used t h) v in
-    let good : Writable max form row = rw (k .is) (k .good) in
+    let good : WritableRow max form row = rw (k .is) (k .good) in
     let wide : Wide row = rw (k .is) (front-wide t h) in
     let six : words row ≡ take used t = ap words (k .is) ∙ front-words t (k .there) ∙ ap (λ (n : ℕ). take n t) (sym (k .size)) in
-    (one-row good (more-of .0), one-wide wide (more-of .1), ap₂ _++_ six (more-of .2) ∙ take-append-drop used t))
+    (one (good, wide) (more-of .0), ap₂ _++_ six (more-of .1) ∙ take-append-drop used t))
     tt ws

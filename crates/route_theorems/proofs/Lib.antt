@@ -1,3 +1,0 @@
-pub mod CuttingLaws
-pub mod RowLaws
-pub mod Theorems

@@ -1,0 +1,206 @@
+-- What reading and writing lists of routes are, in terms of bytes alone, over the definitions: what the demand of the calls cites.
+-- Assumes nothing.
+use Prim.Native.Nat.{ℕ, _+_, _*_, _/_, _≤_}
+use mathlib.Core.Path.{_≡_, refl, sym, ap, ap₂, subst, _∙_}
+use mathlib.Core.List.{List, map}
+use native.Mathlib.Nat.{lt-of-not-le}
+use native.Mathlib.Decide.{decLe}
+use native.Mathlib.Omega.{arith}
+use lib.ListN.{length, take, length-map}
+use Rattle.wire.specs.Cutting.{Cutting}
+use Rattle.wire.specs.Number as Number
+use Rattle.wire.specs.Refusal.{listLimit}
+use Rattle.wire.specs.Store.{laid}
+use Rattle.wire.specs.Walk.{Reading, pieces, flat}
+use Rattle.wire.specs.declared.WriteAnswer.the-variants.{Bytes}
+use Rattle.wire.proofs.CuttingLaws as Cuttings
+use Rattle.wire.proofs.StoreLaws.{take-laid}
+use Rattle.wire.proofs.WalkLaws.{tally-one, tally-flat}
+use Rattle.families.specs.declared.AddPath.{AddPath}
+use Rattle.families.specs.declared.AddPath.the-variants.{Off, Guess}
+use Rattle.families.specs.declared.Form.{Form}
+use Rattle.families.specs.declared.Form.the-variants.{Plain}
+use Rattle.routes.specs.List.{fixed, stepOf, listOf, sectionOf}
+use Rattle.routes.specs.Prefix.{itemRow, words}
+use Rattle.routes.specs.Promises.{countAnswer, readAnswer, storeAfter}
+use Rattle.routes.specs.WellFormed.{WellFormed, NoZeroFirst}
+use Rattle.routes.specs.declared.ListAnswer.{ListAnswer}
+use Rattle.routes.specs.declared.ListAnswer.the-variants.{Rows, Refused}
+use Rattle.routes.specs.declared.Row.{Row}
+use Rattle.routes.proofs.CuttingLaws.{decides, guess-same, cut-not-strange}
+use Rattle.routes.proofs.ListLaws.{words-length, count-long, count-good, count-rows, leave-refused, leave-full, leave-rows, section-list, section-counted}
+use Rattle.route_bytes.specs.Encode.{rowBytes, writing, bytesOf, Words}
+use Rattle.route_bytes.proofs.PromiseLaws.{measured-good}
+use Rattle.route_bytes.proofs.RowLaws.{GoodRow, stands, rows-write, store-rows}
+use Rattle.route_writer.specs.Promises.{writeAnswer, outAfter}
+use Rattle.route_writer.proofs.PromiseLaws.{leave-bytes, written-bytes}
+
+-- ---- what an answer of rows says
+
+module _ (s : List ℕ) (r : Reading Row) where
+  -- the list keeps the limit
+  count-short : (n : ℕ) → countAnswer s r ≡ Rows n → length s ≤ listLimit
+  count-short n e =
+      elim (decLe (length s) listLimit) [
+        | yes h ↦ h
+        | no gt ↦ let f = count-long s r (lt-of-not-le gt) in let z : _≡_ {A = ℕ} 0 1 = cc in absurd (omega arith)
+      ]
+
+  -- and the store had room
+  read-rows : (d : List ℕ) (n : ℕ) → readAnswer s r (length d) ≡ Rows n → (countAnswer s r ≡ Rows n) × (n ≤ length d / 6)
+  read-rows d n e = by (countAnswer s r) refl
+    where
+      by : (a : ListAnswer) → countAnswer s r ≡ a → (countAnswer s r ≡ Rows n) × (n ≤ length d / 6)
+      by (Rows m) f =
+          elim (decLe m (length d / 6)) [
+            | yes le ↦
+                let same : Rows m ≡ Rows n = leave-rows s r d m f le .0 ∙ e in
+                let k : m ≡ n = cc in
+                (f ∙ same, omega arith)
+            | no gt ↦ let no : Refused _ ≡ Rows n = leave-full s r d m f (lt-of-not-le gt) .0 ∙ e in let z : _≡_ {A = ℕ} 0 1 = cc in absurd (omega arith)
+          ]
+      by (Refused m) f = let no : Refused m ≡ Rows n = leave-refused s r d m f .0 ∙ e in let z : _≡_ {A = ℕ} 0 1 = cc in absurd (omega arith)
+
+-- ---- a reading whose rows are those of a cutting
+
+pub record Reads (max : ℕ) (form : Form) (s : List ℕ) (r : Reading Row) : Type 0 where
+  pub cut : (n : ℕ) → countAnswer s r ≡ Rows n → (items : List (List ℕ)) × Cutting (WellFormed max form) s items
+  pub read : (items : List (List ℕ)) → Cutting (WellFormed max form) s items → r ≡ record { rows = map (itemRow form) items; verdict = 0 }
+
+module _ (max : ℕ) (form : Form) (s : List ℕ) where
+  -- a list under the setting that has the form
+  fixed-reads : Reads max form s (listOf s max (fixed form))
+  unfolding listOf
+  fixed-reads = record {
+    cut = λ n e. Cuttings.read-cut (stepOf max (fixed form)) (WellFormed max form) (itemRow form) (decides max form) Plain s (count-rows s (listOf s max (fixed form)) n e .0);
+    read = λ items c. Cuttings.cut-read (stepOf max (fixed form)) (WellFormed max form) (itemRow form) (decides max form) Plain s items c;
+  }
+
+  -- and a section, since the rule of one byte refuses nothing that has a cutting
+  fixed-section : Reads max form s (sectionOf s max (fixed form))
+  fixed-section = record {
+    cut = λ n e. fixed-reads .cut n (ap (countAnswer s) (sym (section-counted s max (fixed form) n e)) ∙ e);
+    read = λ items c. section-list s max (fixed form) (cut-not-strange max form s items c) ∙ fixed-reads .read items c;
+  }
+
+  module _ (mode : AddPath) (on : mode ≡ fixed form) where
+    pub list-reads : Reads max form s (listOf s max mode)
+    list-reads = subst (λ (m : AddPath). Reads max form s (listOf s max m)) (sym on) fixed-reads
+
+    pub section-reads : Reads max form s (sectionOf s max mode)
+    section-reads = subst (λ (m : AddPath). Reads max form s (sectionOf s max m)) (sym on) fixed-section
+
+module _ {max : ℕ} {form : Form} {s : List ℕ} {r : Reading Row} (reads : Reads max form s r) where
+  -- as many rows as items
+  rows-items : (items : List (List ℕ)) → Cutting (WellFormed max form) s items → length (r .rows) ≡ length items
+  rows-items items c = ap (λ (x : Reading Row). length (x .rows)) (reads .read items c) ∙ length-map items (itemRow form)
+
+  pub cut-counted : (items : List (List ℕ)) → Cutting (WellFormed max form) s items → length s ≤ listLimit → countAnswer s r ≡ Rows (length items)
+  cut-counted items c short = count-good s r (length items) short (ap (λ (x : Reading Row). x .verdict) (reads .read items c), tally-one (r .rows) ∙ rows-items items c)
+
+  pub counted-cut : (n : ℕ) → countAnswer s r ≡ Rows n → (items : List (List ℕ)) × Cutting (WellFormed max form) s items × (length items ≡ n) × (length s ≤ listLimit)
+  counted-cut n e =
+      let c = reads .cut n e in
+      (c .0, c .1, sym (rows-items (c .0) (c .1)) ∙ count-rows s r n e .1, count-short s r n e)
+
+  module _ (d : List ℕ) where
+    pub cut-accepted : (items : List (List ℕ)) → Cutting (WellFormed max form) s items → length s ≤ listLimit → length items ≤ length d / 6
+        → readAnswer s r (length d) ≡ Rows (length items)
+    cut-accepted items c short room = sym (leave-rows s r d (length items) (cut-counted items c short) room .0)
+
+    module _ (n : ℕ) (e : readAnswer s r (length d) ≡ Rows n) where
+      pub accepted-cut : (items : List (List ℕ)) × Cutting (WellFormed max form) s items × (length items ≡ n) × (length s ≤ listLimit) × (n ≤ length d / 6)
+      accepted-cut =
+          let h = read-rows s r d n e in
+          let c = counted-cut n (h .0) in
+          (c .0, c .1, c .2, c .3, h .1)
+
+      -- the store then holds the rows of the items
+      pub rows-stored : (items : List (List ℕ)) → Cutting (WellFormed max form) s items
+          → (n ≡ length items) × (storeAfter s r d ≡ laid d 0 (flat words (map (itemRow form) items)))
+      rows-stored items c =
+          let h = read-rows s r d n e in (
+            sym (count-rows s r n (h .0) .1) ∙ rows-items items c,
+            sym (leave-rows s r d n (h .0) (h .1) .1) ∙ ap (λ (x : Reading Row). laid d 0 (flat words (x .rows))) (reads .read items c),
+          )
+
+-- two cuttings of the same bytes are equal
+pub one-cutting : (max : ℕ) (form : Form) (s : List ℕ) (items items′ : List (List ℕ)) → Cutting (WellFormed max form) s items → Cutting (WellFormed max form) s items′ → items ≡ items′
+one-cutting max form s = Cuttings.one-cutting (stepOf max (fixed form)) (WellFormed max form) (itemRow form) (decides max form) Plain s
+
+-- ---- writing
+
+module _ (max : ℕ) (small : max ≤ 128) (form : Form) where
+  -- the rows of a cutting are written as the bytes
+  items-back : (s : List ℕ) (items : List (List ℕ)) (out : List ℕ) → Number.Bytes s → Cutting (WellFormed max form) s items → length s ≤ listLimit → length s ≤ length out
+      → let ws = flat words (map (itemRow form) items) in (writeAnswer ws max form (length out) ≡ Bytes (length s)) × (outAfter ws max form out ≡ laid out 0 s)
+  unfolding bytesOf writing
+  items-back s items out b c short room =
+      let rows : List Row = map (itemRow form) items in
+      let ws : List ℕ = flat words rows in
+      let h = Cuttings.items-written (WellFormed max form) (itemRow form) (GoodRow max form) (rowBytes form) (stands max small form) items (c .each) (subst Number.Bytes (sym (c .whole)) b) in
+      let w : writing ws max form ≡ record { rows = rows; verdict = 0 } = rows-write max form rows (h .0) in
+      let is : bytesOf ws max form ≡ s = ap (λ (x : Reading Row). flat (rowBytes form) (x .rows)) w ∙ h .2 ∙ c .whole in
+      let size = tally-flat (rowBytes form) (writing ws max form .rows) ∙ ap length is in
+      let l = leave-bytes ws max form out (length s) (measured-good ws max form (length s) (ap (λ (x : Reading Row). x .verdict) w, size)) short room in
+      (sym (l .0), sym (l .1) ∙ ap (laid out 0) is)
+
+  -- writing what was read, from the store that it was read into
+  pub written-back : (s : List ℕ) (r : Reading Row) (d : List ℕ) (n : ℕ) → Reads max form s r → readAnswer s r (length d) ≡ Rows n → Number.Bytes s
+      → (out : List ℕ) → length s ≤ length out
+      → let ws = take (6 * n) (storeAfter s r d) in (writeAnswer ws max form (length out) ≡ Bytes (length s)) × (outAfter ws max form out ≡ laid out 0 s)
+  written-back s r d n reads e b out room =
+      let a = accepted-cut reads d n e in
+      let items : List (List ℕ) = a .0 in
+      let vs : List ℕ = flat words (map (itemRow form) items) in
+      let size : length vs ≡ 6 * n = words-length (map (itemRow form) items) ∙ ap (λ (k : ℕ). 6 * k) (length-map items (itemRow form) ∙ a .2) in
+      let all : 6 * n ≡ 0 + length vs = omega arith in
+      let fits : 0 + length vs ≤ length d = omega (arith, a .4) in
+      let is : take (6 * n) (storeAfter s r d) ≡ vs = ap₂ take all (rows-stored reads d n e items (a .1) .1) ∙ take-laid d 0 vs fits in
+      let h = items-back s items out b (a .1) (a .3) room in
+      (ap (λ (ws : List ℕ). writeAnswer ws max form (length out)) is ∙ h .0, ap (λ (ws : List ℕ). outAfter ws max form out) is ∙ h .1)
+
+  -- the bytes that were written stand at the front of the output
+  out-bytes : (ws d : List ℕ) (n : ℕ) → writeAnswer ws max form (length d) ≡ Bytes n → take n (outAfter ws max form d) ≡ bytesOf ws max form
+  out-bytes ws d n e =
+      let h = written-bytes ws max form d n e in
+      let all : n ≡ 0 + length (bytesOf ws max form) = omega (arith, h .1) in
+      ap₂ take all (h .4) ∙ take-laid d 0 (bytesOf ws max form) (omega (arith, h .3))
+
+  -- stores whose bytes are the same are equal
+  pub stores-equal : (ws ws′ d d′ : List ℕ) (n n′ : ℕ) → Words ws → Words ws′ → writeAnswer ws max form (length d) ≡ Bytes n → writeAnswer ws′ max form (length d′) ≡ Bytes n′
+      → take n (outAfter ws max form d) ≡ take n′ (outAfter ws′ max form d′) → ws ≡ ws′
+  unfolding bytesOf writing
+  stores-equal ws ws′ d d′ n n′ h h′ e e′ same =
+      let a = store-rows max form ws h (written-bytes ws max form d n e .0) in
+      let b = store-rows max form ws′ h′ (written-bytes ws′ max form d′ n′ e′ .0) in
+      let bytes : bytesOf ws max form ≡ bytesOf ws′ max form = sym (out-bytes ws d n e) ∙ same ∙ out-bytes ws′ d′ n′ e′ in
+      let rows = Cuttings.same-rows (WellFormed max form) (itemRow form) (GoodRow max form) (rowBytes form) (stands max small form)
+      (stepOf max (fixed form)) (decides max form) Plain (writing ws max form .rows) (writing ws′ max form .rows) (a .0) (b .0) bytes in
+      sym (a .1) ∙ ap (flat words) rows ∙ b .1
+
+-- ---- the guess, where no item of the guess-off reading starts with a zero byte
+
+module _ (max max′ : ℕ) (s s′ : List ℕ) (mode mode′ : AddPath) (same : s ≡ s′) (alike : max ≡ max′) (on : mode ≡ Guess) (off : mode′ ≡ Off)
+    (no : NoZeroFirst (pieces (stepOf max Off) Plain s)) where
+  plain-list : listOf s max Guess ≡ listOf s max Off
+  unfolding listOf
+  plain-list = guess-same max Plain s no
+
+  plain-section : sectionOf s max Guess ≡ sectionOf s max Off
+  unfolding sectionOf
+  plain-section = rw plain-list
+
+  pub guess-list : listOf s max mode ≡ listOf s′ max′ mode′
+  guess-list = ap (listOf s max) on ∙ plain-list ∙ ap₂ (λ (t : List ℕ) (k : ℕ). listOf t k Off) same alike ∙ ap (listOf s′ max′) (sym off)
+
+  pub guess-section : sectionOf s max mode ≡ sectionOf s′ max′ mode′
+  guess-section = ap (sectionOf s max) on ∙ plain-section ∙ ap₂ (λ (t : List ℕ) (k : ℕ). sectionOf t k Off) same alike ∙ ap (sectionOf s′ max′) (sym off)
+
+-- what is read alike is answered and stored alike
+module _ (s s′ : List ℕ) (r r′ : Reading Row) (same : s ≡ s′) (alike : r ≡ r′) where
+  pub same-count : countAnswer s r ≡ countAnswer s′ r′
+  same-count = ap₂ countAnswer same alike
+
+  pub same-read : (d d′ : List ℕ) → d ≡ d′ → (readAnswer s r (length d) ≡ readAnswer s′ r′ (length d′)) × (storeAfter s r d ≡ storeAfter s′ r′ d′)
+  same-read d d′ e = (λ i. readAnswer (same i) (alike i) (length (e i)), λ i. storeAfter (same i) (alike i) (e i))
