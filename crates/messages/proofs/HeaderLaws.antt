@@ -1,6 +1,6 @@
 -- Laws of the header: its marker as words, and the checks one after another.
 -- Assumes nothing.
-use Prim.Native.Nat.{ℕ, zero, suc, _+_, _-_, _*_, _^_, _/_, _%_, _≤_, _<_}
+use Prim.Native.Nat.{ℕ, zero, suc, _+_, _-_, _*_, _^_, _/_, _%_, _≤_, _<_, min}
 use mathlib.Core.Path.{_≡_, refl, sym, ap, _∙_}
 use mathlib.Core.List.{List, [], _∷_, _++_}
 use mathlib.Core.Bool.{Bool, true, false, not}
@@ -16,9 +16,10 @@ use Rattle.wire.specs.Extent.{PartOf}
 use Rattle.wire.specs.Number.{be, padded, Bytes}
 use Rattle.wire.proofs.NumberLaws.{padded-cells, padded-add, padded-take}
 use Rattle.wire.specs.Refusal.{truncated, messageLength, messageType, shortBody, badMarker}
-use Rattle.messages.specs.Header.{openKind, updateKind, notificationKind, keepaliveKind, routeRefreshKind, messageLimit, extendedLimit, markerSize, allFF, isOutside, isUnknown, headerSize, crateLimit, leastLength, mostLength, messageOf, strictWithin, markerOf, claimedOf, kindOf, takenOf, accepted, whole, bodyAt, Fits}
+use Rattle.messages.specs.Header.{openKind, updateKind, notificationKind, keepaliveKind, routeRefreshKind, messageLimit, extendedLimit, markerSize, allFF, isOutside, isUnknown, headerSize, crateLimit, leastLength, mostLength, messageOf, strictWithin, markerOf, claimedOf, kindOf, takenOf, accepted, acceptedWhole, bodyAt}
+use Rattle.messages.specs.Private.{Fits}
 use Rattle.messages.specs.declared.MessageAnswer.{MessageAnswer}
-use Rattle.messages.specs.declared.MessageAnswer.the-variants.{Refused}
+use Rattle.messages.specs.declared.MessageAnswer.the-variants.{Message, Refused}
 
 -- ---- the marker
 
@@ -174,7 +175,7 @@ module _ {ℓ} (s : List ℕ) (P : MessageAnswer → Type ℓ) (bad : (n : ℕ) 
         short = ltb-false (crateLimit (kindOf s)) (claimedOf s) short;
       }))))))
 
-  pub strict-cases : (limit : ℕ) → (Whole limit s → P (whole s)) → P (strictWithin limit s)
+  pub strict-cases : (limit : ℕ) → (Whole limit s → P (acceptedWhole s)) → P (strictWithin limit s)
   unfolding strictWithin
   strict-cases limit good =
       pick-unless P (ltb (length s) headerSize) (Refused truncated) _ (bad truncated) (λ long.
@@ -201,7 +202,7 @@ accepted-by s h =
     let body : takenOf s - headerSize ≤ length s - headerSize = omega (arith, min-le-right (claimedOf s) (length s)) in
     simp (le-ltb (length s) headerSize (h .long), le-ltb (claimedOf s) headerSize (h .claims), h .known, le-ltb (crateLimit (kindOf s)) (claimedOf s) (h .short), le-ltb (length s - headerSize) (takenOf s - headerSize) body)
 
-pub whole-by : (limit : ℕ) (s : List ℕ) → Whole limit s → strictWithin limit s ≡ whole s
+pub whole-by : (limit : ℕ) (s : List ℕ) → Whole limit s → strictWithin limit s ≡ acceptedWhole s
 unfolding strictWithin
 whole-by limit s h =
     simp (
@@ -212,6 +213,20 @@ whole-by limit s h =
       inside (leastLength (kindOf s)) (mostLength (kindOf s)) (claimedOf s) (h .least) (h .most),
       le-ltb (length s) (claimedOf s) (h .there),
     )
+
+-- the crate's reading from what the tests before it found: a message over its type's limit, and one that is accepted
+module _ (s : List ℕ) (claimed : ℕ) (claims : claimed ≡ claimedOf s) (long : headerSize ≤ length s) (low : headerSize ≤ claimed) (known : isUnknown (kindOf s) ≡ false) where
+  pub message-over : ltb (crateLimit (kindOf s)) claimed ≡ true → Refused messageLength ≡ messageOf s
+  unfolding messageOf
+  message-over over = rw (← claims) (simp (le-ltb (length s) headerSize long, le-ltb claimed headerSize low, known, over))
+
+  pub message-taken : (taken : ℕ) (ones : Bool) → taken ≡ min claimed (length s) → ones ≡ allFF (markerOf s) → ltb (crateLimit (kindOf s)) claimed ≡ false
+      → taken - headerSize ≤ length s - headerSize
+      → Message (kindOf s) claimed taken (not ones) (ltb (length s) claimed) (ltb claimed (length s)) ≡ messageOf s
+  unfolding messageOf
+  message-taken taken ones takes marker under there =
+      rw (← claims, ← takes, ← marker)
+      (simp (le-ltb (length s) headerSize long, le-ltb claimed headerSize low, known, under, le-ltb (length s - headerSize) (taken - headerSize) there))
 
 -- what is taken of a message that is not refused is there
 pub message-fits : (s : List ℕ) → Fits (messageOf s) (length s)

@@ -1,3 +1,4 @@
 pub mod HeaderLaws
 pub mod WrittenLaws
-pub mod Theorems
+pub mod Framing
+pub mod Tight

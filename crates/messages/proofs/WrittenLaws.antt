@@ -5,18 +5,20 @@ use mathlib.Core.Path.{_≡_, refl, sym, ap, ap₂, _∙_}
 use mathlib.Core.List.{List, [], _∷_, _++_}
 use mathlib.Core.Bool.{Bool, true, false}
 use native.Mathlib.Omega.{arith}
-use borrow.Author.Tests.{lt-ltb, ltb-false}
+use borrow.Author.Tests.{lt-ltb, le-ltb, ltb-false}
 use lib.ListN.{length, take, drop, length-append}
 use lib.Dec.{ltb, eqb}
+use Rattle.wire.specs.Answer.{filled, writeMeaning}
 use Rattle.wire.proofs.ChoiceLaws.{pick-any, pick-eqb, pick-unless}
 use Rattle.wire.specs.Number.{toBe, beAt}
 use Rattle.wire.proofs.NumberLaws.{toBe-four}
 use Rattle.wire.specs.Refusal.{messageType, messageLength, noRoom}
 use Rattle.wire.specs.Store.{laid, placed}
 use Rattle.wire.proofs.StoreLaws.{placed-next, placed-fits}
-use Rattle.messages.specs.Header.{allOnes, openKind, keepaliveKind, headerSize, messageLimit, extendedLimit, crateLimit, leastLength, mostLength, isOutside, isUnknown, allFF, markerOf, claimedOf, kindOf}
-use Rattle.messages.proofs.HeaderLaws.{inside-low, inside-high}
-use Rattle.messages.specs.Written.{header, totalOf, messageBytes, writeAnswer, laidBy, outAfter}
+use Rattle.wire.proofs.FrontLaws.{written-front}
+use Rattle.messages.specs.Header.{openKind, keepaliveKind, routeRefreshKind, headerSize, messageLimit, extendedLimit, crateLimit, leastLength, mostLength, isOutside, isUnknown, allFF, markerOf, claimedOf, kindOf}
+use Rattle.messages.proofs.HeaderLaws.{inside, inside-low, inside-high}
+use Rattle.messages.specs.Written.{header, totalOf, messageBytes, writeMessage, messageAfter}
 use Rattle.wire.specs.declared.WriteAnswer.{WriteAnswer}
 use Rattle.wire.specs.declared.WriteAnswer.the-variants.{Bytes, Refused}
 
@@ -30,6 +32,10 @@ tail-bytes total kind ht hk =
     let low : v / 65536 % 256 ≡ total % 256 / 1 = omega arith in
     let last : v / 256 % 256 ≡ kind = omega arith in
     ap (take 3) (toBe-four v) ∙ ap₂ _∷_ high (ap₂ _∷_ low (ap (λ (b : ℕ). b ∷ []) last))
+
+-- four octets of ones, as a number
+abbrev pub allOnes : ℕ
+allOnes = 4294967295
 
 -- four words of ones, then those three bytes
 pub header-put : (d d₁ d₂ d₃ d₄ d₅ : List ℕ) (total kind : ℕ) → total ≤ extendedLimit → kind < 256 → headerSize ≤ length d
@@ -77,9 +83,9 @@ over-outside lo hi n h = rw (lt-ltb hi n h) (pick-any (λ (t : Bool). t ≡ true
 
 -- ---- the output
 
-pub out-by : (kind : ℕ) (body out : List ℕ) (a : WriteAnswer) → writeAnswer kind body (length out) ≡ a → outAfter kind body out ≡ laidBy a (messageBytes kind body) out
-unfolding outAfter
-out-by kind body out a e = ap (λ (x : WriteAnswer). laidBy x (messageBytes kind body) out) e
+pub out-by : (kind : ℕ) (body out : List ℕ) (a : WriteAnswer) → writeMessage kind body (length out) ≡ a → messageAfter kind body out ≡ filled (writeMeaning a) (messageBytes kind body) out
+unfolding messageAfter
+out-by kind body out a e = ap (λ (x : WriteAnswer). filled (writeMeaning x) (messageBytes kind body) out) e
 
 -- the body after the header
 pub body-put : (kind : ℕ) (body d d₁ d₂ : List ℕ) → totalOf body ≤ length d
@@ -99,8 +105,8 @@ pub record Fit (kind : ℕ) (body : List ℕ) (places n : ℕ) : Type 0 where
   pub room : totalOf body ≤ places
   pub size : n ≡ totalOf body
 
-pub written-fit : (kind : ℕ) (body : List ℕ) (places n : ℕ) → writeAnswer kind body places ≡ Bytes n → Fit kind body places n
-unfolding writeAnswer
+pub written-fit : (kind : ℕ) (body : List ℕ) (places n : ℕ) → writeMessage kind body places ≡ Bytes n → Fit kind body places n
+unfolding writeMessage
 written-fit kind body places n =
     let never : (m : ℕ) → Refused m ≡ Bytes n → Fit kind body places n = λ m e. let z : _≡_ {A = ℕ} 0 1 = cc in absurd (omega arith) in
     let P : WriteAnswer → Type 0 = λ a. a ≡ Bytes n → Fit kind body places n in
@@ -115,6 +121,40 @@ written-fit kind body places n =
       room = ltb-false places total room;
       size = cc;
     })))
+
+-- the answer from what the tests before it found
+module _ (kind : ℕ) (body : List ℕ) (places : ℕ) where
+  pub write-unknown : isUnknown kind ≡ true → writeMessage kind body places ≡ Refused messageType
+  unfolding writeMessage
+  write-unknown unknown = rw unknown
+
+  module _ (known : isUnknown kind ≡ false) where
+    pub write-misfit : isOutside (leastLength kind) (mostLength kind) (totalOf body) ≡ true → writeMessage kind body places ≡ Refused messageLength
+    unfolding writeMessage
+    write-misfit misfit = rw (known, misfit)
+
+    module _ (own : isOutside (leastLength kind) (mostLength kind) (totalOf body) ≡ false) where
+      pub write-full : places < totalOf body → writeMessage kind body places ≡ Refused noRoom
+      unfolding writeMessage
+      write-full full = rw (known, own, lt-ltb places (totalOf body) full)
+
+      pub write-fits : totalOf body ≤ places → writeMessage kind body places ≡ Bytes (totalOf body)
+      unfolding writeMessage
+      write-fits room = rw (known, own, le-ltb places (totalOf body) room)
+
+-- and a message of a known type, whose length its type allows, is written where there is room
+pub fit-written : (kind : ℕ) (body : List ℕ) (places : ℕ) → openKind ≤ kind → kind ≤ routeRefreshKind → leastLength kind ≤ totalOf body → totalOf body ≤ mostLength kind
+    → totalOf body ≤ places → writeMessage kind body places ≡ Bytes (totalOf body)
+unfolding isUnknown
+fit-written kind body places lo hi least most room =
+    write-fits kind body places (inside openKind routeRefreshKind kind lo hi) (inside (leastLength kind) (mostLength kind) (totalOf body) least most) room
+
+-- the front of the output is then the message
+pub message-front : (kind : ℕ) (body out : List ℕ) (n : ℕ) → writeMessage kind body (length out) ≡ Bytes n → take n (messageAfter kind body out) ≡ messageBytes kind body
+unfolding messageAfter messageBytes
+message-front kind body out n e =
+    let size : length (messageBytes kind body) ≡ n = omega (arith, length-append (header (totalOf body) kind) body, length-header (totalOf body) kind, written-fit kind body (length out) n e .size) in
+    written-front (writeMessage kind body (length out)) n (messageBytes kind body) out e size
 
 module _ (kind : ℕ) (body rest : List ℕ) where
   pub written-long : length (messageBytes kind body ++ rest) ≡ totalOf body + length rest

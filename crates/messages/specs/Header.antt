@@ -1,15 +1,27 @@
 -- The message header. RFC 4271 section 4.1: sixteen octets of marker, two of length, header and all, and one of type.
-use Prim.Native.Nat.{ℕ, _-_, _≤_, min}
+use Prim.Native.Nat.{ℕ, _-_, min}
 use mathlib.Core.List.{List, [], _∷_}
 use mathlib.Core.Bool.{Bool, true, false, not}
 use lib.ListN.{length, getD, take}
 use lib.Dec.{ltb, eqb}
+use Rattle.wire.specs.Answer.{Answer, given, refusal}
 use Rattle.wire.specs.Choice.{pick}
 use Rattle.wire.specs.Extent.{Extent, nothing}
 use Rattle.wire.specs.Number.{beAt}
 use Rattle.wire.specs.Refusal.{truncated, messageLength, messageType, shortBody, badMarker}
 use Rattle.messages.specs.declared.MessageAnswer.{MessageAnswer}
 use Rattle.messages.specs.declared.MessageAnswer.the-variants.{Message, Refused}
+
+-- ---- a message as document 01 has it: type, claimed, taken, and the flags marker, cut and trailing
+
+-- 1 where it is set, and else 0
+abbrev pub flag : Bool → ℕ
+flag true = 1
+flag false = 0
+
+abbrev pub messageMeaning : MessageAnswer → Answer
+messageMeaning (Message kind claimed taken marker cut trailing) = given (kind ∷ claimed ∷ taken ∷ flag marker ∷ flag cut ∷ flag trailing ∷ [])
+messageMeaning (Refused n) = refusal n
 
 -- ---- the types (RFC 4271 section 4.1, RFC 2918 section 3)
 
@@ -39,10 +51,6 @@ headerSize = 19
 -- where the type stands
 abbrev pub kindPlace : ℕ
 kindPlace = 18
-
--- four octets of ones, as a number
-abbrev pub allOnes : ℕ
-allOnes = 4294967295
 
 -- the most octets of a message: RFC 4271 section 4.1, and RFC 8654 section 4 where both ends agreed on long ones
 abbrev pub messageLimit : ℕ
@@ -103,8 +111,8 @@ takenOf s = min (claimedOf s) (length s)
 abbrev pub accepted : List ℕ → MessageAnswer
 accepted s = Message (kindOf s) (claimedOf s) (takenOf s) (not (allFF (markerOf s))) (ltb (length s) (claimedOf s)) (ltb (claimedOf s) (length s))
 
-abbrev pub whole : List ℕ → MessageAnswer
-whole s = Message (kindOf s) (claimedOf s) (claimedOf s) false false (ltb (claimedOf s) (length s))
+abbrev pub acceptedWhole : List ℕ → MessageAnswer
+acceptedWhole s = Message (kindOf s) (claimedOf s) (claimedOf s) false false (ltb (claimedOf s) (length s))
 
 -- the crate's reading
 unfoldable pub messageOf : List ℕ → MessageAnswer
@@ -125,7 +133,7 @@ strictWithin limit s =
     (pick (isUnknown (kindOf s)) (Refused messageType)
     (pick (isOutside (leastLength (kindOf s)) (mostLength (kindOf s)) (claimedOf s)) (Refused messageLength)
     (pick (ltb (length s) (claimedOf s)) (Refused truncated)
-    (whole s))))))
+    (acceptedWhole s))))))
 
 -- RFC 4271's
 abbrev pub strictOf : List ℕ → MessageAnswer
@@ -137,8 +145,3 @@ strictOf s = strictWithin messageLimit s
 abbrev pub bodyAt : MessageAnswer → Extent
 bodyAt (Message kind claimed taken marker cut trailing) = record { start = headerSize; size = taken - headerSize }
 bodyAt (Refused n) = nothing
-
--- what is taken is there, header and all
-abbrev pub Fits : MessageAnswer → ℕ → Type 0
-Fits (Message kind claimed taken marker cut trailing) n = (headerSize ≤ taken) × (taken ≤ n)
-Fits (Refused m) n = 0 ≤ n

@@ -7,8 +7,9 @@ ghost use lib.Dec.{ltb};
 ghost use Rattle.wire.specs.Extent.{PartOf};
 ghost use Rattle.wire.specs.Number.{be, padded};
 ghost use Rattle.wire.specs.Store.{laid};
-ghost use Rattle.messages.specs.Header.{markerSize, headerSize, extendedLimit, markerOf, allFF, isOutside, isUnknown, leastLength, mostLength, crateLimit, messageOf, strictWithin, strictOf, bodyAt, Fits};
-ghost use Rattle.messages.specs.Written.{header, writeAnswer, outAfter};
+ghost use Rattle.messages.specs.Header.{markerSize, headerSize, extendedLimit, markerOf, allFF, isOutside, isUnknown, leastLength, mostLength, crateLimit, messageOf, strictWithin, strictOf, bodyAt};
+ghost use Rattle.messages.specs.Written.{header, writeMessage, messageAfter};
+ghost use Rattle.messages.specs.Private.{Fits};
 use wire::WriteAnswer;
 use wire::refusal;
 
@@ -280,8 +281,8 @@ fn put_header(out: &mut [u8], total: usize, kind: u8)
 
 // Writes a message of a type and a body.
 pub fn encode_bgp_message(kind: u8, body: &[u8], out: &mut [u8]) -> WriteAnswer
-    ensures answer { λ r. ⌜ r ≡ writeAnswer kind (now (body .entry)) (length (now (out .entry))) ⌝ }
-    ensures output { λ _. ⌜ now (out .exit) ≡ outAfter kind (now (body .entry)) (now (out .entry)) ⌝ }
+    ensures answer { λ r. ⌜ r ≡ writeMessage kind (now (body .entry)) (length (now (out .entry))) ⌝ }
+    ensures output { λ _. ⌜ now (out .exit) ≡ messageAfter kind (now (body .entry)) (now (out .entry)) ⌝ }
 {
     if unknown(kind) {
         return WriteAnswer::Refused(refusal::MESSAGE_TYPE);

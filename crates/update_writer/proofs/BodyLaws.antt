@@ -10,8 +10,10 @@ use native.Mathlib.Omega.{arith}
 use borrow.Author.Tests.{lt-ltb, le-ltb, ltb-false}
 use lib.ListN.{length, length-append}
 use lib.Dec.{ltb}
+use Rattle.wire.specs.Answer.{limited}
+use Rattle.wire.proofs.AnswerLaws.{limited-long, limited-full, limited-fits}
 use Rattle.wire.specs.Choice.{pick}
-use Rattle.wire.proofs.ChoiceLaws.{pick-any, pick-unless}
+use Rattle.wire.proofs.ChoiceLaws.{pick-any, pick-leb, pick-unless}
 use Rattle.wire.specs.Number.{toBe}
 use Rattle.wire.specs.Refusal.{tooLong, noRoom, listLimit, bodyLimit}
 use Rattle.wire.specs.Store.{laid, placed}
@@ -22,77 +24,89 @@ use Rattle.families.specs.declared.Form.{Form}
 use Rattle.route_bytes.specs.Promises.{measured}
 use Rattle.wire.specs.declared.WriteAnswer.{WriteAnswer}
 use Rattle.wire.specs.declared.WriteAnswer.the-variants.{Bytes, Refused}
-use Rattle.route_writer.specs.Pair.{pairEnd, pairSized, ifBoth, pairAnswer}
-use Rattle.route_writer.proofs.PairLaws.{pair-over, pair-under}
+use Rattle.route_writer.specs.Pair.{writePairEnd, writePairSized, ifBoth, writePairAnswer}
+use Rattle.route_writer.proofs.PairLaws.{write-pair-over, write-pair-under}
 use Rattle.route_writer.specs.declared.ListsAnswer.{ListsAnswer}
 use Rattle.route_writer.specs.declared.ListsAnswer.the-variants.{Lists}
 use Rattle.route_writer.specs.declared.ListsAnswer.the-variants as L
-use Rattle.update_writer.specs.Body.{lengthSize, sections, totalOf, sized, ifWritable, bodyAnswer}
+use Rattle.updates.specs.Body.{lengthSize}
+use Rattle.update_writer.specs.Body.{sections, bodySize, bodySized, ifWritable, bodyAnswer}
 
 -- sizes that are not refused
 pub record Sized (withdrawn attributes announced places : ℕ) : Type 0 where
   pub low : withdrawn ≤ listLimit
   pub middle : attributes ≤ listLimit
-  pub whole : totalOf withdrawn attributes announced ≤ bodyLimit
-  pub room : totalOf withdrawn attributes announced ≤ places
+  pub whole : bodySize withdrawn attributes announced ≤ bodyLimit
+  pub room : bodySize withdrawn attributes announced ≤ places
 
-pub sized-bytes : (withdrawn attributes announced places n : ℕ) → sized withdrawn attributes announced places ≡ Bytes n → Sized withdrawn attributes announced places
-unfolding sized
-sized-bytes withdrawn attributes announced places n =
-    let total : ℕ = totalOf withdrawn attributes announced in
-    let P : WriteAnswer → Type 0 = λ x. x ≡ Bytes n → Sized withdrawn attributes announced places in
-    let never : (m : ℕ) → P (Refused m) = λ m e. let z : _≡_ {A = ℕ} 0 1 = cc in absurd (omega arith) in
-    pick-unless P (ltb listLimit withdrawn) (Refused tooLong) _ (never tooLong) (λ low.
-    pick-unless P (ltb listLimit attributes) (Refused tooLong) _ (never tooLong) (λ middle.
-    pick-unless P (ltb bodyLimit total) (Refused tooLong) _ (never tooLong) (λ whole.
-    pick-unless P (ltb places total) (Refused noRoom) (Bytes total) (never noRoom) (λ room _.
-    record {
+-- what holds of every refusal, and of sizes that are not refused, holds of any sizes
+pub sized-cases {ℓ} : (withdrawn attributes announced places : ℕ) (P : WriteAnswer → Type ℓ) → ((n : ℕ) → P (Refused n))
+    → (Sized withdrawn attributes announced places → P (Bytes (bodySize withdrawn attributes announced))) → P (bodySized withdrawn attributes announced places)
+unfolding bodySized limited
+sized-cases withdrawn attributes announced places P bad good =
+    let total : ℕ = bodySize withdrawn attributes announced in
+    pick-unless P (ltb listLimit withdrawn) (Refused tooLong) _ (bad tooLong) (λ low.
+    pick-unless P (ltb listLimit attributes) (Refused tooLong) _ (bad tooLong) (λ middle.
+    pick-leb P total bodyLimit _ (Refused tooLong)
+    (λ whole.
+    pick-leb P total places (Bytes total) (Refused noRoom)
+    (λ room.
+    good (record {
       low = ltb-false listLimit withdrawn low;
       middle = ltb-false listLimit attributes middle;
-      whole = ltb-false bodyLimit total whole;
-      room = ltb-false places total room;
-    }))))
+      whole = whole;
+      room = room;
+    }))
+    (λ _. bad noRoom))
+    (λ _. bad tooLong)))
+
+-- and such sizes are not refused
+pub sized-by : (withdrawn attributes announced places : ℕ) → Sized withdrawn attributes announced places
+    → bodySized withdrawn attributes announced places ≡ Bytes (bodySize withdrawn attributes announced)
+unfolding bodySized
+sized-by withdrawn attributes announced places f =
+    rw (le-ltb listLimit withdrawn (f .low), le-ltb listLimit attributes (f .middle))
+    (limited-fits bodyLimit (bodySize withdrawn attributes announced) places (f .whole) (f .room))
 
 -- ---- the answer, by what the call on both lists says
 
 abbrev pub bodyBy : ℕ → ListsAnswer → WriteAnswer
-bodyBy attributes (Lists w a) = Bytes (totalOf w attributes a)
+bodyBy attributes (Lists w a) = Bytes (bodySize w attributes a)
 bodyBy attributes (L.Refused n) = Refused n
 
 module _ (k places : ℕ) where
-  by-room : (t : Bool) (w a : ℕ) → pick t (Refused noRoom) (Bytes (totalOf w k a)) ≡ bodyBy k (pick t (L.Refused noRoom) (Lists w a))
-  by-room true w a = refl
-  by-room false w a = refl
-
   -- a section over the limit of a list makes the body too long
-  by-sizes : (w a : ℕ) → sized w k a places ≡ bodyBy k (pairSized lengthSize (lengthSize + k) bodyLimit places w a)
-  unfolding sized
+  by-sizes : (w a : ℕ) → bodySized w k a places ≡ bodyBy k (writePairSized lengthSize (lengthSize + k) bodyLimit places w a)
+  unfolding bodySized
   by-sizes w a =
-      let total : ℕ = totalOf w k a in
-      let end : pairEnd lengthSize (lengthSize + k) w a ≡ total = omega arith in
+      let total : ℕ = bodySize w k a in
+      let end : writePairEnd lengthSize (lengthSize + k) w a ≡ total = omega arith in
       elim (decLe total bodyLimit) [
         | yes le ↦
             let low : w ≤ listLimit = omega arith in
-            let middle : k ≤ listLimit = omega arith in
-            let both : pairSized lengthSize (lengthSize + k) bodyLimit places w a ≡ pick (ltb places total) (L.Refused noRoom) (Lists w a) =
-            pair-under lengthSize (lengthSize + k) bodyLimit places w a (ltb places total) low (omega arith) (omega arith) (ap (ltb places) end) in
-            rw (le-ltb listLimit w low, le-ltb listLimit k middle, le-ltb bodyLimit total le) (by-room (ltb places total) w a ∙ ap (bodyBy k) (sym both))
+            let both : (t : Bool) → ltb places total ≡ t → writePairSized lengthSize (lengthSize + k) bodyLimit places w a ≡ pick t (L.Refused noRoom) (Lists w a) =
+            λ t e. write-pair-under lengthSize (lengthSize + k) bodyLimit places w a t low (omega arith) (omega arith) (ap (ltb places) end ∙ e) in
+            rw (le-ltb listLimit w low, le-ltb listLimit k (omega arith))
+            (elim (decLe total places) [
+              | yes fits ↦ limited-fits bodyLimit total places le fits ∙ ap (bodyBy k) (sym (both false (le-ltb places total fits)))
+              | no full ↦ limited-full bodyLimit total places le (lt-of-not-le full) ∙ ap (bodyBy k) (sym (both true (lt-ltb places total (lt-of-not-le full))))
+            ])
         | no gt ↦
             let P : WriteAnswer → Type 0 = λ x. x ≡ Refused tooLong in
             let over : bodyLimit < total = lt-of-not-le gt in
-            pick-any P (ltb listLimit w) (Refused tooLong) _ refl (pick-any P (ltb listLimit k) (Refused tooLong) _ refl (rw (lt-ltb bodyLimit total over)))
-            ∙ ap (bodyBy k) (sym (pair-over lengthSize (lengthSize + k) bodyLimit places w a (omega arith)))
+            pick-any P (ltb listLimit w) (Refused tooLong) _ refl (pick-any P (ltb listLimit k) (Refused tooLong) _ refl (limited-long bodyLimit total places over))
+            ∙ ap (bodyBy k) (sym (write-pair-over lengthSize (lengthSize + k) bodyLimit places w a (omega arith)))
       ]
 
-  by-lists : (x y : WriteAnswer) → ifWritable x (λ w. ifWritable y (λ a. sized w k a places)) ≡ bodyBy k (ifBoth x y (pairSized lengthSize (lengthSize + k) bodyLimit places))
+  by-lists : (x y : WriteAnswer) → ifWritable x (λ w. ifWritable y (λ a. bodySized w k a places)) ≡ bodyBy k (ifBoth x y (writePairSized lengthSize (lengthSize + k) bodyLimit places))
   by-lists (Bytes w) (Bytes a) = by-sizes w a
   by-lists (Bytes w) (Refused n) = refl
   by-lists (Refused n) y = refl
 
 pub body-by : (withdrawn attributes announced : List ℕ) (form : Form) (places : ℕ)
     → bodyAnswer withdrawn attributes announced form places
-    ≡ bodyBy (length attributes) (pairAnswer withdrawn announced (maxOf Ipv4) form lengthSize (lengthSize + length attributes) bodyLimit places)
-unfolding bodyAnswer pairAnswer
+    ≡ bodyBy (length attributes) (writePairAnswer withdrawn announced (maxOf Ipv4) form lengthSize (lengthSize + length attributes) bodyLimit places)
+unfolding bodyAnswer writePairAnswer
 body-by withdrawn attributes announced form places = by-lists (length attributes) places (measured withdrawn (maxOf Ipv4) form) (measured announced (maxOf Ipv4) form)
 
 -- ---- the output
@@ -111,7 +125,7 @@ placed-below d vs to a x y j ws e f at apart fits =
     ∙ ap (λ (q : List ℕ). laid q to a) (sym (placed-fits l j ws (omega arith)) ∙ placed-next d vs j ws at (omega arith))
 
 -- the two lists, and then what stands around them
-pub sections-put : (d d₁ d₂ d₃ d₄ w b a : List ℕ) (n : ℕ) → length w ≡ n → totalOf n (length b) (length a) ≤ length d
+pub sections-put : (d d₁ d₂ d₃ d₄ w b a : List ℕ) (n : ℕ) → length w ≡ n → bodySize n (length b) (length a) ≤ length d
     → d₁ ≡ laid (laid d lengthSize w) (lengthSize + n + (lengthSize + length b)) a
     → d₂ ≡ placed d₁ 0 (toBe lengthSize n)
     → d₃ ≡ placed d₂ (lengthSize + n) (toBe lengthSize (length b))

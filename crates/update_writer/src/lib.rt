@@ -2,15 +2,13 @@
 // after its length but the last.
 ghost use mathlib.Core.Path.{_≡_};
 ghost use lib.ListN.{length};
-ghost use Rattle.route_writer.specs.Promises.{filled};
+ghost use Rattle.wire.specs.Answer.{filled, writeMeaning};
 ghost use Rattle.update_writer.specs.Body.{bodyBytes, bodyAnswer};
 use families::Afi;
 use families::Form;
 use route_writer::ListsAnswer;
+use updates::LENGTH_SIZE;
 use wire::WriteAnswer;
-
-// The bytes of a section's length.
-const LENGTH_SIZE: usize = 2;
 
 // Writes an UPDATE body; both lists are written with ids or both without. What stands around them follows once they fit.
 pub fn encode_bgp_update_message(
@@ -21,7 +19,7 @@ pub fn encode_bgp_update_message(
     out: &mut [u8],
 ) -> WriteAnswer
     ensures answer { λ r. ⌜ r ≡ bodyAnswer (now (withdrawn .entry)) (now (attributes .entry)) (now (announced .entry)) form (length (now (out .entry))) ⌝ }
-    ensures out { λ r. ⌜ now (out .exit) ≡ filled r (bodyBytes (now (withdrawn .entry)) (now (attributes .entry)) (now (announced .entry)) form) (now (out .entry)) ⌝ }
+    ensures out { λ r. ⌜ now (out .exit) ≡ filled (writeMeaning r) (bodyBytes (now (withdrawn .entry)) (now (attributes .entry)) (now (announced .entry)) form) (now (out .entry)) ⌝ }
 {
     match route_writer::encode_nlri_pair(
         withdrawn,

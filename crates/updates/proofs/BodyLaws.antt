@@ -13,7 +13,7 @@ use Rattle.wire.specs.Extent.{Extent, PartOf, clipped}
 use Rattle.wire.proofs.ExtentLaws.{clipped-fits}
 use Rattle.wire.specs.Number.{beAt}
 use Rattle.wire.specs.Refusal.{tooLong, truncated, bodyLimit}
-use Rattle.updates.specs.Body.{lengthSize, withdrawnSize, withdrawnEnd, attributesSize, attributesEnd, partsOf, withdrawnAt, announcedAt, withdrawnOf, announcedOf}
+use Rattle.updates.specs.Body.{lengthSize, withdrawnSize, withdrawnEnd, attributesSize, attributesEnd, partsOf, withdrawnAt, attributesAt, announcedAt, withdrawnOf, attributesOf, announcedOf}
 use Rattle.updates.specs.declared.PartsAnswer.{PartsAnswer}
 use Rattle.updates.specs.declared.PartsAnswer.the-variants.{Parts, Refused}
 
@@ -88,6 +88,10 @@ part-told section s r told p e f fits h = rw (sym e ∙ f) (rw (clipped-fits (se
 pub holds-withdrawn : (s r : RefT (List ℕ)) → PartOf s (withdrawnAt (partsOf (s .now))) r → r .now ≡ withdrawnOf (s .now)
 unfolding withdrawnOf
 holds-withdrawn s r h = h .holds
+
+pub holds-attributes : (s r : RefT (List ℕ)) → PartOf s (attributesAt (partsOf (s .now))) r → r .now ≡ attributesOf (s .now)
+unfolding attributesOf
+holds-attributes s r h = h .holds
 
 pub holds-announced : (s r : RefT (List ℕ)) → PartOf s (announcedAt (partsOf (s .now))) r → r .now ≡ announcedOf (s .now)
 unfolding announcedOf

@@ -1,2 +1,3 @@
 pub mod BodyLaws
-pub mod Theorems
+pub mod Sections
+pub mod Tight

@@ -1,16 +1,21 @@
 -- The sections of an UPDATE body. RFC 4271 section 4.3: a two-octet length and the withdrawn routes, a two-octet length and the path
 -- attributes; the rest are the announced routes.
 use Prim.Native.Nat.{ℕ, _+_, _-_}
-use mathlib.Core.List.{List}
-use mathlib.Core.Bool.{Bool}
+use mathlib.Core.List.{List, [], _∷_}
 use lib.ListN.{length}
 use lib.Dec.{ltb}
+use Rattle.wire.specs.Answer.{Answer, given, refusal}
 use Rattle.wire.specs.Choice.{pick}
 use Rattle.wire.specs.Extent.{Extent, nothing, within}
 use Rattle.wire.specs.Number.{beAt}
 use Rattle.wire.specs.Refusal.{tooLong, truncated, bodyLimit}
 use Rattle.updates.specs.declared.PartsAnswer.{PartsAnswer}
 use Rattle.updates.specs.declared.PartsAnswer.the-variants.{Parts, Refused}
+
+-- the sections as document 01 has them: the lengths of the withdrawn, the attribute and the announced one
+abbrev pub partsMeaning : PartsAnswer → Answer
+partsMeaning (Parts withdrawn attributes announced) = given (withdrawn ∷ attributes ∷ announced ∷ [])
+partsMeaning (Refused n) = refusal n
 
 -- the octets of a length
 abbrev pub lengthSize : ℕ

@@ -1,11 +1,14 @@
 -- The routes of an UPDATE: both sections are lists of IPv4 routes (RFC 4271 section 4.3). A malformed one has no rows and its own verdict,
 -- and does not refuse the UPDATE.
 use Prim.Native.Nat.{ℕ}
-use mathlib.Core.List.{List}
+use mathlib.Core.List.{List, [], _∷_}
+use Rattle.wire.specs.Answer.{Answer, given, refusal, filled}
+use Rattle.wire.specs.Walk.{flat}
 use Rattle.families.specs.Family.{maxOf}
 use Rattle.routes.specs.List.{sectionOf}
-use Rattle.routes.specs.Promises.{countAnswer, filled}
-use Rattle.route_reader.specs.Pair.{pairAnswer}
+use Rattle.routes.specs.Prefix.{words}
+use Rattle.routes.specs.Promises.{listMeaning, rowsIn, verdictIn, countAnswer}
+use Rattle.route_reader.specs.Pair.{readPair}
 use Rattle.families.specs.declared.Afi.the-variants.{Ipv4}
 use Rattle.families.specs.declared.AddPath.{AddPath}
 use Rattle.routes.specs.declared.Row.{Row}
@@ -17,6 +20,20 @@ use Rattle.updates.specs.declared.PartsAnswer.{PartsAnswer}
 use Rattle.updates.specs.declared.PartsAnswer.the-variants as S
 use Rattle.updates.specs.declared.UpdateAnswer.{UpdateAnswer}
 use Rattle.updates.specs.declared.UpdateAnswer.the-variants.{Update, Refused}
+
+-- an UPDATE as document 01 has it: the rows and the verdict of its withdrawn section, and of its announced one
+abbrev pub updateMeaning : UpdateAnswer → Answer
+updateMeaning (Update withdrawn announced) = given (rowsIn withdrawn ∷ verdictIn withdrawn ∷ rowsIn announced ∷ verdictIn announced ∷ [])
+updateMeaning (Refused n) = refusal n
+
+-- each section by itself
+abbrev pub withdrawnMeaning : UpdateAnswer → Answer
+withdrawnMeaning (Update withdrawn announced) = listMeaning withdrawn
+withdrawnMeaning (Refused n) = refusal n
+
+abbrev pub announcedMeaning : UpdateAnswer → Answer
+announcedMeaning (Update withdrawn announced) = listMeaning announced
+announcedMeaning (Refused n) = refusal n
 
 -- a body whose sections are not all there is refused first
 abbrev pub ifParts : PartsAnswer → UpdateAnswer → UpdateAnswer
@@ -36,16 +53,14 @@ countUpdate b mode = ifParts (partsOf b) (Update (counted (withdrawnOf b) mode) 
 
 -- reading into stores of so many places: 11 last
 unfoldable pub readUpdate : List ℕ → AddPath → ℕ → ℕ → UpdateAnswer
-readUpdate b mode places places′ = ifParts (partsOf b) (asUpdate (pairAnswer (withdrawnOf b) (announcedOf b) (maxOf Ipv4) mode places places′))
+readUpdate b mode places places′ = ifParts (partsOf b) (asUpdate (readPair (withdrawnOf b) (announcedOf b) (maxOf Ipv4) mode places places′))
 
 -- the stores afterwards, by the answer: the rows of each good section from the front, and else as it was
 abbrev pub withdrawnFilled : UpdateAnswer → List Row → List ℕ → List ℕ
-withdrawnFilled (Update first second) rows store = filled first rows store
-withdrawnFilled (Refused n) rows store = store
+withdrawnFilled u rows store = filled (withdrawnMeaning u) (flat words rows) store
 
 abbrev pub announcedFilled : UpdateAnswer → List Row → List ℕ → List ℕ
-announcedFilled (Update first second) rows store = filled second rows store
-announcedFilled (Refused n) rows store = store
+announcedFilled u rows store = filled (announcedMeaning u) (flat words rows) store
 
 abbrev pub withdrawnAfter : UpdateAnswer → List ℕ → AddPath → List ℕ → List ℕ
 withdrawnAfter u b mode store = withdrawnFilled u (sectionOf (withdrawnOf b) (maxOf Ipv4) mode .rows) store

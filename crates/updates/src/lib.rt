@@ -5,7 +5,7 @@ ghost use lib.ListN.{length};
 ghost use Rattle.wire.specs.Extent.{PartOf};
 ghost use Rattle.families.specs.Family.{maxOf};
 ghost use Rattle.routes.specs.List.{sectionOf};
-ghost use Rattle.route_reader.specs.Pair.{pairAnswer};
+ghost use Rattle.route_reader.specs.Pair.{readPair};
 ghost use Rattle.families.specs.declared.Afi.the-variants.{Ipv4};
 ghost use Rattle.updates.specs.Body.{partsOf, withdrawnAt, attributesAt, announcedAt};
 ghost use Rattle.updates.specs.Update.{countUpdate, readUpdate, asUpdate, withdrawnFilled, announcedFilled, withdrawnAfter, announcedAfter};
@@ -16,7 +16,7 @@ use routes::ListAnswer;
 use wire::refusal;
 
 // The bytes of a section's length.
-const LENGTH_SIZE: usize = 2;
+pub const LENGTH_SIZE: usize = 2;
 
 // The lengths of the three sections, or a refusal number.
 pub enum PartsAnswer {
@@ -139,7 +139,7 @@ fn both_sections(
     withdrawn: &mut [u32],
     announced: &mut [u32],
 ) -> UpdateAnswer
-    ensures answer { λ r. ⌜ r ≡ asUpdate (pairAnswer (now (s .entry)) (now (t .entry)) (maxOf Ipv4) mode (length (now (withdrawn .entry))) (length (now (announced .entry)))) ⌝ }
+    ensures answer { λ r. ⌜ r ≡ asUpdate (readPair (now (s .entry)) (now (t .entry)) (maxOf Ipv4) mode (length (now (withdrawn .entry))) (length (now (announced .entry)))) ⌝ }
     ensures withdrawn { λ r. ⌜ now (withdrawn .exit) ≡ withdrawnFilled r (sectionOf (now (s .entry)) (maxOf Ipv4) mode .rows) (now (withdrawn .entry)) ⌝ }
     ensures announced { λ r. ⌜ now (announced .exit) ≡ announcedFilled r (sectionOf (now (t .entry)) (maxOf Ipv4) mode .rows) (now (announced .entry)) ⌝ }
 {

@@ -5,10 +5,9 @@ use mathlib.Core.Path.{_≡_, sym, _∙_}
 use Prim.Native.Nat.{_≤_, _<_}
 use native.Mathlib.Omega.{arith}
 use lib.ListN.{length}
-use borrow.Author.Tests.{lt-ltb, le-ltb}
 use Rattle.messages.proofs.HeaderLaws.{inside-high}
-use Rattle.messages.specs.Written.{writeAnswer, totalOf}
-use Rattle.messages.proofs.WrittenLaws.{most-small, over-outside, out-by, body-put}
+use Rattle.messages.specs.Written.{totalOf}
+use Rattle.messages.proofs.WrittenLaws.{most-small, over-outside, out-by, body-put, write-unknown, write-misfit, write-full, write-fits}
 use Rattle.wire.specs.declared.WriteAnswer.the-variants.{Bytes, Refused}
 use borrow.Author.Needs.{needs}
 use Rattle.messages.proofs.encode_bgp_message.Statement.{statement}
@@ -18,19 +17,17 @@ unknown-requires : tie.Need-unknown-requires
 unknown-requires c κs = search needs
 
 returns : tie.Need-returns
-unfolding writeAnswer
 returns c =
     let a = c .before .before .before .before .args in
-    let e : writeAnswer (a .kind) (a .body .now) (length (a .out .now)) ≡ Refused messageType = simp (sym (c .before .unknown .ensures) ∙ c .if1 .taken) in
+    let e = write-unknown (a .kind) (a .body .now) (length (a .out .now)) (sym (c .before .unknown .ensures) ∙ c .if1 .taken) in
     (sym e, sym (out-by (a .kind) (a .body .now) (a .out .now) (Refused messageType) e))
 
 returns-2 : tie.Need-returns-2
-unfolding writeAnswer
 returns-2 c =
     let a = c .before .before .before .before .before .args in
     let over : mostLength (a .kind) < totalOf (a .body .now) = omega (arith, most-small (a .kind)) in
-    let e : writeAnswer (a .kind) (a .body .now) (length (a .out .now)) ≡ Refused messageLength =
-    simp (sym (c .before .before .unknown .ensures) ∙ c .before .if1 .left, over-outside (leastLength (a .kind)) (mostLength (a .kind)) (totalOf (a .body .now)) over) in
+    let e = write-misfit (a .kind) (a .body .now) (length (a .out .now)) (sym (c .before .before .unknown .ensures) ∙ c .before .if1 .left)
+    (over-outside (leastLength (a .kind)) (mostLength (a .kind)) (totalOf (a .body .now)) over) in
     (sym e, sym (out-by (a .kind) (a .body .now) (a .out .now) (Refused messageLength) e))
 
 add-total : tie.Need-add-total
@@ -44,19 +41,17 @@ known : (c : tie.After-misfit) → isUnknown (c .before .before .before .before 
 known c = let e = c .before .before in sym (e .before .unknown .ensures) ∙ e .if1 .left
 
 returns-3 : tie.Need-returns-3
-unfolding writeAnswer
 returns-3 c =
     let o = c .before in
     let a = o .before .before .before .before .before .before .args in
-    let e : writeAnswer (a .kind) (a .body .now) (length (a .out .now)) ≡ Refused messageLength = simp (known o, sym (o .misfit .ensures) ∙ c .if3 .taken) in
+    let e = write-misfit (a .kind) (a .body .now) (length (a .out .now)) (known o) (sym (o .misfit .ensures) ∙ c .if3 .taken) in
     (sym e, sym (out-by (a .kind) (a .body .now) (a .out .now) (Refused messageLength) e))
 
 returns-4 : tie.Need-returns-4
-unfolding writeAnswer
 returns-4 c =
     let o = c .before .before in
     let a = o .before .before .before .before .before .before .args in
-    let e : writeAnswer (a .kind) (a .body .now) (length (a .out .now)) ≡ Refused noRoom = simp (known o, sym (o .misfit .ensures) ∙ c .before .if3 .left, lt-ltb _ _ (c .if4 .taken)) in
+    let e = write-full (a .kind) (a .body .now) (length (a .out .now)) (known o) (sym (o .misfit .ensures) ∙ c .before .if3 .left) (c .if4 .taken) in
     (sym e, sym (out-by (a .kind) (a .body .now) (a .out .now) (Refused noRoom) e))
 
 put-header-requires : tie.Need-put-header-requires
@@ -73,15 +68,13 @@ same-length : tie.Need-same-length
 same-length c = search needs
 
 returns-5 : tie.Need-returns-5
-unfolding writeAnswer
 returns-5 c =
     let y = c .before .before in
     let p = y .before .before .before .before in
     let r = p .before .before in
     let o = r .before .before in
     let a = o .before .before .before .before .before .before .args in
-    let e : writeAnswer (a .kind) (a .body .now) (length (a .out .now)) ≡ Bytes (totalOf (a .body .now)) =
-    simp (known o, sym (o .misfit .ensures) ∙ r .before .if3 .left, le-ltb _ _ (r .if4 .left)) in (
+    let e = write-fits (a .kind) (a .body .now) (length (a .out .now)) (known o) (sym (o .misfit .ensures) ∙ r .before .if3 .left) (r .if4 .left) in (
       sym e,
       body-put (a .kind) (a .body .now) (a .out .now) _ _ (r .if4 .left) (p .put-header .ensures) (y .copy-at .ensures)
           ∙ sym (out-by (a .kind) (a .body .now) (a .out .now) (Bytes (totalOf (a .body .now))) e),

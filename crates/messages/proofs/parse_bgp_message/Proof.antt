@@ -1,6 +1,7 @@
 use borrow.Author.Tests.{lt-ltb, le-ltb}
 use mathlib.Core.Path.{sym, _∙_}
 use Rattle.messages.specs.Header.{messageOf}
+use Rattle.messages.proofs.HeaderLaws.{message-over, message-taken}
 use native.Mathlib.Nat.{le-min}
 use borrow.Author.Needs.{needs}
 use Rattle.messages.proofs.parse_bgp_message.Statement.{statement}
@@ -40,12 +41,11 @@ over-limit-requires : tie.Need-over-limit-requires
 over-limit-requires c κs = search needs
 
 returns-4 : tie.Need-returns-4
-unfolding messageOf
 returns-4 c =
     let u = c .before .before .before in
     let b = u .before .before .before in
-    rw (← b .before .u16-at .ensures)
-    (simp (le-ltb _ _ (b .before .before .if1 .left), le-ltb _ _ (b .if2 .left), sym (u .before .unknown .ensures) ∙ u .if3 .left, sym (c .before .over-limit .ensures) ∙ c .if4 .taken))
+    message-over (b .before .before .before .before .args .s .now) _ (b .before .u16-at .ensures) (b .before .before .if1 .left) (b .if2 .left)
+    (sym (u .before .unknown .ensures) ∙ u .if3 .left) (sym (c .before .over-limit .ensures) ∙ c .if4 .taken)
 
 sub-if5 : tie.Need-sub-if5
 sub-if5 c = search needs
@@ -68,13 +68,12 @@ marked-requires : tie.Need-marked-requires
 marked-requires c κs = search needs
 
 returns-6 : tie.Need-returns-6
-unfolding messageOf
 returns-6 c =
     let l = c .before .before in
     let u = l .before .before .before in
     let b = u .before .before .before in
-    rw (← b .before .u16-at .ensures, ← l .before .before .least .ensures, ← c .marked .ensures)
-    (simp (le-ltb _ _ (b .before .before .if1 .left), le-ltb _ _ (b .if2 .left), sym (u .before .unknown .ensures) ∙ u .if3 .left, sym (l .before .over-limit .ensures) ∙ l .if4 .left, le-ltb _ _ (c .before .if5 .left)))
+    message-taken (b .before .before .before .before .args .s .now) _ (b .before .u16-at .ensures) (b .before .before .if1 .left) (b .if2 .left) (sym (u .before .unknown .ensures) ∙ u .if3 .left)
+    _ _ (l .before .before .least .ensures) (c .marked .ensures) (sym (l .before .over-limit .ensures) ∙ l .if4 .left) (c .before .if5 .left)
 
 pub parse-bgp-message-spec : {M : Type 1} → statement M
 parse-bgp-message-spec =

@@ -9,10 +9,11 @@ use Rattle.families.specs.declared.Afi.the-variants.{Ipv4}
 use Rattle.route_bytes.specs.Encode.{bytesOf}
 use Rattle.route_bytes.specs.Promises.{measured}
 use Rattle.route_bytes.proofs.PromiseLaws.{measured-bytes}
-use Rattle.route_writer.specs.Pair.{pairAfter}
-use Rattle.route_writer.proofs.PairLaws.{PairFits, pair-fits}
+use Rattle.route_writer.specs.Pair.{listsMeaning, writePairAfter}
+use Rattle.route_writer.proofs.PairLaws.{WritePairFits, write-pair-fits}
 use Rattle.route_writer.specs.declared.ListsAnswer.{ListsAnswer}
-use Rattle.update_writer.specs.Body.{lengthSize, bodyBytes}
+use Rattle.updates.specs.Body.{lengthSize}
+use Rattle.update_writer.specs.Body.{bodyBytes}
 use Rattle.update_writer.proofs.BodyLaws.{bodyBy, body-by, sections-put}
 use borrow.Author.Needs.{needs}
 use Rattle.update_writer.proofs.encode_bgp_update_message.Statement.{statement}
@@ -31,12 +32,12 @@ enum-known-first c = search needs
 fits : (c : tie.After-known-told) →
     let k = c .before in
     let a = k .before .before .before .before .before .before .before .before .before .before .args in
-    PairFits (measured (a .withdrawn .now) (maxOf Ipv4) (a .form)) (measured (a .announced .now) (maxOf Ipv4) (a .form))
+    WritePairFits (measured (a .withdrawn .now) (maxOf Ipv4) (a .form)) (measured (a .announced .now) (maxOf Ipv4) (a .form))
     lengthSize (lengthSize + length (a .attributes .now)) bodyLimit (length (a .out .now)) (k .first .given .0 .0) (k .first .given .0 .1 .0)
 fits c =
     let k = c .before in
     let a = k .before .before .before .before .before .before .before .before .before .before .args in
-    pair-fits lengthSize (lengthSize + length (a .attributes .now)) bodyLimit (length (a .out .now)) _ _ (a .withdrawn .now) (a .announced .now) (maxOf Ipv4) (a .form)
+    write-pair-fits lengthSize (lengthSize + length (a .attributes .now)) bodyLimit (length (a .out .now)) _ _ (a .withdrawn .now) (a .announced .now) (maxOf Ipv4) (a .form)
     (sym (k .before .before .before .before .encode-nlri-pair .ensures .0) ∙ k .first .given .1)
 
 add-at : tie.Need-add-at
@@ -89,7 +90,7 @@ returns c =
     let n : List ℕ = bytesOf (a .announced .now) (maxOf Ipv4) (a .form) in
     let size = measured-bytes (a .withdrawn .now) (maxOf Ipv4) (a .form) _ (f .first) .1 in
     let last = measured-bytes (a .announced .now) (maxOf Ipv4) (a .form) _ (f .second) .1 in
-    let lists = e .1 ∙ ap (λ (x : ListsAnswer). pairAfter x lengthSize (lengthSize + length (a .attributes .now)) w n (a .out .now)) (k .first .given .1) in (
+    let lists = e .1 ∙ ap (λ (x : ListsAnswer). writePairAfter (listsMeaning x) lengthSize (lengthSize + length (a .attributes .now)) w n (a .out .now)) (k .first .given .1) in (
       ap (bodyBy (length (a .attributes .now))) (sym (k .first .given .1) ∙ e .0) ∙ sym (body-by (a .withdrawn .now) (a .attributes .now) (a .announced .now) (a .form) (length (a .out .now))),
       sections-put (a .out .now) _ _ _ _ w (a .attributes .now) n _ size (omega (arith, f .room, last)) lists (p₂ .put-u16 .ensures) (p₃ .put-u162 .ensures) (p₄ .copy-at .ensures),
     )
@@ -105,7 +106,7 @@ returns-2 c =
     let w : List ℕ = bytesOf (a .withdrawn .now) (maxOf Ipv4) (a .form) in
     let n : List ℕ = bytesOf (a .announced .now) (maxOf Ipv4) (a .form) in (
       ap (bodyBy (length (a .attributes .now))) (sym (k .n .given .1) ∙ e .0) ∙ sym (body-by (a .withdrawn .now) (a .attributes .now) (a .announced .now) (a .form) (length (a .out .now))),
-      e .1 ∙ ap (λ (x : ListsAnswer). pairAfter x lengthSize (lengthSize + length (a .attributes .now)) w n (a .out .now)) (k .n .given .1),
+      e .1 ∙ ap (λ (x : ListsAnswer). writePairAfter (listsMeaning x) lengthSize (lengthSize + length (a .attributes .now)) w n (a .out .now)) (k .n .given .1),
     )
 
 pub encode-bgp-update-message-spec : {M : Type 1} → statement M

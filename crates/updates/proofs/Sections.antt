@@ -1,4 +1,4 @@
--- What is shown of an UPDATE body: its sections with their length bytes are the whole of it, and a malformed section has one of three numbers.
+-- The sections of an UPDATE body: with their length bytes they are the whole of it, and a malformed one has one of three numbers.
 -- Assumes nothing.
 use Prim.Native.Nat.{ℕ, zero, suc, _+_, _≤_}
 use mathlib.Core.Path.{_≡_, refl, sym, ap, subst, _∙_}
@@ -16,8 +16,10 @@ use Rattle.routes.specs.Prefix.{prefixOf}
 use Rattle.routes.proofs.PrefixLaws.{prefix-cases}
 use Rattle.routes.specs.List.{asStep, inForm, formBy, stepOf, listOf, strange, sectionOf}
 use Rattle.routes.proofs.ListLaws.{sound}
-use Rattle.routes.specs.Promises.{answerBy, countAnswer}
-use Rattle.route_reader.specs.Pair.{hasRoom, pairBy, pairAnswer}
+use Rattle.wire.specs.Answer.{answerBy}
+use Rattle.routes.specs.Promises.{verdictIn, countAnswer, hasRoom}
+use Rattle.routes.specs.declared.ListAnswer.the-variants as L
+use Rattle.route_reader.specs.Pair.{readPairBy, readPair}
 use Rattle.route_reader.specs.declared.PairAnswer.{PairAnswer}
 use Rattle.route_reader.specs.declared.PairAnswer.the-variants as Q
 use Rattle.families.specs.declared.Afi.the-variants.{Ipv4}
@@ -31,7 +33,6 @@ use Rattle.routes.specs.declared.PrefixAnswer.the-variants as P
 use Rattle.updates.specs.Body.{lengthSize, partsOf, withdrawnOf, attributesOf, announcedOf}
 use Rattle.updates.proofs.BodyLaws.{parts-add-up}
 use Rattle.updates.specs.Update.{ifParts, asUpdate, counted, countUpdate, readUpdate}
-use Rattle.routes.specs.Promises.{verdictIn}
 use Rattle.updates.specs.declared.PartsAnswer.{PartsAnswer}
 use Rattle.updates.specs.declared.PartsAnswer.the-variants.{Parts, Refused}
 use Rattle.updates.specs.declared.UpdateAnswer.the-variants.{Update}
@@ -119,7 +120,7 @@ module _ (max : ℕ) (mode : AddPath) where
   unfolding sectionOf
   section-verdict s = pick-any (λ (r : Reading Row). SectionVerdict (r .verdict)) (strange s) (refused oneByteSection) (listOf s max mode) single (ofList (list-verdict s))
 
-answered : (v count : ℕ) → SectionVerdict v → SectionVerdict (verdictIn (answerBy v count))
+answered : (v count : ℕ) → SectionVerdict v → SectionVerdict (verdictIn (answerBy v (L.Rows count) L.Refused))
 answered zero count h = h
 answered (suc v) count h = h
 
@@ -152,7 +153,7 @@ update-verdicts b mode first second = by-parts (partsOf b) refl
 -- an UPDATE that is read into stores is answered as it is counted
 pub read-is-count : (b : List ℕ) (mode : AddPath) (places places′ : ℕ) (first second : ListAnswer) → readUpdate b mode places places′ ≡ Update first second
     → countUpdate b mode ≡ Update first second
-unfolding readUpdate countUpdate pairAnswer pairBy
+unfolding readUpdate countUpdate readPair readPairBy
 read-is-count b mode places places′ first second = by-parts (partsOf b)
   where
     one : ListAnswer
@@ -161,7 +162,7 @@ read-is-count b mode places places′ first second = by-parts (partsOf b)
     two : ListAnswer
     two = counted (announcedOf b) mode
 
-    by-parts : (p : PartsAnswer) → ifParts p (asUpdate (pairBy one two places places′)) ≡ Update first second → ifParts p (Update one two) ≡ Update first second
+    by-parts : (p : PartsAnswer) → ifParts p (asUpdate (readPairBy one two places places′)) ≡ Update first second → ifParts p (Update one two) ≡ Update first second
     by-parts (Parts w a n) =
         let P : PairAnswer → Type 0 = λ x. asUpdate x ≡ Update first second → Update one two ≡ Update first second in
         let full : P (Q.Refused noRoom) = λ e. never (let z : _≡_ {A = ℕ} 0 1 = cc in z) in

@@ -1,19 +1,19 @@
--- What is shown of framing: what the writer writes comes back from both readings, and no cut message passes for a whole one.
+-- Framing: what the writer writes comes back from both readings, and no cut message passes for a whole one.
 -- Assumes nothing.
 use Prim.Native.Nat.{ℕ, _+_, _-_, _≤_, _<_, min}
 use mathlib.Core.Path.{_≡_, refl, sym, ap, ap₂, _∙_}
 use mathlib.Core.List.{List, _++_}
 use mathlib.Core.Bool.{Bool, true, false}
-use native.Mathlib.Nat.{min-eq-left}
+use native.Mathlib.Nat.{min-eq-left, min-eq-right}
 use native.Mathlib.Omega.{arith}
 use borrow.Author.Tests.{le-ltb, lt-ltb, ltb-true, ltb-false}
 use lib.ListN.{length, take}
 use lib.Seq.{take-at}
 use lib.Dec.{ltb}
 use Rattle.wire.specs.Extent.{within}
-use Rattle.messages.specs.Header.{headerSize, claimedOf, messageOf, strictWithin, bodyAt}
+use Rattle.messages.specs.Header.{headerSize, claimedOf, takenOf, messageOf, strictWithin, bodyAt}
 use Rattle.messages.proofs.HeaderLaws.{Accepted, Whole, accepted-by, whole-by, message-cases, strict-cases}
-use Rattle.messages.specs.Written.{totalOf, messageBytes, writeAnswer}
+use Rattle.messages.specs.Written.{totalOf, messageBytes, writeMessage}
 use Rattle.messages.proofs.WrittenLaws.{most-small, most-crate, Fit, written-fit, written-long, written-kind, written-marker, written-past, written-claimed}
 use Rattle.messages.specs.declared.MessageAnswer.{MessageAnswer}
 use Rattle.messages.specs.declared.MessageAnswer.the-variants.{Message}
@@ -47,7 +47,7 @@ framed kind body rest answer e =
           ∙ take-at body rest (length body) refl;
     }
 
-module _ (kind : ℕ) (body rest : List ℕ) (places n : ℕ) (wrote : writeAnswer kind body places ≡ Bytes n) where
+module _ (kind : ℕ) (body rest : List ℕ) (places n : ℕ) (wrote : writeMessage kind body places ≡ Bytes n) where
   message : List ℕ
   message = messageBytes kind body ++ rest
 
@@ -100,24 +100,44 @@ module _ (kind : ℕ) (body rest : List ℕ) (places n : ℕ) (wrote : writeAnsw
 
 -- ---- cut messages
 
--- a message that claims more than there is, if accepted, is marked as cut, and no other is
-pub cut-marked : (s : List ℕ) (kind claimed taken : ℕ) (marker cut trailing : Bool) → messageOf s ≡ Message kind claimed taken marker cut trailing
-    → (length s < claimed → cut ≡ true) × (cut ≡ true → length s < claimed)
-cut-marked s kind claimed taken marker cut trailing =
-    message-cases s (λ a. a ≡ Message kind claimed taken marker cut trailing → (length s < claimed → cut ≡ true) × (cut ≡ true → length s < claimed))
-    (λ n e. let z : _≡_ {A = ℕ} 0 1 = cc in absurd (omega arith))
-    (λ h e.
-    let c : claimedOf s ≡ claimed = cc in
-    let k : ltb (length s) (claimedOf s) ≡ cut = cc in
-    ((λ lt. sym k ∙ ap (ltb (length s)) c ∙ lt-ltb (length s) claimed lt), (λ t. ltb-true (length s) claimed (sym (ap (ltb (length s)) c) ∙ k ∙ t))))
+module _ (s : List ℕ) (kind claimed taken : ℕ) (marker cut trailing : Bool) where
+  -- what an answer says of the lengths, and whether it is marked as cut
+  pub record Lengths : Type 0 where
+    pub marked : length s < claimed → cut ≡ true
+    pub only : cut ≡ true → length s < claimed
+    pub all : cut ≡ true → taken ≡ length s
+    pub claims : cut ≡ false → taken ≡ claimed
 
--- no message that the strict reading accepts is cut, under any limit
-pub strict-never-cut : (limit : ℕ) (s : List ℕ) (kind claimed taken : ℕ) (marker cut trailing : Bool) → strictWithin limit s ≡ Message kind claimed taken marker cut trailing
-    → (claimed ≤ length s) × (taken ≡ claimed) × (cut ≡ false)
-strict-never-cut limit s kind claimed taken marker cut trailing =
-    strict-cases s (λ a. a ≡ Message kind claimed taken marker cut trailing → (claimed ≤ length s) × (taken ≡ claimed) × (cut ≡ false))
-    (λ n e. let z : _≡_ {A = ℕ} 0 1 = cc in absurd (omega arith))
-    limit
-    (λ h e.
-    let c : claimedOf s ≡ claimed = cc in
-    (omega (arith, h .there), cc, cc))
+  -- a message that claims more than there is, if accepted, is marked as cut, and no other is; all that there is is taken of it
+  pub cut-marked : messageOf s ≡ Message kind claimed taken marker cut trailing → Lengths
+  cut-marked =
+      message-cases s (λ a. a ≡ Message kind claimed taken marker cut trailing → Lengths)
+      (λ n e. let z : _≡_ {A = ℕ} 0 1 = cc in absurd (omega arith))
+      (λ h e.
+      let c : claimedOf s ≡ claimed = cc in
+      let k : ltb (length s) (claimedOf s) ≡ cut = cc in
+      let t : takenOf s ≡ taken = cc in
+      let test : ltb (length s) claimed ≡ cut = sym (ap (ltb (length s)) c) ∙ k in
+      let over : cut ≡ true → length s < claimed = λ f. ltb-true (length s) claimed (test ∙ f) in
+      record {
+        marked = λ lt. sym test ∙ lt-ltb (length s) claimed lt;
+        only = over;
+        all = λ f. let lt : length s < claimed = over f in sym t ∙ min-eq-right (omega (arith, c));
+        claims = λ f. let le : claimed ≤ length s = ltb-false (length s) claimed (test ∙ f) in sym t ∙ min-eq-left (omega (arith, c)) ∙ c;
+      })
+
+  -- a message that the strict reading accepts, under any limit, is all there and has no mark
+  pub record Unmarked : Type 0 where
+    pub there : claimed ≤ length s
+    pub takes : taken ≡ claimed
+    pub ones : marker ≡ false
+    pub uncut : cut ≡ false
+
+  pub strict-unmarked : (limit : ℕ) → strictWithin limit s ≡ Message kind claimed taken marker cut trailing → Unmarked
+  strict-unmarked limit =
+      strict-cases s (λ a. a ≡ Message kind claimed taken marker cut trailing → Unmarked)
+      (λ n e. let z : _≡_ {A = ℕ} 0 1 = cc in absurd (omega arith))
+      limit
+      (λ h e.
+      let c : claimedOf s ≡ claimed = cc in
+      record { there = omega (arith, h .there); takes = cc; ones = cc; uncut = cc })
