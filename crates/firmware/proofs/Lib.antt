@@ -1,4 +1,4 @@
-pub mod Weight
+pub mod Bounds
 pub mod MessageBounds
 pub mod ListBounds
 pub mod UpdateBounds

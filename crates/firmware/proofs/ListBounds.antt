@@ -1,12 +1,11 @@
 -- The fields of every answer of the module list are of 16 bits.
 -- Assumes nothing.
-use Prim.Native.Nat.{ℕ, zero, suc, _/_, _≤_, _<_}
+use Prim.Native.Nat.{ℕ, zero, suc, _≤_, _<_}
 use mathlib.Core.Path.{_≡_}
 use mathlib.Core.List.{List}
 use native.Mathlib.Omega.{arith}
 use lib.ListN.{length}
-use lib.Dec.{leb}
-use Rattle.wire.specs.Answer.{writeMeaning}
+use Rattle.wire.specs.Answer.{answerBy, writeMeaning}
 use Rattle.wire.specs.declared.WriteAnswer.{WriteAnswer}
 use Rattle.wire.specs.declared.WriteAnswer.the-variants as W
 use Rattle.wire.proofs.ChoiceLaws.{pick-any, pick-leb}
@@ -25,11 +24,11 @@ use Rattle.routes.specs.declared.Row.{Row}
 use Rattle.routes.specs.declared.ListAnswer.{ListAnswer}
 use Rattle.routes.specs.declared.ListAnswer.the-variants as L
 use Rattle.routes.specs.Promises.{listMeaning, rowsIn, verdictIn}
-use Rattle.route_bytes.specs.Promises as routeBytes
+use Rattle.route_bytes.specs.Encode.{writing}
 use Rattle.route_writer.specs.Promises as routeWriter
 use Rattle.words.specs.Word.{inFields, Narrow}
 use Rattle.words.proofs.WordLaws.{refused-narrow, number-narrow}
-use Rattle.firmware.proofs.Weight.{tally-few}
+use Rattle.firmware.proofs.Bounds.{tally-few, answer-any, limited-narrow}
 
 -- an item is refused with 2 or 7
 item-low : (max : ℕ) (form : Form) (s : List ℕ) (n : ℕ) → inForm max form s ≡ stop n → n < 256
@@ -74,7 +73,7 @@ count-small s r h =
     (λ short. by (r .verdict) (h .low) (omega (arith, h .few)))
     (λ _. record { rows = omega arith; verdict = omega arith })
   where
-    by : (v : ℕ) → v < 256 → length (r .rows) ≤ listLimit → Small (routes.answerBy v (length (r .rows)))
+    by : (v : ℕ) → v < 256 → length (r .rows) ≤ listLimit → Small (answerBy v (L.Rows (length (r .rows))) L.Refused)
     by zero low few = record { rows = few; verdict = low }
     by (suc n) low few = record { rows = omega arith; verdict = low }
 
@@ -83,32 +82,18 @@ small-narrow (L.Rows n) h = number-narrow n (h .rows)
 small-narrow (L.Refused n) h = refused-narrow n
 
 module _ (s : List ℕ) (max : ℕ) (mode : AddPath) where
-  list-small : Small (routes.countAnswer s (listOf s max mode))
-  list-small = count-small s (listOf s max mode) (list-modest s max mode)
-
   pub count-list-narrow : Narrow (inFields (listMeaning (routes.countAnswer s (listOf s max mode))))
-  count-list-narrow = small-narrow (routes.countAnswer s (listOf s max mode)) list-small
+  count-list-narrow = small-narrow (routes.countAnswer s (listOf s max mode)) (count-small s (listOf s max mode) (list-modest s max mode))
 
   pub read-list-narrow : (places : ℕ) → Narrow (inFields (listMeaning (routes.readAnswer s (listOf s max mode) places)))
   unfolding routes.readAnswer
-  read-list-narrow places = by (routes.countAnswer s (listOf s max mode)) list-small
-    where
-      by : (a : ListAnswer) → Small a → Narrow (inFields (listMeaning (routes.roomed a places)))
-      by (L.Rows n) h =
-          pick-any (λ (a : ListAnswer). Narrow (inFields (listMeaning a))) (leb n (places / 6)) (L.Rows n) (L.Refused noRoom)
-          (small-narrow (L.Rows n) h) (refused-narrow noRoom)
-      by (L.Refused n) h = refused-narrow n
+  read-list-narrow places =
+      let counted : ListAnswer = routes.countAnswer s (listOf s max mode) in
+      pick-any (λ (a : ListAnswer). Narrow (inFields (listMeaning a))) (routes.hasRoom counted places) counted (L.Refused noRoom) count-list-narrow (refused-narrow noRoom)
 
 -- ---- what is written
 
 pub write-list-narrow : (ws : List ℕ) (max : ℕ) (form : Form) (places : ℕ) → Narrow (inFields (writeMeaning (routeWriter.writeAnswer ws max form places)))
 unfolding routeWriter.writeAnswer
-write-list-narrow ws max form places = by (routeBytes.measured ws max form)
-  where
-    by : (a : WriteAnswer) → Narrow (inFields (writeMeaning (routeWriter.roomed a places)))
-    by (W.Bytes n) =
-        let Fine : WriteAnswer → Type 0 = λ a. Narrow (inFields (writeMeaning a)) in
-        pick-leb Fine n listLimit _ (W.Refused tooLong)
-        (λ h. pick-any Fine (leb n places) (W.Bytes n) (W.Refused noRoom) (number-narrow n h) (refused-narrow noRoom))
-        (λ _. refused-narrow tooLong)
-    by (W.Refused n) = refused-narrow n
+write-list-narrow ws max form places =
+    answer-any (λ (a : WriteAnswer). Narrow (inFields (writeMeaning a))) (writing ws max form .verdict) _ W.Refused (limited-narrow listLimit _ places (omega arith)) refused-narrow

@@ -12,13 +12,13 @@ use Rattle.wire.specs.Answer.{writeMeaning}
 use Rattle.wire.proofs.ChoiceLaws.{pick-any}
 use Rattle.messages.specs.Header.{allFF, markerOf, messageOf, strictOf, messageLimit, isUnknown, kindOf, claimedOf, takenOf, crateLimit, openKind, keepaliveKind, routeRefreshKind, extendedLimit}
 use Rattle.messages.proofs.HeaderLaws.{message-cases, strict-cases, inside-high}
-use Rattle.messages.specs.Written.{writeAnswer}
+use Rattle.messages.specs.Written.{writeMessage}
 use Rattle.messages.proofs.WrittenLaws.{most-small, written-fit}
 use Rattle.messages.specs.declared.MessageAnswer.the-variants as M
 use Rattle.wire.specs.declared.WriteAnswer.{WriteAnswer}
 use Rattle.wire.specs.declared.WriteAnswer.the-variants as W
 use Rattle.words.specs.Word.{inFields, Narrow}
-use Rattle.words.proofs.FlagLaws.{bit-small}
+use Rattle.words.proofs.FlagLaws.{flag-small}
 use Rattle.words.proofs.WordLaws.{refused-narrow, number-narrow}
 use Rattle.firmware.specs.Fields.{messageFields}
 
@@ -37,7 +37,7 @@ message-by : (kind claimed taken : ℕ) (marker cut trailing : Bool) → isUnkno
 message-by kind claimed taken marker cut trailing known short within = record {
   a = omega arith;
   b = omega arith;
-  c = omega (arith, known-low kind known, bit-small marker, bit-small cut, bit-small trailing);
+  c = omega (arith, known-low kind known, flag-small marker, flag-small cut, flag-small trailing);
 }
 
 module _ (s : List ℕ) where
@@ -52,9 +52,9 @@ module _ (s : List ℕ) where
       strict-cases s (λ a. Narrow (messageFields a)) refused-narrow messageLimit
       (λ h. message-by (kindOf s) (claimedOf s) (claimedOf s) false false (ltb (claimedOf s) (length s)) (h .known) (omega (arith, h .within)) (omega arith))
 
-pub write-message-narrow : (kind : ℕ) (body : List ℕ) (places : ℕ) → Narrow (inFields (writeMeaning (writeAnswer kind body places)))
-write-message-narrow kind body places = by (writeAnswer kind body places) refl
+pub write-message-narrow : (kind : ℕ) (body : List ℕ) (places : ℕ) → Narrow (inFields (writeMeaning (writeMessage kind body places)))
+write-message-narrow kind body places = by (writeMessage kind body places) refl
   where
-    by : (a : WriteAnswer) → writeAnswer kind body places ≡ a → Narrow (inFields (writeMeaning a))
+    by : (a : WriteAnswer) → writeMessage kind body places ≡ a → Narrow (inFields (writeMeaning a))
     by (W.Bytes n) e = let h = written-fit kind body places n e in number-narrow n (omega (arith, h .size, h .most, most-small kind))
     by (W.Refused n) e = refused-narrow n

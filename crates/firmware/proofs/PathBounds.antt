@@ -1,7 +1,6 @@
 -- The fields of every answer of the module path are of 16 bits.
 -- Assumes nothing.
-use Prim.Native.Nat.{ℕ, zero, suc, _/_, _≤_, _<_}
-use mathlib.Core.Path.{_≡_, refl}
+use Prim.Native.Nat.{ℕ, _/_, _≤_, _<_}
 use mathlib.Core.List.{List}
 use native.Mathlib.Omega.{arith}
 use lib.ListN.{length}
@@ -10,7 +9,7 @@ use Rattle.wire.specs.Answer.{writeMeaning}
 use Rattle.wire.specs.declared.WriteAnswer.{WriteAnswer}
 use Rattle.wire.specs.declared.WriteAnswer.the-variants as W
 use Rattle.wire.proofs.ChoiceLaws.{pick-any, pick-leb}
-use Rattle.wire.specs.Refusal.{tooLong, noRoom, listLimit}
+use Rattle.wire.specs.Refusal.{tooLong, noRoom, notWritable, listLimit}
 use Rattle.wire.specs.Walk.{readAll, flat}
 use Rattle.wire.proofs.WalkLaws.{tally-one, tally-flat}
 use Rattle.wire.proofs.Turn.{Light}
@@ -20,14 +19,14 @@ use Rattle.asns.specs.declared.AsnLength.the-variants.{Bits16, Bits32}
 use Rattle.paths.specs.Segment.{knownType, segmentOf, pathOf, asnsOf}
 use Rattle.paths.proofs.SegmentLaws.{segment-sound, light-segments, light-numbers}
 use Rattle.paths.specs.Promises as paths
+use Rattle.paths.specs.Promises.{pathMeaning}
 use Rattle.paths.specs.declared.PathAnswer.{PathAnswer}
 use Rattle.paths.specs.declared.PathAnswer.the-variants as P
 use Rattle.path_writer.specs.Promises.{encodeAnswer}
-use Rattle.path_writer.proofs.PromiseLaws.{encode-written}
-use Rattle.words.specs.Word.{fieldSize, inFields, Narrow}
-use Rattle.words.proofs.WordLaws.{refused-narrow, number-narrow}
-use Rattle.firmware.specs.Fields.{pathMeaning}
-use Rattle.firmware.proofs.Weight.{tally-few}
+use Rattle.path_writer.specs.Write.{addsUp, lentPath}
+use Rattle.words.specs.Word.{inFields, Narrow}
+use Rattle.words.proofs.WordLaws.{refused-narrow}
+use Rattle.firmware.proofs.Bounds.{tally-few, answer-any, limited-narrow}
 
 width-pos : (width : AsnLength) → 0 < widthOf width
 width-pos Bits16 = omega arith
@@ -50,19 +49,17 @@ module _ (s : List ℕ) (width : AsnLength) where
   pub count-path-narrow : Narrow (inFields (pathMeaning (paths.countAnswer s (pathOf knownType (widthOf width) s))))
   unfolding paths.countAnswer
   count-path-narrow =
-      pick-leb (λ (a : PathAnswer). Narrow (inFields (pathMeaning a))) (length s) listLimit _ (P.Refused tooLong)
-      (λ short. by (pathOf knownType (widthOf width) s .verdict) _ _ (omega (arith, segments-few)) (omega (arith, numbers-few)))
+      let Fine : PathAnswer → Type 0 = λ a. Narrow (inFields (pathMeaning a)) in
+      pick-leb Fine (length s) listLimit _ (P.Refused tooLong)
+      (λ short. answer-any Fine (pathOf knownType (widthOf width) s .verdict) _ P.Refused
+      (record { a = omega (arith, segments-few); b = omega (arith, numbers-few); c = omega arith }) refused-narrow)
       (λ _. refused-narrow tooLong)
-    where
-      by : (v m n : ℕ) → m < fieldSize → n < fieldSize → Narrow (inFields (pathMeaning (paths.answerBy v m n)))
-      by zero m n h k = record { a = h; b = k; c = omega arith }
-      by (suc v) m n h k = refused-narrow (suc v)
 
   pub read-path-narrow : (p q : ℕ) → Narrow (inFields (pathMeaning (paths.readAnswer s (pathOf knownType (widthOf width) s) p q)))
   unfolding paths.readAnswer
   read-path-narrow p q = by (paths.countAnswer s (pathOf knownType (widthOf width) s)) count-path-narrow
     where
-      by : (a : PathAnswer) → Narrow (inFields (pathMeaning a)) → Narrow (inFields (pathMeaning (paths.roomed a p q)))
+      by : (a : PathAnswer) → Narrow (inFields (pathMeaning a)) → Narrow (inFields (pathMeaning (paths.inStores a p q)))
       by (P.Path m n) h =
           let Fine : PathAnswer → Type 0 = λ a. Narrow (inFields (pathMeaning a)) in
           pick-any Fine (leb m (p / 2)) _ (P.Refused noRoom)
@@ -72,9 +69,11 @@ module _ (s : List ℕ) (width : AsnLength) where
 
 -- ---- what is written
 
-pub write-path-narrow : (pairs numbers : List ℕ) (width : AsnLength) (places : ℕ) → Narrow (inFields (writeMeaning (encodeAnswer knownType (widthOf width) pairs numbers places)))
-write-path-narrow pairs numbers width places = by (encodeAnswer knownType (widthOf width) pairs numbers places) refl
-  where
-    by : (a : WriteAnswer) → encodeAnswer knownType (widthOf width) pairs numbers places ≡ a → Narrow (inFields (writeMeaning a))
-    by (W.Bytes n) e = number-narrow n (encode-written knownType (widthOf width) pairs numbers places n e .3)
-    by (W.Refused n) e = refused-narrow n
+pub write-path-narrow : (pairs numbers : List ℕ) (width : AsnLength) (places : ℕ)
+    → Narrow (inFields (writeMeaning (encodeAnswer knownType (widthOf width) pairs numbers places)))
+unfolding encodeAnswer
+write-path-narrow pairs numbers width places =
+    let Fine : WriteAnswer → Type 0 = λ a. Narrow (inFields (writeMeaning a)) in
+    pick-any Fine (addsUp pairs (length numbers)) _ (W.Refused notWritable)
+    (answer-any Fine (lentPath knownType (widthOf width) pairs numbers .verdict) _ W.Refused (limited-narrow listLimit _ places (omega arith)) refused-narrow)
+    (refused-narrow notWritable)

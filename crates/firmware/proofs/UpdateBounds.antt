@@ -4,20 +4,16 @@ use Prim.Native.Nat.{ℕ, _+_, _≤_}
 use mathlib.Core.Path.{_≡_, sym, _∙_}
 use mathlib.Core.List.{List}
 use native.Mathlib.Omega.{arith}
-use borrow.Author.Tests.{ltb-false}
-use lib.ListN.{length}
-use lib.Dec.{ltb}
 use Rattle.wire.specs.Answer.{writeMeaning}
 use Rattle.wire.specs.Extent.{Extent}
-use Rattle.wire.specs.Refusal.{tooLong, noRoom, listLimit, bodyLimit}
-use Rattle.wire.specs.declared.WriteAnswer.{WriteAnswer}
-use Rattle.wire.specs.declared.WriteAnswer.the-variants as W
-use Rattle.wire.proofs.ChoiceLaws.{pick-any, pick-unless}
+use Rattle.wire.specs.Refusal.{noRoom}
+use Rattle.wire.proofs.ChoiceLaws.{pick-any}
 use Rattle.families.specs.Family.{maxOf}
-use Rattle.route_reader.specs.Pair.{hasRoom, pairBy, pairAnswer}
+use Rattle.route_reader.specs.Pair.{readPairBy, readPair}
 use Rattle.families.specs.declared.AddPath.{AddPath}
 use Rattle.families.specs.declared.Form.{Form}
 use Rattle.families.specs.declared.Afi.the-variants.{Ipv4}
+use Rattle.routes.specs.Promises.{hasRoom}
 use Rattle.routes.specs.declared.ListAnswer.{ListAnswer}
 use Rattle.route_reader.specs.declared.PairAnswer.{PairAnswer}
 use Rattle.route_reader.specs.declared.PairAnswer.the-variants as Q
@@ -28,8 +24,8 @@ use Rattle.updates.specs.declared.PartsAnswer.the-variants as S
 use Rattle.updates.specs.declared.UpdateAnswer.{UpdateAnswer}
 use Rattle.updates.specs.declared.UpdateAnswer.the-variants as U
 use Rattle.updates.proofs.BodyLaws.{parts-add-up}
-use Rattle.route_bytes.specs.Promises as routeBytes
-use Rattle.update_writer.specs.Body.{totalOf, bodyAnswer, sized, ifWritable}
+use Rattle.update_writer.specs.Body.{bodyAnswer}
+use Rattle.update_writer.proofs.RoundTrip.{body-cases}
 use Rattle.words.specs.Word.{inFields, Narrow}
 use Rattle.words.proofs.WordLaws.{refused-narrow, number-narrow}
 use Rattle.firmware.specs.Fields.{partFields, updateFields}
@@ -50,8 +46,8 @@ part-narrow section b told w a n inside e f =
 update-narrow : (a b : ListAnswer) → Small a → Small b → Narrow (updateFields (U.Update a b))
 update-narrow a b h k = record { a = omega (arith, h .rows); b = omega (arith, k .rows); c = omega (arith, h .verdict, k .verdict) }
 
-pair-narrow : (a b : ListAnswer) (places places′ : ℕ) → Small a → Small b → Narrow (updateFields (asUpdate (pairBy a b places places′)))
-unfolding pairBy
+pair-narrow : (a b : ListAnswer) (places places′ : ℕ) → Small a → Small b → Narrow (updateFields (asUpdate (readPairBy a b places places′)))
+unfolding readPairBy
 pair-narrow a b places places′ h k =
     let Fine : PairAnswer → Type 0 = λ p. Narrow (updateFields (asUpdate p)) in
     pick-any Fine (hasRoom a places) _ (Q.Refused noRoom)
@@ -74,28 +70,13 @@ module _ (b : List ℕ) (mode : AddPath) where
   count-update-narrow = if-narrow (partsOf b) _ (update-narrow _ _ (both-small .0) (both-small .1))
 
   pub read-update-narrow : (places places′ : ℕ) → Narrow (updateFields (readUpdate b mode places places′))
-  unfolding readUpdate pairAnswer
+  unfolding readUpdate readPair
   read-update-narrow places places′ = if-narrow (partsOf b) _ (pair-narrow _ _ places places′ (both-small .0) (both-small .1))
 
 -- ---- what is written
 
-pub write-update-narrow : (withdrawn attributes announced : List ℕ) (form : Form) (places : ℕ) → Narrow (inFields (writeMeaning (bodyAnswer withdrawn attributes announced form places)))
-unfolding bodyAnswer sized
+pub write-update-narrow : (withdrawn attributes announced : List ℕ) (form : Form) (places : ℕ)
+    → Narrow (inFields (writeMeaning (bodyAnswer withdrawn attributes announced form places)))
 write-update-narrow withdrawn attributes announced form places =
-    if-written (routeBytes.measured withdrawn (maxOf Ipv4) form) _ (λ w.
-    if-written (routeBytes.measured announced (maxOf Ipv4) form) _ (λ a.
-    by-size w a))
-  where
-    if-written : (a : WriteAnswer) (next : ℕ → WriteAnswer) → ((n : ℕ) → Narrow (inFields (writeMeaning (next n)))) → Narrow (inFields (writeMeaning (ifWritable a next)))
-    if-written (W.Bytes n) next h = h n
-    if-written (W.Refused n) next h = refused-narrow n
-
-    by-size : (w a : ℕ) → Narrow (inFields (writeMeaning (sized w (length attributes) a places)))
-    by-size w a =
-        let Fine : WriteAnswer → Type 0 = λ x. Narrow (inFields (writeMeaning x)) in
-        let total : ℕ = totalOf w (length attributes) a in
-        pick-any Fine (ltb listLimit w) (W.Refused tooLong) _ (refused-narrow tooLong)
-        (pick-any Fine (ltb listLimit (length attributes)) (W.Refused tooLong) _ (refused-narrow tooLong)
-        (pick-unless Fine (ltb bodyLimit total) (W.Refused tooLong) _ (refused-narrow tooLong) (λ whole.
-        pick-any Fine (ltb places total) (W.Refused noRoom) (W.Bytes total) (refused-narrow noRoom)
-        (number-narrow total (omega (arith, ltb-false bodyLimit total whole))))))
+    body-cases withdrawn attributes announced form places (λ a. Narrow (inFields (writeMeaning a))) refused-narrow
+    (λ n fit. number-narrow n (omega (arith, fit .size, fit .sizes .whole)))

@@ -7,45 +7,13 @@ use Rattle.wire.specs.Answer.{Answer, given, refusal, numberIn, valueIn}
 use Rattle.wire.specs.Choice.{pick}
 use Rattle.wire.specs.Extent.{Extent}
 use Rattle.wire.specs.Refusal.{noRoom}
-use Rattle.routes.specs.Promises.{rowsIn, verdictIn}
-use Rattle.asns.specs.declared.AggregatorAnswer.{AggregatorAnswer}
-use Rattle.asns.specs.declared.AggregatorAnswer.the-variants as G
-use Rattle.paths.specs.declared.PathAnswer.{PathAnswer}
-use Rattle.paths.specs.declared.PathAnswer.the-variants as P
+use Rattle.messages.specs.Header.{messageMeaning}
 use Rattle.messages.specs.declared.MessageAnswer.{MessageAnswer}
-use Rattle.messages.specs.declared.MessageAnswer.the-variants as M
+use Rattle.updates.specs.Body.{partsMeaning}
+use Rattle.updates.specs.Update.{updateMeaning}
 use Rattle.updates.specs.declared.PartsAnswer.{PartsAnswer}
-use Rattle.updates.specs.declared.PartsAnswer.the-variants as S
 use Rattle.updates.specs.declared.UpdateAnswer.{UpdateAnswer}
-use Rattle.updates.specs.declared.UpdateAnswer.the-variants as U
-use Rattle.words.specs.Word.{Fields, fields, bit}
-
--- ---- each answer as document 01 has it
-
--- a message: its type, what it claims, what is taken of it, and its three flags
-abbrev pub messageMeaning : MessageAnswer → Answer
-messageMeaning (M.Message kind claimed taken marker cut trailing) = given (kind ∷ claimed ∷ taken ∷ bit marker ∷ bit cut ∷ bit trailing ∷ [])
-messageMeaning (M.Refused n) = refusal n
-
--- the sections of an UPDATE body: their lengths
-abbrev pub partsMeaning : PartsAnswer → Answer
-partsMeaning (S.Parts w a n) = given (w ∷ a ∷ n ∷ [])
-partsMeaning (S.Refused m) = refusal m
-
--- an UPDATE: rows and verdict of each section
-abbrev pub updateMeaning : UpdateAnswer → Answer
-updateMeaning (U.Update withdrawn announced) = given (rowsIn withdrawn ∷ verdictIn withdrawn ∷ rowsIn announced ∷ verdictIn announced ∷ [])
-updateMeaning (U.Refused n) = refusal n
-
--- an AS_PATH: its segments and their numbers
-abbrev pub pathMeaning : PathAnswer → Answer
-pathMeaning (P.Path segments numbers) = given (segments ∷ numbers ∷ [])
-pathMeaning (P.Refused n) = refusal n
-
--- an AGGREGATOR: its AS number, its identifier, and whether its width differs
-abbrev pub aggregatorMeaning : AggregatorAnswer → Answer
-aggregatorMeaning (G.Aggregator asn identifier differs) = given (asn ∷ identifier ∷ bit differs ∷ [])
-aggregatorMeaning (G.Refused n) = refusal n
+use Rattle.words.specs.Word.{Fields, fields}
 
 -- ---- messages
 

@@ -2,10 +2,10 @@
 ghost use mathlib.Core.Path.{_≡_};
 ghost use lib.ListN.{length};
 ghost use Rattle.wire.specs.Answer.{filled, writeMeaning};
-ghost use Rattle.asns.specs.Aggregator.{aggregatorOf, aggregatorWritten, aggregatorLeft};
+ghost use Rattle.asns.specs.Aggregator.{aggregatorMeaning, aggregatorOf, aggregatorWritten, aggregatorLeft};
 ghost use Rattle.words.specs.Settings.{asnLengthOf};
 ghost use Rattle.words.specs.Word.{inFields, wordOf};
-ghost use Rattle.firmware.specs.Fields.{aggregatorMeaning, aggregatorStored, aggregatorWords};
+ghost use Rattle.firmware.specs.Fields.{aggregatorStored, aggregatorWords};
 use super::write_word;
 use asns::AggregatorAnswer;
 use wire::refusal;

@@ -52,8 +52,8 @@ pub extern "C" fn doorbramble_parse_bgp_message_strict(s: &[u8]) -> u64
 // A type and a body as a message.
 #[no_mangle]
 pub extern "C" fn doorbramble_encode_bgp_message(kind: u8, body: &[u8], out: &mut [u8]) -> u64
-    ensures answer { λ r. ⌜ r ≡ wordOf (inFields (writeMeaning (Messages.writeAnswer kind (now (body .entry)) (length (now (out .entry)))))) ⌝ }
-    ensures out { λ _. ⌜ now (out .exit) ≡ Messages.outAfter kind (now (body .entry)) (now (out .entry)) ⌝ }
+    ensures answer { λ r. ⌜ r ≡ wordOf (inFields (writeMeaning (Messages.writeMessage kind (now (body .entry)) (length (now (out .entry)))))) ⌝ }
+    ensures out { λ _. ⌜ now (out .exit) ≡ Messages.messageAfter kind (now (body .entry)) (now (out .entry)) ⌝ }
 {
     write_word(messages::encode_bgp_message(kind, body, out))
 }

@@ -8,7 +8,6 @@ ghost use Rattle.paths.specs.Promises as Paths;
 ghost use Rattle.path_writer.specs.Promises as PathWriter;
 ghost use Rattle.words.specs.Settings.{asnLengthOf};
 ghost use Rattle.words.specs.Word.{inFields, wordOf, Narrow};
-ghost use Rattle.firmware.specs.Fields.{pathMeaning};
 use super::write_word;
 use paths::PathAnswer;
 use words::asn_length_of;
@@ -16,8 +15,8 @@ use words::word;
 
 // A path as a word: its segments and their numbers.
 fn path_word(a: PathAnswer) -> u64
-    requires { ⌜ Narrow (inFields (pathMeaning a)) ⌝ }
-    ensures { λ r. ⌜ r ≡ wordOf (inFields (pathMeaning a)) ⌝ }
+    requires { ⌜ Narrow (inFields (Paths.pathMeaning a)) ⌝ }
+    ensures { λ r. ⌜ r ≡ wordOf (inFields (Paths.pathMeaning a)) ⌝ }
 {
     match a {
         PathAnswer::Path { segments, numbers } => word(segments as u16, numbers as u16, 0, 0),
@@ -28,7 +27,7 @@ fn path_word(a: PathAnswer) -> u64
 // How many segments and numbers an AS_PATH has.
 #[no_mangle]
 pub extern "C" fn doorbramble_count_as_path(value: &[u8], four_bytes: u8) -> u64
-    ensures { λ r. ⌜ r ≡ wordOf (inFields (pathMeaning (Paths.countAnswer (now (value .entry)) (pathOf knownType (widthOf (asnLengthOf «four_bytes»)) (now (value .entry)))))) ⌝ }
+    ensures { λ r. ⌜ r ≡ wordOf (inFields (Paths.pathMeaning (Paths.countAnswer (now (value .entry)) (pathOf knownType (widthOf (asnLengthOf «four_bytes»)) (now (value .entry)))))) ⌝ }
 {
     path_word(paths::count_as_path(value, asn_length_of(four_bytes)))
 }
@@ -41,7 +40,7 @@ pub extern "C" fn doorbramble_parse_as_path(
     pairs: &mut [u32],
     numbers: &mut [u32],
 ) -> u64
-    ensures answer { λ r. ⌜ r ≡ wordOf (inFields (pathMeaning (Paths.readAnswer (now (value .entry)) (pathOf knownType (widthOf (asnLengthOf «four_bytes»)) (now (value .entry))) (length (now (pairs .entry))) (length (now (numbers .entry)))))) ⌝ }
+    ensures answer { λ r. ⌜ r ≡ wordOf (inFields (Paths.pathMeaning (Paths.readAnswer (now (value .entry)) (pathOf knownType (widthOf (asnLengthOf «four_bytes»)) (now (value .entry))) (length (now (pairs .entry))) (length (now (numbers .entry)))))) ⌝ }
     ensures pairs { λ _. ⌜ now (pairs .exit) ≡ Paths.pairsAfter (now (value .entry)) (pathOf knownType (widthOf (asnLengthOf «four_bytes»)) (now (value .entry))) (now (pairs .entry)) (length (now (numbers .entry))) ⌝ }
     ensures numbers { λ _. ⌜ now (numbers .exit) ≡ Paths.numbersAfter (now (value .entry)) (pathOf knownType (widthOf (asnLengthOf «four_bytes»)) (now (value .entry))) (length (now (pairs .entry))) (now (numbers .entry)) ⌝ }
 {

@@ -1,9 +1,8 @@
 // An UPDATE body: where its sections stand, its routes counted and read, and a body written.
 ghost use mathlib.Core.Path.{_≡_};
 ghost use lib.ListN.{length};
-ghost use Rattle.wire.specs.Answer.{writeMeaning};
+ghost use Rattle.wire.specs.Answer.{filled, writeMeaning};
 ghost use Rattle.families.specs.Family.{modeOf};
-ghost use Rattle.route_writer.specs.Promises as RouteWriter;
 ghost use Rattle.updates.specs.Body.{partsOf, withdrawnAt, attributesAt, announcedAt};
 ghost use Rattle.updates.specs.Update.{countUpdate, readUpdate, withdrawnAfter, announcedAfter};
 ghost use Rattle.update_writer.specs.Body.{bodyBytes, bodyAnswer};
@@ -14,13 +13,11 @@ use super::write_word;
 use families::mode_of;
 use routes::rows_in;
 use routes::verdict_in;
+use updates::LENGTH_SIZE;
 use updates::PartsAnswer;
 use updates::UpdateAnswer;
 use words::form_of;
 use words::word;
-
-// The bytes of a section's length in an UPDATE body.
-const LENGTH_SIZE: usize = 2;
 
 // Where the withdrawn section of an UPDATE body stands.
 #[no_mangle]
@@ -129,7 +126,7 @@ pub extern "C" fn doorbramble_encode_bgp_update_message(
     out: &mut [u8],
 ) -> u64
     ensures answer { λ r. ⌜ r ≡ wordOf (inFields (writeMeaning (bodyAnswer (now (withdrawn .entry)) (now (attributes .entry)) (now (announced .entry)) (formOf «add_path») (length (now (out .entry)))))) ⌝ }
-    ensures out { λ _. ⌜ now (out .exit) ≡ RouteWriter.filled (bodyAnswer (now (withdrawn .entry)) (now (attributes .entry)) (now (announced .entry)) (formOf «add_path») (length (now (out .entry)))) (bodyBytes (now (withdrawn .entry)) (now (attributes .entry)) (now (announced .entry)) (formOf «add_path»)) (now (out .entry)) ⌝ }
+    ensures out { λ _. ⌜ now (out .exit) ≡ filled (writeMeaning (bodyAnswer (now (withdrawn .entry)) (now (attributes .entry)) (now (announced .entry)) (formOf «add_path») (length (now (out .entry))))) (bodyBytes (now (withdrawn .entry)) (now (attributes .entry)) (now (announced .entry)) (formOf «add_path»)) (now (out .entry)) ⌝ }
 {
     write_word(update_writer::encode_bgp_update_message(
         withdrawn,

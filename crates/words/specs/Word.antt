@@ -1,6 +1,5 @@
 -- The answer of a call to C: three fields and a refusal number, of 16 bits each, in one word of 64.
 use Prim.Native.Nat.{ℕ, _+_, _*_, _<_}
-use mathlib.Core.Bool.{Bool, true, false}
 use Rattle.wire.specs.Answer.{Answer, numberIn, valueIn}
 
 pub record Fields : Type 0 where
@@ -28,8 +27,3 @@ pub record Narrow (f : Fields) : Type 0 where
   pub a : f .a < fieldSize
   pub b : f .b < fieldSize
   pub c : f .c < fieldSize
-
--- a flag as a number
-abbrev pub bit : Bool → ℕ
-bit true = 1
-bit false = 0

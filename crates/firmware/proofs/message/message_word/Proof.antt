@@ -1,7 +1,7 @@
 use Prim.Native.Nat.{_≤_}
 use native.Mathlib.Omega.{arith}
 use mir.Val.{boolByte}
-use Rattle.words.proofs.FlagLaws.{bit-byte, byte-small}
+use Rattle.words.proofs.FlagLaws.{flag-byte, byte-small}
 use borrow.Author.Needs.{needs}
 use Rattle.firmware.proofs.message.message_word.Statement.{statement}
 use Rattle.firmware.proofs.message.message_word.Tie as tie
@@ -61,7 +61,7 @@ word-requires-2 c κs = search needs
 returns : tie.Need-returns
 returns c =
     let f = c .before .before .a .given .0 .1 .1 .1 in
-    rw (c .before .before .a .given .1, ← bit-byte (f .0), ← bit-byte (f .1 .0), ← bit-byte (f .1 .1 .0)) (c .word .ensures)
+    rw (c .before .before .a .given .1, ← flag-byte (f .0), ← flag-byte (f .1 .0), ← flag-byte (f .1 .1 .0)) (c .word .ensures)
 
 returns-2 : tie.Need-returns-2
 returns-2 c = rw (c .before .before .a2 .given .1) (c .word2 .ensures)

@@ -1,5 +1,5 @@
 use Rattle.words.proofs.WordLaws.{told-in}
-use Rattle.firmware.specs.Fields.{pathMeaning}
+use Rattle.paths.specs.Promises.{pathMeaning}
 use Rattle.firmware.proofs.PathBounds.{count-path-narrow}
 use borrow.Author.Needs.{needs}
 use Rattle.firmware.proofs.path.doorbramble_count_as_path.Statement.{statement}
