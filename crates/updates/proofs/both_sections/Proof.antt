@@ -1,3 +1,4 @@
+use Rattle.updates.proofs.UpdateLaws.{both-told}
 use borrow.Author.Needs.{needs}
 use Rattle.updates.proofs.both_sections.Statement.{statement}
 use Rattle.updates.proofs.both_sections.Tie as tie
@@ -19,9 +20,10 @@ same-length-2 c = search needs
 
 returns : tie.Need-returns
 returns c =
-    let p = c .before .before .before .before .before .before .before .read-nlri-pair in
-    let e = c .before .first .given .1 in
-    (rw (← p .ensures .0, e), (rw e at (p .ensures .1 .0), rw e at (p .ensures .1 .1)))
+    let k = c .before .before .before .before .before .before .before in
+    let a = k .before .before .before .before .before .before .before .args in
+    let p = k .read-nlri-pair .ensures in
+    both-told (a .s .now) (a .t .now) (a .mode) (a .withdrawn .now) (a .announced .now) _ _ _ _ (c .before .first .given .1) (p .0) (p .1 .0) (p .1 .1)
 
 same-length-3 : tie.Need-same-length-3
 same-length-3 c = search needs
@@ -31,9 +33,10 @@ same-length-4 c = search needs
 
 returns-2 : tie.Need-returns-2
 returns-2 c =
-    let p = c .before .before .before .before .before .before .before .read-nlri-pair in
-    let e = c .before .n .given .1 in
-    (rw (← p .ensures .0, e), (rw e at (p .ensures .1 .0), rw e at (p .ensures .1 .1)))
+    let k = c .before .before .before .before .before .before .before in
+    let a = k .before .before .before .before .before .before .before .args in
+    let p = k .read-nlri-pair .ensures in
+    both-told (a .s .now) (a .t .now) (a .mode) (a .withdrawn .now) (a .announced .now) _ _ _ _ (c .before .n .given .1) (p .0) (p .1 .0) (p .1 .1)
 
 pub both-sections-spec : {M : Type 1} → statement M
 both-sections-spec =
