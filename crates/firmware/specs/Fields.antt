@@ -38,14 +38,14 @@ updateFields a =
 
 -- ---- AGGREGATOR
 
--- two words in a store of so many places, 11 last: how many words, and whether the width differs
+-- the words of one in a store: its AS number and its identifier
 abbrev pub aggregatorSize : ℕ
 aggregatorSize = 2
 
+abbrev pub aggregatorWords : Answer → List ℕ
+aggregatorWords a = valueIn 0 a ∷ valueIn 1 a ∷ []
+
+-- in a store of so many places, 11 last: how many words, and whether the width differs
 abbrev pub aggregatorStored : Answer → ℕ → Answer
 aggregatorStored (given values) places = pick (ltb places aggregatorSize) (refusal noRoom) (given (aggregatorSize ∷ valueIn 2 (given values) ∷ []))
 aggregatorStored (refusal n) places = refusal n
-
--- AS number and identifier
-abbrev pub aggregatorWords : Answer → List ℕ
-aggregatorWords a = valueIn 0 a ∷ valueIn 1 a ∷ []

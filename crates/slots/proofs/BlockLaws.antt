@@ -16,7 +16,7 @@ use Rattle.wire.proofs.NumberLaws.{be-toBe, padded-cells}
 use Rattle.families.specs.Family.{modeOf}
 use Rattle.slots.specs.Slot.{markFirst, markSecond, recordSize, settingsLimit, found, differs, overSettings, keptOf, slotOf, Decided, recordOf}
 use Rattle.slots.specs.declared.SlotAnswer.{SlotAnswer}
-use Rattle.slots.specs.declared.SlotAnswer.the-variants.{Slot, More, Stop, End}
+use Rattle.slots.specs.declared.SlotAnswer.the-variants.{Slot}
 
 -- ---- blocks of input
 
