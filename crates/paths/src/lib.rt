@@ -9,7 +9,7 @@ ghost use Rattle.wire.specs.Store.{laid, PutAhead};
 ghost use Rattle.wire.specs.Walk.{flat};
 ghost use Rattle.asns.specs.Asn.{widthOf, span};
 ghost use Rattle.paths.specs.Segment.{numbersOf, typeFault, knownType, pairOf, asnsOf, segmentOf, pathOf};
-ghost use Rattle.paths.specs.Private.{countIn};
+ghost use Rattle.paths.specs.Private.{shortFault, countIn};
 ghost use Rattle.paths.specs.Promises.{countAnswer, readAnswer, pairsAfter, numbersAfter};
 use asns::AsnLength;
 use wire::refusal;
@@ -44,6 +44,16 @@ pub fn type_fault(kind: u32) -> u8
     0
 }
 
+// What is wrong where so many bytes are there of so many, 0 where nothing is.
+fn short_fault(there: usize, size: usize) -> u8
+    ensures { λ r. ⌜ r ≡ shortFault there size ⌝ }
+{
+    if there < size {
+        return refusal::TRUNCATED;
+    }
+    0
+}
+
 // How many numbers the segment at the front has: type and count there, 2; the numbers there, 2; the type, 9.
 fn segment_count(s: &[u8], width: AsnLength) -> SegmentAnswer
     ensures { λ r. ⌜ r ≡ countIn (segmentOf knownType (widthOf width) tt (now (s .entry))) ⌝ }
@@ -53,10 +63,11 @@ fn segment_count(s: &[u8], width: AsnLength) -> SegmentAnswer
     }
     let count = s[1];
     let size = 2 + asns::numbers_size(count as u16, width);
-    if s.len() < size {
-        return SegmentAnswer::Refused(refusal::TRUNCATED);
-    }
+    let short = short_fault(s.len(), size);
     let fault = type_fault(wire::wide(s[0]));
+    if short != 0 {
+        return SegmentAnswer::Refused(short);
+    }
     if fault != 0 {
         return SegmentAnswer::Refused(fault);
     }
