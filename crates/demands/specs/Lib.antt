@@ -2,3 +2,6 @@ pub mod Routes
 pub mod Starred
 pub mod Slots
 pub mod Paths
+pub mod Cut
+pub mod Updates
+pub mod Written
