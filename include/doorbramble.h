@@ -1,7 +1,7 @@
 /* Doorbramble for C: BGP messages, UPDATE bodies, route lists, AS_PATH and AGGREGATOR, read and written.
  *
  * The functions are those of the static library that `rt staticlib firmware` writes, target/staticlib/libfirmware.a. Each is proved to
- * give the answer that its contract in crates/firmware/src/lib.rt names, for every input, and to end. None keeps a pointer, allocates, or
+ * give the answer that its contract in crates/firmware/src names, for every input, and to end. None keeps a pointer, allocates, or
  * has state of its own.
  *
  * Slices. A slice is two arguments: a pointer to its first element, and its length in elements. The caller owes

@@ -1,5 +1,6 @@
 pub mod Routes
 pub mod Starred
+pub mod Slots
 pub mod Paths
 pub mod Cut
 pub mod Updates

@@ -1,3 +1,4 @@
-pub mod Growth
 pub mod LineLaws
-pub mod Theorems
+pub mod NumeralLaws
+pub mod Growth
+pub mod Tight

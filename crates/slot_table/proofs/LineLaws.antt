@@ -3,21 +3,24 @@
 use Prim.Native.Nat.{ℕ, zero, suc, _+_, _-_, _*_, _^_, _/_, _%_, _≤_, _<_}
 use mathlib.Core.Path.{_≡_, refl, sym, ap, _∙_}
 use mathlib.Core.List.{List, [], _∷_}
+use mathlib.Core.Bool.{Bool, true, false}
 use native.Mathlib.Nat.{pow-succ'}
 use native.Mathlib.Omega.{arith}
-use borrow.Author.Tests.{lt-ltb, le-ltb, le-leb, lt-leb}
+use borrow.Author.Tests.{lt-ltb, le-ltb, le-leb, lt-leb, leb-true}
 use lib.ListN.{length, take, drop, set, length-append, length-drop, length-set}
 use lib.Seq.{drop-cons, drop-set-lt, getD-set-same}
 use lib.Dec.{ltb, leb}
 use Rattle.wire.specs.Choice.{pick}
+use Rattle.wire.specs.Store.{laid}
 use Rattle.wire.proofs.ChoiceLaws.{pick-any, pick-leb}
+use Rattle.wire.proofs.StoreLaws.{drop-laid-past}
 use Rattle.wire.proofs.Turn.{rest}
 use Rattle.families.specs.declared.AddPath.{AddPath}
 use Rattle.routes.specs.declared.ListAnswer.{ListAnswer}
 use Rattle.routes.specs.Promises.{rowsIn, verdictIn}
 use Rattle.messages.specs.Header.{updateKind}
-use Rattle.slot_table.specs.Line.{space, lineEnd, slash, stateText, digits, number, fieldsText, sectionText, entryOf, entryText, lineOf, stopText, headingText, numberRoom, stateRoom, fieldsRoom, sectionRoom, entryRoom, lineRoom, putCount, putOut}
-use Rattle.slot_table.specs.Private.{Grown}
+use Rattle.slot_table.specs.Line.{space, lineEnd, slash, stateText, digits, number, fieldsText, sectionText, entryOf, entryText, lineOf, stopText, headingText, lineRoom, putCount, putOut}
+use Rattle.slot_table.specs.Private.{numberRoom, stateRoom, fieldsRoom, sectionRoom, entryRoom, Grown}
 use Rattle.slot_table.specs.declared.State.{State}
 use Rattle.slot_table.specs.declared.State.the-variants.{Whole, Cut, Trailing}
 use Rattle.slot_table.specs.declared.Entry.{Entry}
@@ -66,6 +69,10 @@ digits-few (suc f) n acc =
 
 pub number-few : (n end : ℕ) → length (number n (end ∷ [])) ≤ numberRoom
 number-few n end = omega (arith, digits-few 20 n (end ∷ []))
+
+-- so the place after a number that was put
+pub number-put : (n end : ℕ) {d d′ : List ℕ} {at to : ℕ} → Grown d at (number n (end ∷ [])) d′ to → to ≤ at + numberRoom
+number-put n end g = omega (arith, g .after, number-few n end)
 
 pub state-few : (state : State) → length (stateText state) ≤ stateRoom
 state-few Whole = omega arith
@@ -126,3 +133,12 @@ pub put-after : (line d : List ℕ) (at r : ℕ) → length line ≤ lineRoom �
 put-after line d at r few h e =
     let part : List ℕ = take (length d - at) (drop at d) in
     omega (arith, put-within line (length part) few, ap length (rest d at), length-drop at d)
+
+-- what lies past it is as it was
+pub put-past : (line d : List ℕ) → length line ≤ lineRoom → drop (putCount line (length d)) (putOut line d) ≡ drop (putCount line (length d)) d
+unfolding putCount putOut
+put-past line d few = by (leb lineRoom (length d)) refl
+  where
+    by : (t : Bool) → leb lineRoom (length d) ≡ t → drop (pick t (length line) 0) (pick t (laid d 0 line) d) ≡ drop (pick t (length line) 0) d
+    by true e = drop-laid-past d 0 line (length line) (omega arith) (omega (arith, few, leb-true lineRoom (length d) e))
+    by false e = refl

@@ -1,5 +1,5 @@
 -- The table of slot records (document 01, "The lister"), as ASCII bytes.
-use Prim.Native.Nat.{ℕ, zero, suc, _+_, _/_, _%_}
+use Prim.Native.Nat.{ℕ, zero, suc, _+_, _-_, _*_, _/_, _%_}
 use mathlib.Core.List.{List, [], _∷_, _++_}
 use mathlib.Core.Bool.{Bool}
 use lib.ListN.{length}
@@ -74,6 +74,11 @@ digits (suc f) n acc = pick (ltb n 10) ((48 + n) ∷ acc) (digits f (n / 10) ((4
 abbrev pub number : ℕ → List ℕ → List ℕ
 number n after = digits 20 n after
 
+-- the number that digits stand for, after one that was read before them
+abbrev pub numeral : ℕ → List ℕ → ℕ
+numeral n [] = n
+numeral n (d ∷ ds) = numeral (n * 10 + (d - 48)) ds
+
 -- type, claimed length, kept bytes and state
 unfoldable pub fieldsText : ℕ → ℕ → ℕ → State → List ℕ
 fieldsText kind claimed kept state =
@@ -104,22 +109,6 @@ headingText =
     110 ∷ 111 ∷ 32 ∷ 116 ∷ 121 ∷ 112 ∷ 101 ∷ 32 ∷ 99 ∷ 108 ∷ 97 ∷ 105 ∷ 109 ∷ 101 ∷ 100 ∷ 32 ∷ 107 ∷ 101 ∷ 112 ∷ 116 ∷ 32 ∷ 115 ∷ 116 ∷ 97 ∷ 116 ∷ 101 ∷ 32 ∷ 119 ∷ 105 ∷ 116 ∷ 104 ∷ 100 ∷ 114 ∷ 97 ∷ 119 ∷ 110 ∷ 32 ∷ 97 ∷ 110 ∷ 110 ∷ 111 ∷ 117 ∷ 110 ∷ 99 ∷ 101 ∷ 100 ∷ 10 ∷ []
 
 -- ---- a line put at the front of an output
-
--- the most bytes of a number and the byte after it, and of the other pieces
-abbrev pub numberRoom : ℕ
-numberRoom = 21
-
-abbrev pub stateRoom : ℕ
-stateRoom = 9
-
-abbrev pub fieldsRoom : ℕ
-fieldsRoom = 72
-
-abbrev pub sectionRoom : ℕ
-sectionRoom = 42
-
-abbrev pub entryRoom : ℕ
-entryRoom = 156
 
 -- the places that an output must have
 abbrev pub lineRoom : ℕ

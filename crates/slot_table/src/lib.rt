@@ -4,9 +4,8 @@ ghost use mathlib.Core.List.{[], _∷_, _++_};
 ghost use Prim.Native.Nat.{_+_, _≤_};
 ghost use lib.ListN.{length, drop};
 ghost use Rattle.updates.specs.Update.{countUpdate};
-ghost use Rattle.routes.specs.Promises.{rowsIn, verdictIn};
-ghost use Rattle.slot_table.specs.Line.{numberRoom, stateRoom, fieldsRoom, sectionRoom, entryRoom, number, stateOf, space, lineEnd, refusedText, stateText, fieldsText, sectionText, updateEntry, entryOf, entryText, lineOf, headingText, stopText, putCount, putOut};
-ghost use Rattle.slot_table.specs.Private.{Grown};
+ghost use Rattle.slot_table.specs.Line.{number, stateOf, space, lineEnd, refusedText, stateText, fieldsText, sectionText, updateEntry, entryOf, entryText, lineOf, headingText, stopText, putCount, putOut};
+ghost use Rattle.slot_table.specs.Private.{numberRoom, stateRoom, fieldsRoom, sectionRoom, entryRoom, Grown};
 use families::AddPath;
 use messages::MessageAnswer;
 use routes::ListAnswer;
@@ -112,31 +111,13 @@ fn put_fields(
     put_state(out, c, state)
 }
 
-fn rows_in(a: ListAnswer) -> usize
-    ensures { λ r. ⌜ r ≡ rowsIn a ⌝ }
-{
-    match a {
-        ListAnswer::Rows(n) => n,
-        ListAnswer::Refused(_) => 0,
-    }
-}
-
-fn verdict_in(a: ListAnswer) -> u8
-    ensures { λ r. ⌜ r ≡ verdictIn a ⌝ }
-{
-    match a {
-        ListAnswer::Rows(_) => 0,
-        ListAnswer::Refused(n) => n,
-    }
-}
-
 // Rows and verdict of a section, and the byte after them.
 fn put_section(out: &mut [u8], at: usize, a: ListAnswer, end: u8) -> usize
     requires { ⌜ at + sectionRoom ≤ length (now out) ⌝ }
     ensures { λ r. ⌜ Grown (now (out .entry)) at (sectionText a end) (now (out .exit)) r ⌝ }
 {
-    let verdict = put_number(out, at, rows_in(a) as u64, SLASH);
-    put_number(out, verdict, verdict_in(a) as u64, end)
+    let verdict = put_number(out, at, routes::rows_in(a) as u64, SLASH);
+    put_number(out, verdict, routes::verdict_in(a) as u64, end)
 }
 
 fn state_of(cut: bool, trailing: bool) -> State

@@ -1,2 +1,3 @@
 pub mod SlotLaws
-pub mod Theorems
+pub mod BlockLaws
+pub mod Tight

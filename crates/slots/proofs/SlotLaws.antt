@@ -9,8 +9,9 @@ use borrow.Author.Tests.{ltb-false}
 use lib.ListN.{length, getD}
 use lib.Dec.{ltb, eqb}
 use Rattle.wire.proofs.ChoiceLaws.{pick-any, pick-unless}
+use Rattle.families.specs.Family.{modeOf}
 use Rattle.families.specs.declared.AddPath.{AddPath}
-use Rattle.slots.specs.Slot.{markFirst, markSecond, recordSize, differs, overSettings, modeOf, keptOf, short, slotOf}
+use Rattle.slots.specs.Slot.{markFirst, markSecond, recordSize, differs, overSettings, keptOf, short, slotOf}
 use Rattle.slots.specs.declared.SlotAnswer.{SlotAnswer}
 use Rattle.slots.specs.declared.SlotAnswer.the-variants.{Slot, More, Stop, End}
 

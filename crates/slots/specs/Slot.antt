@@ -1,14 +1,13 @@
 -- A slot record (document 01, "The lister"): two octets of mark, C5 3A, a two-octet count of kept bytes, an octet of settings, and the kept
 -- bytes.
 use Prim.Native.Nat.{ℕ, _+_}
-use mathlib.Core.List.{List}
+use mathlib.Core.List.{List, _∷_, _++_}
 use mathlib.Core.Bool.{Bool, false, not}
 use lib.ListN.{length, getD}
 use lib.Dec.{ltb, leb, eqb}
 use Rattle.wire.specs.Choice.{pick}
-use Rattle.wire.specs.Number.{beAt}
-use Rattle.families.specs.declared.AddPath.{AddPath}
-use Rattle.families.specs.declared.AddPath.the-variants.{On, Off, Guess}
+use Rattle.wire.specs.Number.{beAt, toBe}
+use Rattle.families.specs.Family.{modeOf}
 use Rattle.slots.specs.declared.SlotAnswer.{SlotAnswer}
 use Rattle.slots.specs.declared.SlotAnswer.the-variants.{Slot, More, Stop, End}
 
@@ -37,10 +36,6 @@ differs s at b = found (λ x. not (eqb x b)) s at
 abbrev pub overSettings : List ℕ → Bool
 overSettings s = found (λ x. ltb settingsLimit x) s 4
 
--- 1 is Add-Path, and 2 the guess, which is for Add-Path off alone
-unfoldable pub modeOf : ℕ → AddPath
-modeOf settings = pick (eqb settings 0) Off (pick (eqb settings 2) Guess On)
-
 abbrev pub keptOf : List ℕ → ℕ
 keptOf s = beAt s 2 2
 
@@ -58,3 +53,14 @@ slotOf s last =
     (pick (ltb (length s) recordSize) (short last)
     (pick (ltb (length s) (recordSize + keptOf s)) (short last)
     (Slot (keptOf s) (modeOf (getD s 4 0))))))))
+
+-- decided: whatever bytes follow, the answer is the same
+abbrev pub Decided : SlotAnswer → Type 0
+Decided (Slot kept mode) = Unit
+Decided More = ⊥
+Decided Stop = Unit
+Decided End = ⊥
+
+-- the bytes of a record
+unfoldable pub recordOf : ℕ → List ℕ → List ℕ
+recordOf settings kept = markFirst ∷ markSecond ∷ (toBe 2 (length kept) ++ (settings ∷ kept))

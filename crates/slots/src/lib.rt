@@ -1,6 +1,6 @@
 // The slot records of a drive: what stands at the front of the input.
 ghost use mathlib.Core.Path.{_≡_};
-ghost use Rattle.slots.specs.Slot.{differs, overSettings, modeOf, short, slotOf};
+ghost use Rattle.slots.specs.Slot.{differs, overSettings, short, slotOf};
 use families::AddPath;
 
 // A record before its kept bytes: two bytes of mark, two of count, one of settings.
@@ -11,8 +11,6 @@ const MARK_FIRST: u8 = 0xC5;
 const MARK_SECOND: u8 = 0x3A;
 
 // The settings byte: 1 for Add-Path, 2 for the guess, or both.
-const GUESS: u8 = 2;
-
 const SETTINGS_LIMIT: u8 = 3;
 
 // What stands at the front of the input: a record of so many kept bytes and its setting; too few bytes to tell, where more may come;
@@ -42,19 +40,6 @@ fn over_settings(s: &[u8]) -> bool
         return false;
     }
     SETTINGS_LIMIT < s[4]
-}
-
-// The setting of a settings byte: the guess is for Add-Path off alone.
-fn mode_of(settings: u8) -> AddPath
-    ensures { λ r. ⌜ r ≡ modeOf settings ⌝ }
-{
-    if settings == 0 {
-        return AddPath::Off;
-    }
-    if settings == GUESS {
-        return AddPath::Guess;
-    }
-    AddPath::On
 }
 
 // The answer where a record is not all there.
@@ -95,6 +80,6 @@ pub fn next_slot(bytes: &[u8], last: bool) -> SlotAnswer
     }
     SlotAnswer::Slot {
         kept,
-        mode: mode_of(bytes[4]),
+        mode: families::mode_of(bytes[4]),
     }
 }

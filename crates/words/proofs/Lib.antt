@@ -1,3 +1,3 @@
-pub mod Flags
+pub mod FlagLaws
 pub mod WordLaws
-pub mod Bounds
+pub mod Tight

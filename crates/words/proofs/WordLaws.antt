@@ -1,9 +1,12 @@
--- Each field is read back from its word, as include/doorbramble.h does it, so other fields have another word.
+-- Laws of words: each field is read back from its word, as include/doorbramble.h does it, so other fields have another word.
 -- Assumes nothing.
-use Prim.Native.Nat.{ℕ, _/_, _%_}
+use Prim.Native.Nat.{ℕ, _/_, _%_, _≤_}
 use mathlib.Core.Path.{_≡_, sym, ap, _∙_}
+use mathlib.Core.List.{[], _∷_}
 use native.Mathlib.Omega.{arith}
-use Rattle.words.specs.Word.{Fields, fields, fieldSize, wordOf, Narrow}
+use Rattle.wire.specs.Answer.{Answer, given, refusal}
+use Rattle.wire.specs.Refusal.{listLimit}
+use Rattle.words.specs.Word.{Fields, fields, inFields, fieldSize, wordOf, Narrow}
 
 module _ (f : Fields) (h : Narrow f) where
   pub word-a : wordOf f % fieldSize ≡ f .a
@@ -34,3 +37,15 @@ one-word f g h k e =
 -- the word of an answer is the word of what the answer equals
 pub told : {A : Type 0} (f : A → Fields) {r : ℕ} {a b : A} → r ≡ wordOf (f a) → a ≡ b → r ≡ wordOf (f b)
 told f e h = e ∙ ap (λ x. wordOf (f x)) h
+
+pub told-in : {A : Type 0} (meaning : A → Answer) {r : ℕ} {a b : A} → r ≡ wordOf (inFields (meaning a)) → a ≡ b → r ≡ wordOf (inFields (meaning b))
+told-in meaning e h = told (λ x. inFields (meaning x)) e h
+
+-- ---- what is narrow
+
+pub refused-narrow : (n : ℕ) → Narrow (inFields (refusal n))
+refused-narrow n = record { a = omega arith; b = omega arith; c = omega arith }
+
+-- one number, of a size or a count
+pub number-narrow : (n : ℕ) → n ≤ listLimit → Narrow (inFields (given (n ∷ [])))
+number-narrow n h = record { a = omega arith; b = omega arith; c = omega arith }

@@ -1,6 +1,6 @@
 -- The answer of a call to C: three fields and a refusal number, of 16 bits each, in one word of 64.
 use Prim.Native.Nat.{ℕ, _+_, _*_, _<_}
-use mathlib.Core.Bool.{Bool, true, false}
+use Rattle.wire.specs.Answer.{Answer, numberIn, valueIn}
 
 pub record Fields : Type 0 where
   pub a : ℕ
@@ -11,12 +11,9 @@ pub record Fields : Type 0 where
 abbrev pub fields : ℕ → ℕ → ℕ → ℕ → Fields
 fields a b c refusal = record { a = a; b = b; c = c; refusal = refusal }
 
--- an answer has refusal number 0, and a refusal has fields of 0
-abbrev pub given : ℕ → ℕ → ℕ → Fields
-given a b c = fields a b c 0
-
-abbrev pub refused : ℕ → Fields
-refused n = fields 0 0 0 n
+-- an answer whose values are its fields, in order: what is given has refusal number 0, and a refusal has fields of 0
+abbrev pub inFields : Answer → Fields
+inFields a = fields (valueIn 0 a) (valueIn 1 a) (valueIn 2 a) (numberIn a)
 
 -- a field is under this
 abbrev pub fieldSize : ℕ
@@ -30,8 +27,3 @@ pub record Narrow (f : Fields) : Type 0 where
   pub a : f .a < fieldSize
   pub b : f .b < fieldSize
   pub c : f .c < fieldSize
-
--- a flag as a number
-abbrev pub bit : Bool → ℕ
-bit true = 1
-bit false = 0

@@ -1,9 +1,8 @@
 // What the calls for C share: an answer as one word of 64 bits, and the numbers of C that stand for a choice.
 ghost use mathlib.Core.Path.{_≡_};
-ghost use Rattle.words.specs.Settings.{familyOf, formOf, asnLengthOf, modeOf};
+ghost use Rattle.words.specs.Settings.{familyOf, formOf, asnLengthOf};
 ghost use Rattle.words.specs.Word.{fields, wordOf};
 use asns::AsnLength;
-use families::AddPath;
 use families::Afi;
 use families::Form;
 
@@ -34,19 +33,6 @@ pub fn asn_length_of(four_bytes: u8) -> AsnLength
     } else {
         AsnLength::Bits32
     }
-}
-
-// The setting of a settings byte: the lowest bit is Add-Path, and the next one the guess, which is for Add-Path off alone.
-pub fn mode_of(settings: u8) -> AddPath
-    ensures { λ r. ⌜ r ≡ modeOf settings ⌝ }
-{
-    if settings % 2 == 1 {
-        return AddPath::On;
-    }
-    if settings / 2 % 2 == 1 {
-        return AddPath::Guess;
-    }
-    AddPath::Off
 }
 
 // Three fields and a refusal number as a word.

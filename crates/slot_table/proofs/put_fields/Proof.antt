@@ -1,6 +1,6 @@
 use native.Mathlib.Omega.{arith}
-use Rattle.slot_table.specs.Line.{space, fieldsText}
-use Rattle.slot_table.proofs.LineLaws.{number-few}
+use Rattle.slot_table.specs.Line.{fieldsText}
+use Rattle.slot_table.proofs.LineLaws.{number-put}
 use Rattle.slot_table.proofs.Growth.{grow}
 use borrow.Author.Needs.{needs}
 use Rattle.slot_table.proofs.put_fields.Statement.{statement}
@@ -10,20 +10,20 @@ put-number-requires : tie.Need-put-number-requires
 put-number-requires c κs = search needs
 
 put-number-requires-2 : tie.Need-put-number-requires-2
-put-number-requires-2 c κs = let a = c .before .before .before .before .before .before .args in omega (arith, number-few (a .kind) space)
+put-number-requires-2 c κs = omega (arith, number-put _ _ (c .before .before .before .put-number .ensures))
 
 put-number-requires-3 : tie.Need-put-number-requires-3
 put-number-requires-3 c κs =
-    let p = c .before .before .before .before .before .before .before in
-    let a = p .before .before .before .args in
-    omega (arith, p .put-number .ensures .after, number-few (a .kind) space, number-few (a .claimed) space)
+    let p₂ = c .before .before .before in
+    let p₁ = p₂ .before .before .before .before in
+    omega (arith, number-put _ _ (p₁ .put-number .ensures), number-put _ _ (p₂ .put-number2 .ensures))
 
 put-state-requires : tie.Need-put-state-requires
 put-state-requires c κs =
-    let q = c .before .before .before .before .before .before .before in
-    let p = q .before .before .before .before in
-    let a = p .before .before .before .args in
-    omega (arith, p .put-number .ensures .after, q .put-number2 .ensures .after, number-few (a .kind) space, number-few (a .claimed) space, number-few (a .kept) space)
+    let p₃ = c .before .before .before in
+    let p₂ = p₃ .before .before .before .before in
+    let p₁ = p₂ .before .before .before .before in
+    omega (arith, number-put _ _ (p₁ .put-number .ensures), number-put _ _ (p₂ .put-number2 .ensures), number-put _ _ (p₃ .put-number3 .ensures))
 
 same-length : tie.Need-same-length
 same-length c = search needs

@@ -1,7 +1,7 @@
 use native.Mathlib.Omega.{arith}
 use lib.ListN.{length-drop, take, drop}
 use lib.Seq.{take-all}
-use Rattle.slot_table.specs.Line.{numberRoom}
+use Rattle.slot_table.specs.Private.{numberRoom}
 use mathlib.Core.Path.{_≡_}
 use Prim.Native.Nat.{_-_}
 use borrow.Author.Needs.{needs}

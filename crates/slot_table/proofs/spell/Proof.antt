@@ -4,7 +4,8 @@ use Prim.Native.Nat.{suc, _+_, _^_, _≤_, _<_}
 use native.Mathlib.Omega.{arith}
 use borrow.Author.Needs.{needs}
 use lib.ListN.{length, drop, length-set}
-use Rattle.slot_table.specs.Line.{digits, number, numberRoom}
+use Rattle.slot_table.specs.Line.{digits, number}
+use Rattle.slot_table.specs.Private.{numberRoom}
 use Rattle.slot_table.proofs.spell.Statement.{statement}
 use Rattle.slot_table.proofs.spell.Tie as tie
 

@@ -1,5 +1,5 @@
 use Rattle.words.specs.Settings.{familyOf}
-use Rattle.words.proofs.Flags.{is-no, is-yes}
+use Rattle.words.proofs.FlagLaws.{is-no, is-yes}
 use Rattle.words.proofs.family_of.Statement.{statement}
 use Rattle.words.proofs.family_of.Tie as tie
 

@@ -1,0 +1,32 @@
+-- The fields of the answer of a written AGGREGATOR are of 16 bits.
+-- Assumes nothing.
+use Prim.Native.Nat.{ℕ, _≤_}
+use native.Mathlib.Omega.{arith}
+use lib.ListN.{length}
+use lib.Dec.{leb}
+use Rattle.wire.specs.Answer.{writeMeaning}
+use Rattle.wire.specs.Refusal.{noRoom, wideNumber}
+use Rattle.wire.specs.declared.WriteAnswer.{WriteAnswer}
+use Rattle.wire.specs.declared.WriteAnswer.the-variants as W
+use Rattle.wire.proofs.ChoiceLaws.{pick-any}
+use Rattle.asns.specs.Asn.{widthOf, fitsWidth}
+use Rattle.asns.specs.Aggregator.{aggregatorBytes, aggregatorWritten}
+use Rattle.asns.specs.declared.AsnLength.{AsnLength}
+use Rattle.asns.specs.declared.AsnLength.the-variants.{Bits16, Bits32}
+use Rattle.asns.proofs.AggregatorLaws.{bytes-length}
+use Rattle.words.specs.Word.{inFields, Narrow}
+use Rattle.words.proofs.WordLaws.{refused-narrow, number-narrow}
+
+pub write-aggregator-narrow : (asn identifier : ℕ) (width : AsnLength) (places : ℕ) → Narrow (inFields (writeMeaning (aggregatorWritten asn identifier width places)))
+unfolding aggregatorWritten
+write-aggregator-narrow asn identifier width places =
+    let Fine : WriteAnswer → Type 0 = λ a. Narrow (inFields (writeMeaning a)) in
+    let size : ℕ = length (aggregatorBytes width asn identifier) in
+    pick-any Fine (fitsWidth asn width) _ (W.Refused wideNumber)
+    (pick-any Fine (leb size places) (W.Bytes size) (W.Refused noRoom)
+    (number-narrow size (omega (arith, bytes-length asn identifier width, width-small width))) (refused-narrow noRoom))
+    (refused-narrow wideNumber)
+  where
+    width-small : (w : AsnLength) → widthOf w ≤ 4
+    width-small Bits16 = omega arith
+    width-small Bits32 = omega arith

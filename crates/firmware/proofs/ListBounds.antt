@@ -1,0 +1,99 @@
+-- The fields of every answer of the module list are of 16 bits.
+-- Assumes nothing.
+use Prim.Native.Nat.{ℕ, zero, suc, _≤_, _<_}
+use mathlib.Core.Path.{_≡_}
+use mathlib.Core.List.{List}
+use native.Mathlib.Omega.{arith}
+use lib.ListN.{length}
+use Rattle.wire.specs.Answer.{answerBy, writeMeaning}
+use Rattle.wire.specs.declared.WriteAnswer.{WriteAnswer}
+use Rattle.wire.specs.declared.WriteAnswer.the-variants as W
+use Rattle.wire.proofs.ChoiceLaws.{pick-any, pick-leb}
+use Rattle.wire.specs.Refusal.{tooLong, truncated, prefixLength, oneByteSection, noRoom, listLimit}
+use Rattle.wire.specs.Walk as Walk
+use Rattle.wire.specs.Walk.{stop, Reading, readAll}
+use Rattle.wire.proofs.WalkLaws.{all-ind, tally-one}
+use Rattle.routes.proofs.PrefixLaws.{prefix-cases}
+use Rattle.routes.specs.List.{asStep, inForm, formBy, stepOf, listOf, sectionOf, strange}
+use Rattle.routes.proofs.ListLaws.{sound, light}
+use Rattle.routes.specs.Promises as routes
+use Rattle.families.specs.declared.Form.{Form}
+use Rattle.families.specs.declared.Form.the-variants.{Plain}
+use Rattle.families.specs.declared.AddPath.{AddPath}
+use Rattle.routes.specs.declared.Row.{Row}
+use Rattle.routes.specs.declared.ListAnswer.{ListAnswer}
+use Rattle.routes.specs.declared.ListAnswer.the-variants as L
+use Rattle.routes.specs.Promises.{listMeaning, rowsIn, verdictIn}
+use Rattle.route_bytes.specs.Encode.{writing}
+use Rattle.route_writer.specs.Promises as routeWriter
+use Rattle.words.specs.Word.{inFields, Narrow}
+use Rattle.words.proofs.WordLaws.{refused-narrow, number-narrow}
+use Rattle.firmware.proofs.Bounds.{tally-few, answer-any, limited-narrow}
+
+-- an item is refused with 2 or 7
+item-low : (max : ℕ) (form : Form) (s : List ℕ) (n : ℕ) → inForm max form s ≡ stop n → n < 256
+unfolding inForm
+item-low max form s n =
+    prefix-cases s max form (λ a. asStep form a ≡ stop n → n < 256)
+    (λ e. let same : truncated ≡ n = cc in omega arith)
+    (λ e. let same : prefixLength ≡ n = cc in omega arith)
+    (λ u r t e. let z : _≡_ {A = ℕ} 0 1 = cc in absurd (omega arith))
+
+-- a reading of no more rows than bytes, whose verdict is a byte
+pub record Modest (s : List ℕ) (r : Reading Row) : Type 0 where
+  pub few : length (r .rows) ≤ length s
+  pub low : r .verdict < 256
+
+list-modest : (s : List ℕ) (max : ℕ) (mode : AddPath) → Modest s (listOf s max mode)
+unfolding listOf stepOf
+list-modest s max mode = record {
+  few = omega (arith, tally-one (readAll (stepOf max mode) Plain s .rows), tally-few (stepOf max mode) (sound max mode) (λ _. 1) (light max mode) Plain s);
+  low =
+      all-ind (stepOf max mode) (sound max mode) (λ st t r. r .verdict < 256)
+      (λ st. omega arith)
+      (λ st t n _ e. item-low max (formBy max mode st t) t n e)
+      (λ st st′ t used row _ e low. low)
+      Plain s;
+}
+
+pub section-modest : (s : List ℕ) (max : ℕ) (mode : AddPath) → Modest s (sectionOf s max mode)
+unfolding sectionOf
+section-modest s max mode =
+    pick-any (Modest s) (strange s) (Walk.refused oneByteSection) (listOf s max mode) (record { few = omega arith; low = omega arith }) (list-modest s max mode)
+
+-- an answer of so few rows, or of a refusal number that is a byte
+pub record Small (a : ListAnswer) : Type 0 where
+  pub rows : rowsIn a ≤ listLimit
+  pub verdict : verdictIn a < 256
+
+pub count-small : (s : List ℕ) (r : Reading Row) → Modest s r → Small (routes.countAnswer s r)
+unfolding routes.countAnswer
+count-small s r h =
+    pick-leb Small (length s) listLimit _ (L.Refused tooLong)
+    (λ short. by (r .verdict) (h .low) (omega (arith, h .few)))
+    (λ _. record { rows = omega arith; verdict = omega arith })
+  where
+    by : (v : ℕ) → v < 256 → length (r .rows) ≤ listLimit → Small (answerBy v (L.Rows (length (r .rows))) L.Refused)
+    by zero low few = record { rows = few; verdict = low }
+    by (suc n) low few = record { rows = omega arith; verdict = low }
+
+small-narrow : (a : ListAnswer) → Small a → Narrow (inFields (listMeaning a))
+small-narrow (L.Rows n) h = number-narrow n (h .rows)
+small-narrow (L.Refused n) h = refused-narrow n
+
+module _ (s : List ℕ) (max : ℕ) (mode : AddPath) where
+  pub count-list-narrow : Narrow (inFields (listMeaning (routes.countAnswer s (listOf s max mode))))
+  count-list-narrow = small-narrow (routes.countAnswer s (listOf s max mode)) (count-small s (listOf s max mode) (list-modest s max mode))
+
+  pub read-list-narrow : (places : ℕ) → Narrow (inFields (listMeaning (routes.readAnswer s (listOf s max mode) places)))
+  unfolding routes.readAnswer
+  read-list-narrow places =
+      let counted : ListAnswer = routes.countAnswer s (listOf s max mode) in
+      pick-any (λ (a : ListAnswer). Narrow (inFields (listMeaning a))) (routes.hasRoom counted places) counted (L.Refused noRoom) count-list-narrow (refused-narrow noRoom)
+
+-- ---- what is written
+
+pub write-list-narrow : (ws : List ℕ) (max : ℕ) (form : Form) (places : ℕ) → Narrow (inFields (writeMeaning (routeWriter.writeAnswer ws max form places)))
+unfolding routeWriter.writeAnswer
+write-list-narrow ws max form places =
+    answer-any (λ (a : WriteAnswer). Narrow (inFields (writeMeaning a))) (writing ws max form .verdict) _ W.Refused (limited-narrow listLimit _ places (omega arith)) refused-narrow

@@ -1,0 +1,79 @@
+-- The fields of every answer of the module path are of 16 bits.
+-- Assumes nothing.
+use Prim.Native.Nat.{ℕ, _/_, _≤_, _<_}
+use mathlib.Core.List.{List}
+use native.Mathlib.Omega.{arith}
+use lib.ListN.{length}
+use lib.Dec.{leb}
+use Rattle.wire.specs.Answer.{writeMeaning}
+use Rattle.wire.specs.declared.WriteAnswer.{WriteAnswer}
+use Rattle.wire.specs.declared.WriteAnswer.the-variants as W
+use Rattle.wire.proofs.ChoiceLaws.{pick-any, pick-leb}
+use Rattle.wire.specs.Refusal.{tooLong, noRoom, notWritable, listLimit}
+use Rattle.wire.specs.Walk.{readAll, flat}
+use Rattle.wire.proofs.WalkLaws.{tally-one, tally-flat}
+use Rattle.wire.proofs.Turn.{Light}
+use Rattle.asns.specs.Asn.{widthOf}
+use Rattle.asns.specs.declared.AsnLength.{AsnLength}
+use Rattle.asns.specs.declared.AsnLength.the-variants.{Bits16, Bits32}
+use Rattle.paths.specs.Segment.{knownType, segmentOf, pathOf, asnsOf}
+use Rattle.paths.proofs.SegmentLaws.{segment-sound, light-segments, light-numbers}
+use Rattle.paths.specs.Promises as paths
+use Rattle.paths.specs.Promises.{pathMeaning}
+use Rattle.paths.specs.declared.PathAnswer.{PathAnswer}
+use Rattle.paths.specs.declared.PathAnswer.the-variants as P
+use Rattle.path_writer.specs.Promises.{encodeAnswer}
+use Rattle.path_writer.specs.Write.{addsUp, lentPath}
+use Rattle.words.specs.Word.{inFields, Narrow}
+use Rattle.words.proofs.WordLaws.{refused-narrow}
+use Rattle.firmware.proofs.Bounds.{tally-few, answer-any, limited-narrow}
+
+width-pos : (width : AsnLength) → 0 < widthOf width
+width-pos Bits16 = omega arith
+width-pos Bits32 = omega arith
+
+module _ (s : List ℕ) (width : AsnLength) where
+  segments-few : length (pathOf knownType (widthOf width) s .rows) ≤ length s
+  unfolding pathOf
+  segments-few =
+      let w : ℕ = widthOf width in
+      omega (arith, tally-one (readAll (segmentOf knownType w) tt s .rows), tally-few (segmentOf knownType w) (segment-sound knownType w) (λ _. 1) (light-segments knownType w) tt s)
+
+  numbers-few : length (flat asnsOf (pathOf knownType (widthOf width) s .rows)) ≤ length s
+  unfolding pathOf
+  numbers-few =
+      let w : ℕ = widthOf width in
+      let many : Light (segmentOf knownType w) (λ g. length (asnsOf g)) 1 = light-numbers knownType w (width-pos width) in
+      omega (arith, tally-flat asnsOf (readAll (segmentOf knownType w) tt s .rows), tally-few (segmentOf knownType w) (segment-sound knownType w) (λ g. length (asnsOf g)) many tt s)
+
+  pub count-path-narrow : Narrow (inFields (pathMeaning (paths.countAnswer s (pathOf knownType (widthOf width) s))))
+  unfolding paths.countAnswer
+  count-path-narrow =
+      let Fine : PathAnswer → Type 0 = λ a. Narrow (inFields (pathMeaning a)) in
+      pick-leb Fine (length s) listLimit _ (P.Refused tooLong)
+      (λ short. answer-any Fine (pathOf knownType (widthOf width) s .verdict) _ P.Refused
+      (record { a = omega (arith, segments-few); b = omega (arith, numbers-few); c = omega arith }) refused-narrow)
+      (λ _. refused-narrow tooLong)
+
+  pub read-path-narrow : (p q : ℕ) → Narrow (inFields (pathMeaning (paths.readAnswer s (pathOf knownType (widthOf width) s) p q)))
+  unfolding paths.readAnswer
+  read-path-narrow p q = by (paths.countAnswer s (pathOf knownType (widthOf width) s)) count-path-narrow
+    where
+      by : (a : PathAnswer) → Narrow (inFields (pathMeaning a)) → Narrow (inFields (pathMeaning (paths.inStores a p q)))
+      by (P.Path m n) h =
+          let Fine : PathAnswer → Type 0 = λ a. Narrow (inFields (pathMeaning a)) in
+          pick-any Fine (leb m (p / 2)) _ (P.Refused noRoom)
+          (pick-any Fine (leb n q) (P.Path m n) (P.Refused noRoom) h (refused-narrow noRoom))
+          (refused-narrow noRoom)
+      by (P.Refused n) h = refused-narrow n
+
+-- ---- what is written
+
+pub write-path-narrow : (pairs numbers : List ℕ) (width : AsnLength) (places : ℕ)
+    → Narrow (inFields (writeMeaning (encodeAnswer knownType (widthOf width) pairs numbers places)))
+unfolding encodeAnswer
+write-path-narrow pairs numbers width places =
+    let Fine : WriteAnswer → Type 0 = λ a. Narrow (inFields (writeMeaning a)) in
+    pick-any Fine (addsUp pairs (length numbers)) _ (W.Refused notWritable)
+    (answer-any Fine (lentPath knownType (widthOf width) pairs numbers .verdict) _ W.Refused (limited-narrow listLimit _ places (omega arith)) refused-narrow)
+    (refused-narrow notWritable)

@@ -1,0 +1,82 @@
+-- The fields of every answer of the module update are of 16 bits.
+-- Assumes nothing.
+use Prim.Native.Nat.{ℕ, _+_, _≤_}
+use mathlib.Core.Path.{_≡_, sym, _∙_}
+use mathlib.Core.List.{List}
+use native.Mathlib.Omega.{arith}
+use Rattle.wire.specs.Answer.{writeMeaning}
+use Rattle.wire.specs.Extent.{Extent}
+use Rattle.wire.specs.Refusal.{noRoom}
+use Rattle.wire.proofs.ChoiceLaws.{pick-any}
+use Rattle.families.specs.Family.{maxOf}
+use Rattle.route_reader.specs.Pair.{readPairBy, readPair}
+use Rattle.families.specs.declared.AddPath.{AddPath}
+use Rattle.families.specs.declared.Form.{Form}
+use Rattle.families.specs.declared.Afi.the-variants.{Ipv4}
+use Rattle.routes.specs.Promises.{hasRoom}
+use Rattle.routes.specs.declared.ListAnswer.{ListAnswer}
+use Rattle.route_reader.specs.declared.PairAnswer.{PairAnswer}
+use Rattle.route_reader.specs.declared.PairAnswer.the-variants as Q
+use Rattle.updates.specs.Body.{partsOf, withdrawnOf, announcedOf}
+use Rattle.updates.specs.Update.{ifParts, asUpdate, counted, countUpdate, readUpdate}
+use Rattle.updates.specs.declared.PartsAnswer.{PartsAnswer}
+use Rattle.updates.specs.declared.PartsAnswer.the-variants as S
+use Rattle.updates.specs.declared.UpdateAnswer.{UpdateAnswer}
+use Rattle.updates.specs.declared.UpdateAnswer.the-variants as U
+use Rattle.updates.proofs.BodyLaws.{parts-add-up}
+use Rattle.update_writer.specs.Body.{bodyAnswer}
+use Rattle.update_writer.proofs.RoundTrip.{body-cases}
+use Rattle.words.specs.Word.{inFields, Narrow}
+use Rattle.words.proofs.WordLaws.{refused-narrow, number-narrow}
+use Rattle.firmware.specs.Fields.{partFields, updateFields}
+use Rattle.firmware.proofs.ListBounds.{section-modest, Small, count-small}
+
+-- ---- where the sections stand
+
+-- a section that ends in the body, as an answer told the lengths
+pub part-narrow : (section : PartsAnswer → Extent) (b : List ℕ) (told : PartsAnswer) (w a n : ℕ)
+    → section (S.Parts w a n) .start + section (S.Parts w a n) .size ≤ w + a + n + 4 → told ≡ partsOf b → told ≡ S.Parts w a n
+    → Narrow (partFields section (S.Parts w a n))
+part-narrow section b told w a n inside e f =
+    let h = parts-add-up b w a n (sym e ∙ f) in
+    record { a = omega (arith, h .0, h .1); b = omega (arith, h .0, h .1); c = omega arith }
+
+-- ---- their routes
+
+update-narrow : (a b : ListAnswer) → Small a → Small b → Narrow (updateFields (U.Update a b))
+update-narrow a b h k = record { a = omega (arith, h .rows); b = omega (arith, k .rows); c = omega (arith, h .verdict, k .verdict) }
+
+pair-narrow : (a b : ListAnswer) (places places′ : ℕ) → Small a → Small b → Narrow (updateFields (asUpdate (readPairBy a b places places′)))
+unfolding readPairBy
+pair-narrow a b places places′ h k =
+    let Fine : PairAnswer → Type 0 = λ p. Narrow (updateFields (asUpdate p)) in
+    pick-any Fine (hasRoom a places) _ (Q.Refused noRoom)
+    (pick-any Fine (hasRoom b places′) (Q.Sections a b) (Q.Refused noRoom) (update-narrow a b h k) (refused-narrow noRoom))
+    (refused-narrow noRoom)
+
+if-narrow : (p : PartsAnswer) (u : UpdateAnswer) → Narrow (updateFields u) → Narrow (updateFields (ifParts p u))
+if-narrow (S.Parts w a n) u h = h
+if-narrow (S.Refused m) u h = refused-narrow m
+
+module _ (b : List ℕ) (mode : AddPath) where
+  both-small : Small (counted (withdrawnOf b) mode) × Small (counted (announcedOf b) mode)
+  both-small = (
+    count-small (withdrawnOf b) _ (section-modest (withdrawnOf b) (maxOf Ipv4) mode),
+    count-small (announcedOf b) _ (section-modest (announcedOf b) (maxOf Ipv4) mode),
+  )
+
+  pub count-update-narrow : Narrow (updateFields (countUpdate b mode))
+  unfolding countUpdate
+  count-update-narrow = if-narrow (partsOf b) _ (update-narrow _ _ (both-small .0) (both-small .1))
+
+  pub read-update-narrow : (places places′ : ℕ) → Narrow (updateFields (readUpdate b mode places places′))
+  unfolding readUpdate readPair
+  read-update-narrow places places′ = if-narrow (partsOf b) _ (pair-narrow _ _ places places′ (both-small .0) (both-small .1))
+
+-- ---- what is written
+
+pub write-update-narrow : (withdrawn attributes announced : List ℕ) (form : Form) (places : ℕ)
+    → Narrow (inFields (writeMeaning (bodyAnswer withdrawn attributes announced form places)))
+write-update-narrow withdrawn attributes announced form places =
+    body-cases withdrawn attributes announced form places (λ a. Narrow (inFields (writeMeaning a))) refused-narrow
+    (λ n fit. number-narrow n (omega (arith, fit .size, fit .sizes .whole)))

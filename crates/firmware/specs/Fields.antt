@@ -1,0 +1,51 @@
+-- The fields of the answers whose fields are not their values in order. The others go by `inFields` of words: a list has its rows, an
+-- AS_PATH its segments and numbers, a writer its bytes.
+use Prim.Native.Nat.{ℕ, _+_, _*_}
+use mathlib.Core.List.{List, [], _∷_}
+use lib.Dec.{ltb}
+use Rattle.wire.specs.Answer.{Answer, given, refusal, numberIn, valueIn}
+use Rattle.wire.specs.Choice.{pick}
+use Rattle.wire.specs.Extent.{Extent}
+use Rattle.wire.specs.Refusal.{noRoom}
+use Rattle.messages.specs.Header.{messageMeaning}
+use Rattle.messages.specs.declared.MessageAnswer.{MessageAnswer}
+use Rattle.updates.specs.Body.{partsMeaning}
+use Rattle.updates.specs.Update.{updateMeaning}
+use Rattle.updates.specs.declared.PartsAnswer.{PartsAnswer}
+use Rattle.updates.specs.declared.UpdateAnswer.{UpdateAnswer}
+use Rattle.words.specs.Word.{Fields, fields}
+
+-- ---- messages
+
+-- what it claims, what is taken of it, and its type with its three flags
+abbrev pub messageFields : MessageAnswer → Fields
+messageFields a =
+    fields (valueIn 1 (messageMeaning a)) (valueIn 2 (messageMeaning a))
+    (valueIn 0 (messageMeaning a) + 256 * valueIn 3 (messageMeaning a) + 512 * valueIn 4 (messageMeaning a) + 1024 * valueIn 5 (messageMeaning a))
+    (numberIn (messageMeaning a))
+
+-- ---- UPDATE bodies
+
+-- where a section starts, and its length
+abbrev pub partFields : (PartsAnswer → Extent) → PartsAnswer → Fields
+partFields section a = fields (section a .start) (section a .size) 0 (numberIn (partsMeaning a))
+
+-- the rows of both sections, and the verdict of each
+abbrev pub updateFields : UpdateAnswer → Fields
+updateFields a =
+    fields (valueIn 0 (updateMeaning a)) (valueIn 2 (updateMeaning a))
+    (valueIn 1 (updateMeaning a) + 256 * valueIn 3 (updateMeaning a)) (numberIn (updateMeaning a))
+
+-- ---- AGGREGATOR
+
+-- the words of one in a store: its AS number and its identifier
+abbrev pub aggregatorSize : ℕ
+aggregatorSize = 2
+
+abbrev pub aggregatorWords : Answer → List ℕ
+aggregatorWords a = valueIn 0 a ∷ valueIn 1 a ∷ []
+
+-- in a store of so many places, 11 last: how many words, and whether the width differs
+abbrev pub aggregatorStored : Answer → ℕ → Answer
+aggregatorStored (given values) places = pick (ltb places aggregatorSize) (refusal noRoom) (given (aggregatorSize ∷ valueIn 2 (given values) ∷ []))
+aggregatorStored (refusal n) places = refusal n

@@ -1,0 +1,63 @@
+// A list of routes, counted, read and written.
+ghost use mathlib.Core.Path.{_≡_};
+ghost use lib.ListN.{length};
+ghost use Rattle.wire.specs.Answer.{writeMeaning};
+ghost use Rattle.families.specs.Family.{maxOf, modeOf};
+ghost use Rattle.routes.specs.List.{listOf};
+ghost use Rattle.routes.specs.Promises as Routes;
+ghost use Rattle.route_writer.specs.Promises as RouteWriter;
+ghost use Rattle.words.specs.Settings.{familyOf, formOf};
+ghost use Rattle.words.specs.Word.{inFields, wordOf, Narrow};
+use super::write_word;
+use families::mode_of;
+use routes::ListAnswer;
+use words::family_of;
+use words::form_of;
+use words::word;
+
+// A list as a word: its rows.
+fn list_word(a: ListAnswer) -> u64
+    requires { ⌜ Narrow (inFields (Routes.listMeaning a)) ⌝ }
+    ensures { λ r. ⌜ r ≡ wordOf (inFields (Routes.listMeaning a)) ⌝ }
+{
+    match a {
+        ListAnswer::Rows(n) => word(n as u16, 0, 0, 0),
+        ListAnswer::Refused(n) => word(0, 0, 0, n),
+    }
+}
+
+// How many routes a list has.
+#[no_mangle]
+pub extern "C" fn doorbramble_count_nlri_list(s: &[u8], ipv6: u8, settings: u8) -> u64
+    ensures { λ r. ⌜ r ≡ wordOf (inFields (Routes.listMeaning (Routes.countAnswer (now (s .entry)) (listOf (now (s .entry)) (maxOf (familyOf ipv6)) (modeOf settings))))) ⌝ }
+{
+    list_word(routes::count_nlri_list(s, family_of(ipv6), mode_of(settings)))
+}
+
+// The routes of a list, into a lent store.
+#[no_mangle]
+pub extern "C" fn doorbramble_parse_nlri_list(
+    s: &[u8],
+    ipv6: u8,
+    settings: u8,
+    store: &mut [u32],
+) -> u64
+    ensures answer { λ r. ⌜ r ≡ wordOf (inFields (Routes.listMeaning (Routes.readAnswer (now (s .entry)) (listOf (now (s .entry)) (maxOf (familyOf ipv6)) (modeOf settings)) (length (now (store .entry)))))) ⌝ }
+    ensures store { λ _. ⌜ now (store .exit) ≡ Routes.storeAfter (now (s .entry)) (listOf (now (s .entry)) (maxOf (familyOf ipv6)) (modeOf settings)) (now (store .entry)) ⌝ }
+{
+    list_word(route_reader::parse_nlri_list(s, family_of(ipv6), mode_of(settings), store))
+}
+
+// Rows as a list of routes.
+#[no_mangle]
+pub extern "C" fn doorbramble_encode_nlri_prefixes(
+    rows: &[u32],
+    ipv6: u8,
+    add_path: u8,
+    out: &mut [u8],
+) -> u64
+    ensures answer { λ r. ⌜ r ≡ wordOf (inFields (writeMeaning (RouteWriter.writeAnswer (now (rows .entry)) (maxOf (familyOf ipv6)) (formOf «add_path») (length (now (out .entry)))))) ⌝ }
+    ensures out { λ _. ⌜ now (out .exit) ≡ RouteWriter.outAfter (now (rows .entry)) (maxOf (familyOf ipv6)) (formOf «add_path») (now (out .entry)) ⌝ }
+{
+    write_word(route_writer::encode_nlri_prefixes(rows, family_of(ipv6), form_of(add_path), out))
+}
