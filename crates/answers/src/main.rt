@@ -1,9 +1,14 @@
 // Reads request records from standard input, runs the call that each names, and writes a line for each to standard output.
 ghost use mathlib.Core.Path.{_≡_};
 ghost use lib.ListN.{length};
-use records::line;
-use records::request;
-use records::request::Judged;
+use crate::request::Judged;
+
+mod line;
+mod numbers;
+mod reads;
+mod request;
+mod store;
+mod writes;
 
 // Output is written when this many bytes wait: what is left holds any line.
 const WAITING_LIMIT: usize = 64000;
@@ -31,10 +36,10 @@ fn answer(
     let h = request::read_head(s);
     let named = line::record_and_op(out, at, record, h.op);
     if h.op < 13 {
-        let read = replies::reads::answer(h, request::part_one(s, h), a, b, out, named);
+        let read = reads::answer(h, request::part_one(s, h), a, b, out, named);
         return line::put(out, read, b"\n");
     }
-    let written = replies::writes::answer(h, s, a, b, w, out, named);
+    let written = writes::answer(h, s, a, b, w, out, named);
     line::put(out, written, b"\n")
 }
 

@@ -6,13 +6,26 @@ use records::Request;
 use std::io;
 use std::path::Path;
 
+fn record(request: Request) -> Vec<u8> {
+    let mut bytes = vec![];
+    request.write_to(&mut bytes);
+    bytes
+}
+
+/// A record with all three parts.
+fn good_record() -> Vec<u8> {
+    record(request(17, 0, (64, 0), [words(&[0; 6]), hex("400600"), words(&[0; 6])], 0))
+}
+
+/// A record that lacks its last byte.
+pub fn short_record() -> Vec<u8> {
+    let mut bytes = good_record();
+    bytes.pop();
+    bytes
+}
+
 /// Runs that end in a stop: the bytes after one good record.
 fn bad_records() -> Vec<Vec<u8>> {
-    let record = |request: Request| {
-        let mut bytes = vec![];
-        request.write_to(&mut bytes);
-        bytes
-    };
     let with_numbers = |op, parts| record(request(op, 0, (9, 0), parts, 0));
     let mut bad = vec![
         record(on_bytes(0, 0, (0, 0), &[])),
@@ -34,7 +47,7 @@ fn bad_records() -> Vec<Vec<u8>> {
         record(request(3, 0, (0, 0), [vec![], vec![0; 400_001], vec![]], 0)),
         record(request(3, 0, (0, 0), [vec![], vec![], vec![0; 400_001]], 0)),
     ];
-    let good = record(request(17, 0, (64, 0), [words(&[0; 6]), hex("400600"), words(&[0; 6])], 0));
+    let good = good_record();
     bad.extend((1..good.len()).map(|cut| good[..cut].to_vec()));
     bad
 }

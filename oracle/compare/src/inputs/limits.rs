@@ -1,88 +1,138 @@
-//! Requests at each size limit, one under it and one over it.
+//! Requests at each size limit, one under it and one over it. What is over a limit is malformed too, or has no room, so that
+//! the order of the two checks is seen.
 
 use super::examples::{on_bytes, request, words};
+use super::pieces;
 use records::{Request, ADD_PATH, FOUR_BYTE_AS, GUESS, IPV6};
 
 pub fn all() -> Vec<Request> {
     [lists(), paths(), updates(), written_lists(), written_paths(), written_messages(), written_updates()].concat()
 }
 
+/// Default routes, without ids or with ids 0; over the limit the first length is out of range.
 fn lists() -> Vec<Request> {
-    let mut requests = vec![];
-    for size in [65_534, 65_535, 65_536] {
-        let zeros = vec![0; size];
-        for settings in [0, GUESS, ADD_PATH] {
-            requests.extend([3, 5].map(|op| on_bytes(op, settings, (0, 0), &zeros)));
-        }
-        requests.extend([2, 4].map(|op| on_bytes(op, 0, (6 * 65_535, 0), &zeros)));
-        requests.extend([2, 4].map(|op| on_bytes(op, 0, (6 * 65_535 - 1, 0), &zeros)));
-        requests.push(on_bytes(1, 0, (0, 0), &zeros));
-    }
-    requests
+    let zeros = |op, settings, room, size| {
+        let mut bytes = vec![0; size];
+        bytes[0] = if size > 65_535 { 255 } else { 0 };
+        on_bytes(op, settings, (room, 0), &bytes)
+    };
+    vec![
+        zeros(3, 0, 0, 65_534),
+        zeros(3, 0, 0, 65_535),
+        zeros(3, 0, 0, 65_536),
+        zeros(2, GUESS, 6 * 13_107, 65_535),
+        zeros(2, GUESS, 0, 65_536),
+        zeros(4, ADD_PATH, 6 * 13_107, 65_535),
+        zeros(4, ADD_PATH, 0, 65_536),
+        zeros(5, GUESS, 0, 65_535),
+        zeros(5, GUESS, 0, 65_536),
+        // a single item has no limit
+        on_bytes(1, 0, (0, 0), &vec![0; 65_536]),
+    ]
 }
 
-/// A path's length is even, so 65,534 is the longest good one.
+/// A path's length is even, so 65,534 is the longest good one; over the limit the first type is none.
 fn paths() -> Vec<Request> {
-    let mut requests = vec![];
-    for size in [65_534, 65_535, 65_536] {
-        let empty_segments = [2, 0].into_iter().cycle().take(size).collect::<Vec<u8>>();
-        requests.push(on_bytes(6, 0, (65_534, 0), &empty_segments));
-        requests.push(on_bytes(7, FOUR_BYTE_AS, (0, 0), &empty_segments));
-        requests.push(on_bytes(8, 0, (0, 0), &empty_segments));
-    }
-    requests
+    let empty_segments = |op, settings, room, size| {
+        let mut bytes: Vec<u8> = [2, 0].into_iter().cycle().take(size).collect();
+        bytes[0] = if size > 65_535 { 5 } else { 2 };
+        on_bytes(op, settings, (room, 0), &bytes)
+    };
+    vec![
+        empty_segments(6, 0, 65_534, 65_534),
+        empty_segments(6, 0, 65_534, 65_535),
+        empty_segments(6, 0, 0, 65_536),
+        empty_segments(7, FOUR_BYTE_AS, 0, 65_535),
+        empty_segments(7, FOUR_BYTE_AS, 0, 65_536),
+        // an AGGREGATOR is never so long: 10, and over the limit 1
+        empty_segments(8, 0, 0, 65_534),
+        empty_segments(8, 0, 0, 65_535),
+        empty_segments(8, 0, 0, 65_536),
+    ]
 }
 
+/// Bodies that are nearly all one section; over the limit a section is not all there.
 fn updates() -> Vec<Request> {
-    let mut requests = vec![];
-    for size in [65_515, 65_516, 65_517] {
-        let announced_only = vec![0; size];
-        for settings in [0, GUESS] {
-            requests.extend([11, 12].map(|op| on_bytes(op, settings, (0, 0), &announced_only)));
-        }
-        requests.push(on_bytes(10, 0, (0, 6 * (65_516 - 4)), &announced_only));
-    }
-    requests
+    let announced = |size: usize| pieces::body(&[], &[], &vec![0; size - 4]);
+    let over = [vec![255, 255], vec![0; 65_515]].concat();
+    vec![
+        on_bytes(10, GUESS, (0, 6 * 13_103), &announced(65_515)),
+        on_bytes(10, GUESS, (0, 6 * 13_104), &announced(65_516)),
+        on_bytes(10, GUESS, (0, 0), &over),
+        on_bytes(11, GUESS, (0, 0), &pieces::body(&vec![0; 65_512], &[], &[])),
+        on_bytes(11, GUESS, (0, 0), &over),
+        on_bytes(12, 0, (0, 0), &pieces::body(&[], &raw_attribute(65_512), &[])),
+        on_bytes(12, 0, (0, 0), &over),
+    ]
 }
 
-/// 3,855 rows of 17 bytes are 65,535 bytes.
+/// 3,120 rows of 21 bytes and one of 15 are 65,535 bytes.
 fn written_lists() -> Vec<Request> {
-    let full = [128, 0, 1, 2, 3, 4].repeat(3_855);
-    let mut over = full.clone();
-    over.extend([0; 6]);
-    [(full.clone(), 65_535), (full, 65_534), (over.clone(), 65_536), (over, 0)]
-        .map(|(rows, room)| request(13, IPV6, (room, 0), [words(&rows), vec![], vec![]], 0))
-        .to_vec()
+    let settings = IPV6 | ADD_PATH;
+    let write = |last: [u32; 6], room| {
+        let mut rows = [256 + 128, 7, 1, 2, 3, 4].repeat(3_120);
+        rows.extend(last);
+        request(13, settings, (room, 0), [words(&rows), vec![], vec![]], 0)
+    };
+    vec![
+        write([256 + 72, 7, 1, 2, 0, 0], 65_534),
+        write([256 + 80, 7, 1, 2, 0, 0], 65_535),
+        write([256 + 88, 7, 1, 2, 0, 0], 0),
+        write([256 + 129, 7, 1, 2, 3, 4], 0),
+    ]
 }
 
 /// 64 full segments of width 4 are 65,408 bytes; 31 numbers more are 65,534, and an empty segment more is too many.
+/// At width 2, 128 full segments are one too many.
 fn written_paths() -> Vec<Request> {
+    let write = |settings, room, (segments, last): (usize, &[u32]), numbers: &[u32]| {
+        let pairs = [[2, 255].repeat(segments), last.to_vec()].concat();
+        request(14, settings, (room, 0), [words(&pairs), words(numbers), vec![]], 0)
+    };
     let numbers = vec![70_000; 64 * 255 + 31];
-    let full = [[2, 255].repeat(64), vec![2, 31]].concat();
-    let over = [full.clone(), vec![1, 0]].concat();
-    [(full.clone(), 65_534), (full, 65_533), (over.clone(), 65_536), (over, 0)]
-        .map(|(pairs, room)| request(14, FOUR_BYTE_AS, (room, 0), [words(&pairs), words(&numbers), vec![]], 0))
-        .to_vec()
+    let wide = |room, last: &[u32], numbers: &[u32]| write(FOUR_BYTE_AS, room, (64, last), numbers);
+    let narrow = [vec![64_512; 128 * 255 - 1], vec![65_536]].concat();
+    vec![
+        wide(65_534, &[2, 31], &numbers),
+        wide(0, &[2, 31, 1, 0], &numbers),
+        wide(0, &[2, 31, 1, 0], &numbers[1..]),
+        wide(0, &[2, 31, 5, 0], &numbers),
+        wide(0, &[2, 256], &vec![70_000; 64 * 255 + 256]),
+        write(0, 0, (128, &[]), &narrow),
+    ]
 }
 
+/// The most bytes of each type but KEEPALIVE; type 6 is none.
 fn written_messages() -> Vec<Request> {
-    let sizes = [(1, 4_077), (1, 4_078), (2, 65_516), (2, 65_517), (3, 65_516), (3, 65_517), (5, 65_516), (5, 65_517)];
-    let write = |(kind, size): (u8, usize), room| request(16, 0, (room, 0), [vec![0; size], vec![], vec![]], kind);
-    sizes.iter().flat_map(|of| [write(*of, of.1 + 19), write(*of, of.1 + 18)]).collect()
+    let write = |kind: u8, size: usize, room| request(16, 0, (room, 0), [vec![0; size], vec![], vec![]], kind);
+    let mut requests = vec![write(1, 4_076, 4_095), write(1, 4_077, 4_096), write(1, 4_078, 0), write(6, 65_517, 0)];
+    for kind in [2, 3, 5] {
+        requests.push(write(kind, 4_078, 4_097));
+        requests.extend([(65_515, 65_534), (65_516, 65_535), (65_517, 0)].map(|(size, room)| write(kind, size, room)));
+    }
+    requests
 }
 
-/// Attribute bytes up to the limits of their section and of the body.
+/// Attribute bytes and withdrawn rows up to the limits of the body and of their sections, which the body's precedes.
 fn written_updates() -> Vec<Request> {
-    let mut requests = vec![];
-    for size in [65_511, 65_512, 65_513, 65_535, 65_536] {
-        let section = raw_attribute(size);
-        requests.push(request(17, 0, (65_516, 0), [vec![], section.clone(), vec![]], 0));
-        let bad_row = words(&[33, 0, 0, 0, 0, 0]);
-        requests.push(request(17, 0, (0, 0), [vec![], section, bad_row], 0));
-    }
-    let withdrawn = [32, 0, 5, 0, 0, 0].repeat(13_108);
-    requests.push(request(17, 0, (70_000, 0), [words(&withdrawn), vec![], vec![]], 0));
-    requests
+    let attributes =
+        |size, room, announced: &[u32]| request(17, 0, (room, 0), [vec![], raw_attribute(size), words(announced)], 0);
+    // 7,281 rows of 9 bytes are 65,529
+    let withdrawn = |last: [u32; 6]| {
+        let mut rows = [256 + 32, 7, 1, 0, 0, 0].repeat(7_281);
+        rows.extend(last);
+        request(17, ADD_PATH, (0, 0), [words(&rows), vec![], vec![]], 0)
+    };
+    vec![
+        attributes(65_511, 65_515, &[]),
+        attributes(65_512, 65_516, &[]),
+        attributes(65_513, 0, &[]),
+        attributes(65_535, 0, &[]),
+        attributes(65_536, 0, &[]),
+        attributes(65_536, 0, &[33, 0, 0, 0, 0, 0]),
+        withdrawn([256 + 8, 7, 0x0A00_0000, 0, 0, 0]),
+        withdrawn([256 + 16, 7, 0x0A00_0000, 0, 0, 0]),
+    ]
 }
 
 /// One or two attributes of a type that the crate keeps raw, so that the section has exactly this size.

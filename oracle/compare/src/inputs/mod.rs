@@ -1,7 +1,8 @@
-//! The inputs: examples of document 01, captured messages, all short inputs, random ones around every boundary,
-//! damaged copies of good ones, and a few of the largest sizes.
+//! The inputs: examples of document 01, every least length, limit and order of two checks, captured messages, all short
+//! inputs, random ones around every boundary, damaged copies of good ones, and a few of the largest sizes.
 
 pub mod captures;
+pub mod checks;
 pub mod examples;
 pub mod exhaustive;
 pub mod limits;
@@ -11,6 +12,11 @@ pub mod random;
 use crate::rng::Rng;
 use captures::Capture;
 use records::Request;
+
+/// Document 01's examples, and its numbers and orders of checks: these stand in the sample too.
+pub fn numbers() -> Vec<Request> {
+    [examples::all(), checks::all(), limits::all()].concat()
+}
 
 /// An endless source of requests, the same for the same seed and captures.
 pub struct Inputs {
@@ -22,8 +28,7 @@ pub struct Inputs {
 
 impl Inputs {
     pub fn new(seed: u64, captures: Vec<Capture>) -> Inputs {
-        let mut first = examples::all();
-        first.extend(limits::all());
+        let mut first = numbers();
         first.extend(captures.iter().flat_map(Capture::requests));
         Inputs { rng: Rng::new(seed), first: first.into_iter(), short: exhaustive::Short::new(), captures }
     }

@@ -1,0 +1,189 @@
+// What a call answered, as the numbers of its line: a refusal number or 0, then the call's own, which are 0 where it refused.
+use crate::store;
+use asns::AggregatorAnswer;
+use messages::MessageAnswer;
+use paths::PathAnswer;
+use routes::ListAnswer;
+use routes::PrefixAnswer;
+use updates::PartsAnswer;
+use updates::UpdateAnswer;
+use wire::WriteAnswer;
+
+// The first `count` of the values.
+pub struct Numbers {
+    pub count: usize,
+    pub values: [usize; 9],
+}
+
+fn refused(n: u8, count: usize) -> Numbers {
+    Numbers {
+        count,
+        values: [n as usize, 0, 0, 0, 0, 0, 0, 0, 0],
+    }
+}
+
+// A flag as 1 or 0.
+fn bit(set: bool) -> usize {
+    if set { 1 } else { 0 }
+}
+
+pub fn of_route(a: PrefixAnswer) -> Numbers {
+    match a {
+        PrefixAnswer::Prefix { used, row } => Numbers {
+            count: 8,
+            values: [
+                0,
+                used,
+                row.first as usize,
+                row.id as usize,
+                row.w0 as usize,
+                row.w1 as usize,
+                row.w2 as usize,
+                row.w3 as usize,
+                0,
+            ],
+        },
+        PrefixAnswer::Refused(n) => refused(n, 8),
+    }
+}
+
+pub fn of_list(a: ListAnswer) -> Numbers {
+    match a {
+        ListAnswer::Rows(n) => Numbers {
+            count: 2,
+            values: [0, n, 0, 0, 0, 0, 0, 0, 0],
+        },
+        ListAnswer::Refused(n) => refused(n, 2),
+    }
+}
+
+pub fn of_path(a: PathAnswer) -> Numbers {
+    match a {
+        PathAnswer::Path { segments, numbers } => Numbers {
+            count: 3,
+            values: [0, segments, numbers, 0, 0, 0, 0, 0, 0],
+        },
+        PathAnswer::Refused(n) => refused(n, 3),
+    }
+}
+
+pub fn of_aggregator(a: AggregatorAnswer) -> Numbers {
+    match a {
+        AggregatorAnswer::Aggregator {
+            asn,
+            identifier,
+            differs,
+        } => Numbers {
+            count: 4,
+            values: [
+                0,
+                asn as usize,
+                identifier as usize,
+                bit(differs),
+                0,
+                0,
+                0,
+                0,
+                0,
+            ],
+        },
+        AggregatorAnswer::Refused(n) => refused(n, 4),
+    }
+}
+
+// A message, with the length and the sum of its body.
+pub fn of_message(a: MessageAnswer, body: &[u8]) -> Numbers {
+    let size = body.len();
+    let sum = store::sum_of_bytes(body);
+    match a {
+        MessageAnswer::Message {
+            kind,
+            claimed,
+            taken,
+            marker,
+            cut,
+            trailing,
+        } => Numbers {
+            count: 9,
+            values: [
+                0,
+                kind as usize,
+                claimed,
+                taken,
+                bit(marker),
+                bit(cut),
+                bit(trailing),
+                size,
+                sum,
+            ],
+        },
+        MessageAnswer::Refused(n) => Numbers {
+            count: 9,
+            values: [n as usize, 0, 0, 0, 0, 0, 0, size, sum],
+        },
+    }
+}
+
+// The rows and the verdict of each section.
+pub fn of_update(a: UpdateAnswer) -> Numbers {
+    match a {
+        UpdateAnswer::Update {
+            withdrawn,
+            announced,
+        } => Numbers {
+            count: 5,
+            values: [
+                0,
+                routes::rows_in(withdrawn),
+                routes::verdict_in(withdrawn) as usize,
+                routes::rows_in(announced),
+                routes::verdict_in(announced) as usize,
+                0,
+                0,
+                0,
+                0,
+            ],
+        },
+        UpdateAnswer::Refused(n) => refused(n, 5),
+    }
+}
+
+fn parts_refusal(a: PartsAnswer) -> usize {
+    match a {
+        PartsAnswer::Parts {
+            withdrawn: _,
+            attributes: _,
+            announced: _,
+        } => 0,
+        PartsAnswer::Refused(n) => n as usize,
+    }
+}
+
+// The length and the sum of each part of an UPDATE, which are empty where the body is refused.
+pub fn of_parts(a: PartsAnswer, withdrawn: &[u8], attributes: &[u8], announced: &[u8]) -> Numbers {
+    Numbers {
+        count: 7,
+        values: [
+            parts_refusal(a),
+            withdrawn.len(),
+            store::sum_of_bytes(withdrawn),
+            attributes.len(),
+            store::sum_of_bytes(attributes),
+            announced.len(),
+            store::sum_of_bytes(announced),
+            0,
+            0,
+        ],
+    }
+}
+
+// What a writer answered.
+pub fn of_written(a: WriteAnswer) -> Numbers {
+    match a {
+        WriteAnswer::Bytes(n) => Numbers {
+            count: 2,
+            values: [0, n, 0, 0, 0, 0, 0, 0, 0],
+        },
+        WriteAnswer::Refused(n) => refused(n, 2),
+    }
+}

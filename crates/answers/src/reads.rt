@@ -1,0 +1,109 @@
+// Ops 1 to 12: the readers.
+use crate::line;
+use crate::numbers;
+use crate::numbers::Numbers;
+use crate::request;
+use crate::request::Head;
+use crate::store;
+use families::Afi;
+
+// Ops 3, 5, 7 and 11.
+fn counted(op: u8, settings: u8, s: &[u8]) -> Numbers {
+    let mode = families::mode_of(settings);
+    match op {
+        3 => numbers::of_list(routes::count_nlri_list(s, request::afi(settings), mode)),
+        5 => numbers::of_list(routes::count_nlri(s, Afi::Ipv4, mode)),
+        7 => numbers::of_path(paths::count_as_path(s, request::width(settings))),
+        _ => numbers::of_update(updates::count_bgp_update_message(s, mode)),
+    }
+}
+
+// Op 9.
+fn message(settings: u8, s: &[u8]) -> Numbers {
+    if request::is_strict(settings) {
+        return numbers::of_message(
+            messages::parse_bgp_message_strict(s),
+            messages::message_body_strict(s),
+        );
+    }
+    numbers::of_message(messages::parse_bgp_message(s), messages::message_body(s))
+}
+
+// Op 12.
+fn parts(s: &[u8]) -> Numbers {
+    numbers::of_parts(
+        updates::update_parts(s),
+        updates::withdrawn_part(s),
+        updates::attribute_part(s),
+        updates::announced_part(s),
+    )
+}
+
+// The ops that lend no store.
+fn plain(op: u8, settings: u8, s: &[u8]) -> Numbers {
+    match op {
+        1 => numbers::of_route(routes::try_parse_prefix(
+            s,
+            request::afi(settings),
+            request::form(settings),
+        )),
+        8 => numbers::of_aggregator(asns::parse_aggregator(s, request::width(settings))),
+        9 => message(settings, s),
+        12 => parts(s),
+        _ => counted(op, settings, s),
+    }
+}
+
+// Ops 2 and 4, which lend one store, and ops 6 and 10, which lend two.
+fn stored(op: u8, settings: u8, s: &[u8], a: &mut [u32], b: &mut [u32]) -> Numbers {
+    let mode = families::mode_of(settings);
+    match op {
+        2 => numbers::of_list(route_reader::parse_nlri_list(s, request::afi(settings), mode, a)),
+        4 => numbers::of_list(route_reader::read_nlri(s, Afi::Ipv4, mode, a)),
+        6 => numbers::of_path(paths::parse_as_path(s, request::width(settings), a, b)),
+        _ => numbers::of_update(updates::parse_bgp_update_message(s, mode, a, b)),
+    }
+}
+
+// The stores that an op lends.
+fn stores_lent(op: u8) -> u8 {
+    match op {
+        2 | 4 => 1,
+        6 | 10 => 2,
+        _ => 0,
+    }
+}
+
+fn show_stores(lent: u8, a: &[u32], b: &[u32], out: &mut [u8], at: usize) -> usize {
+    let next = line::words(out, at, a);
+    if lent == 1 {
+        return next;
+    }
+    line::words(out, next, b)
+}
+
+// The places of each store that are lent.
+fn into_stores(
+    op: u8,
+    settings: u8,
+    s: &[u8],
+    a: &mut [u32],
+    b: &mut [u32],
+    out: &mut [u8],
+    at: usize,
+) -> usize {
+    store::fill_words(a);
+    store::fill_words(b);
+    let next = line::numbers(out, at, stored(op, settings, s, a, b));
+    show_stores(stores_lent(op), a, b, out, next)
+}
+
+// The refusal and the numbers of a reader, and what it left in the stores.
+pub fn answer(h: Head, s: &[u8], a: &mut [u32], b: &mut [u32], out: &mut [u8], at: usize) -> usize {
+    if stores_lent(h.op) == 0 {
+        return line::numbers(out, at, plain(h.op, h.settings, s));
+    }
+    let m = wire::least(h.room_a, a.len());
+    let n = wire::least(h.room_b, b.len());
+    into_stores(h.op, h.settings, s, &mut a[..m], &mut b[..n], out, at)
+}

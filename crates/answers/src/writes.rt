@@ -1,0 +1,81 @@
+// Ops 13 to 17: the writers.
+use crate::line;
+use crate::numbers;
+use crate::request;
+use crate::request::Head;
+use crate::store;
+use wire::WriteAnswer;
+
+// Op 15.
+fn aggregator(h: Head, one: &[u8], w: &mut [u8]) -> WriteAnswer {
+    asns::encode_aggregator(
+        wire::u32_at(one, 0),
+        wire::u32_at(one, 4),
+        request::width(h.settings),
+        w,
+    )
+}
+
+// A writer's answer: rows and more are the numbers of the parts that hold numbers.
+fn written(
+    h: Head,
+    one: &[u8],
+    two: &[u8],
+    rows: &[u32],
+    more: &[u32],
+    w: &mut [u8],
+) -> WriteAnswer {
+    let op = h.op;
+    let form = request::form(h.settings);
+    match op {
+        13 => route_writer::encode_nlri_prefixes(rows, request::afi(h.settings), form, w),
+        14 => path_writer::encode_as_path(rows, more, request::width(h.settings), w),
+        15 => aggregator(h, one, w),
+        16 => messages::encode_bgp_message(h.argument, one, w),
+        _ => update_writer::encode_bgp_update_message(rows, two, more, form, w),
+    }
+}
+
+// The refusal and the bytes written, and what the writer left in the output.
+fn into_output(
+    h: Head,
+    s: &[u8],
+    rows: &mut [u32],
+    more: &mut [u32],
+    w: &mut [u8],
+    out: &mut [u8],
+    at: usize,
+) -> usize {
+    let one = request::part_one(s, h);
+    store::decode(one, rows);
+    store::decode(request::last_part(s, h), more);
+    store::fill_bytes(w);
+    let answer = written(h, one, request::part_two(s, h), rows, more, w);
+    let next = line::numbers(out, at, numbers::of_written(answer));
+    line::bytes(out, next, w)
+}
+
+// The places lent: a word for each number of the parts that hold numbers, and the output's room.
+pub fn answer(
+    h: Head,
+    s: &[u8],
+    rows: &mut [u32],
+    more: &mut [u32],
+    w: &mut [u8],
+    out: &mut [u8],
+    at: usize,
+) -> usize {
+    let m = wire::least(h.one / 4, rows.len());
+    let last = request::last_part(s, h);
+    let n = wire::least(last.len() / 4, more.len());
+    let room = wire::least(h.room_a, w.len());
+    into_output(
+        h,
+        s,
+        &mut rows[..m],
+        &mut more[..n],
+        &mut w[..room],
+        out,
+        at,
+    )
+}
