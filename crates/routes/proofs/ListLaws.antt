@@ -8,7 +8,7 @@ use lib.Dec.{eqb}
 use native.Mathlib.Omega.{arith}
 use borrow.Author.Tests.{le-leb, lt-leb}
 use lib.ListN.{length, getD, take, drop}
-use Rattle.wire.specs.Answer.{filled, answerBy, unpacked}
+use Rattle.wire.specs.Answer.{given, filled, answerBy, unpacked}
 use Rattle.wire.proofs.AnswerLaws.{answer-refused, unpacked-count, unpacked-refused}
 use Rattle.wire.specs.Choice.{pick}
 use Rattle.wire.proofs.ChoiceLaws.{pick-leb}
@@ -20,7 +20,7 @@ use Rattle.wire.proofs.WalkLaws.{Sound, tally-one, flat-length, all-blind}
 use Rattle.routes.specs.Prefix.{itemRow, words, prefixOf}
 use Rattle.routes.proofs.PrefixLaws.{Took, prefix-took, prefix-names}
 use Rattle.routes.specs.List.{asStep, inForm, plainHere, tried, guessForm, formBy, fixed, stepOf, listOf, strange, sectionOf}
-use Rattle.routes.specs.Promises.{sized, listMeaning, countAnswer, hasRoom, readAnswer, storeAfter}
+use Rattle.routes.specs.Promises.{sized, listMeaning, rowsIn, countAnswer, hasRoom, readAnswer, storeAfter}
 use Rattle.routes.specs.Private.{sizeOf, kept}
 use Rattle.families.specs.declared.Form.{Form}
 use Rattle.families.specs.declared.Form.the-variants.{Plain, Tagged}
@@ -209,6 +209,15 @@ module _ (s : List ℕ) (r : Reading Row) where
   pub store-by : (d : List ℕ) (a : ListAnswer) → readAnswer s r (length d) ≡ a → storeAfter s r d ≡ filled (listMeaning a) (flat words (r .rows)) d
   unfolding storeAfter
   store-by d a e = ap (λ (x : ListAnswer). filled (listMeaning x) (flat words (r .rows)) d) e
+
+  -- an answer counts the places of its rows
+  pub counted-places : (a : ListAnswer) (fields : List ℕ) → countAnswer s r ≡ a → listMeaning a ≡ given fields → length (flat words (r .rows)) ≡ 6 * rowsIn a
+  counted-places (L.Rows n) fields c e = words-length (r .rows) ∙ ap (λ (k : ℕ). 6 * k) (count-rows n c .1)
+  counted-places (L.Refused n) fields c e = let z : _≡_ {A = ℕ} 0 1 = cc in absurd (zero-ne-one z)
+
+  pub read-places : (places : ℕ) (a : ListAnswer) (fields : List ℕ) → readAnswer s r places ≡ a → listMeaning a ≡ given fields → length (flat words (r .rows)) ≡ 6 * rowsIn a
+  read-places places (L.Rows n) fields c e = counted-places (L.Rows n) fields (read-rows n places c .0) e
+  read-places places (L.Refused n) fields c e = let z : _≡_ {A = ℕ} 0 1 = cc in absurd (zero-ne-one z)
 
   -- the answer and the store that a reading leaves, by what the count says
   module _ (d : List ℕ) where

@@ -12,7 +12,6 @@ use Rattle.wire.specs.Refusal.{tooLong, noRoom, pastAll}
 use Rattle.wire.specs.declared.WriteAnswer.{WriteAnswer}
 use Rattle.wire.specs.declared.WriteAnswer.the-variants.{Bytes, Refused}
 use Rattle.wire.proofs.ChoiceLaws.{pick-leb}
-use Rattle.wire.proofs.StoreLaws.{drop-laid-past, length-laid}
 
 -- ---- by a verdict
 
@@ -30,12 +29,6 @@ module _ {X : Type 0} (counted refused : ℕ → X) where
   pub unpacked-refused : (v : ℕ) → v < pastAll → unpacked counted refused v ≡ refused v
   unfolding unpacked
   unpacked-refused v h = rw (lt-leb pastAll v h)
-
--- ---- what lies past the counted places is as it was
-
-pub filled-past : (a : Answer) (values store : List ℕ) (n : ℕ) → length values ≤ n → length values ≤ length store → drop n (filled a values store) ≡ drop n store
-filled-past (given fields) values store n le room = drop-laid-past store 0 values n (omega arith) (omega arith)
-filled-past (refusal m) values store n le room = refl
 
 -- ---- the answer of a writer
 

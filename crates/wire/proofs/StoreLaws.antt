@@ -99,6 +99,10 @@ drop-laid-past d at vs n le h =
     ∙ drop-drop (n - m) m d
     ∙ ap (λ (k : ℕ). drop k d) e
 
+-- past values at the front a list is as it was, with room for them or without
+pub drop-laid-front : (d vs : List ℕ) → drop (length vs) (laid d 0 vs) ≡ drop (length vs) d
+drop-laid-front d vs = drop-at vs (drop (0 + length vs) d) (length vs) refl ∙ ap (λ (k : ℕ). drop k d) (zero-add (length vs))
+
 -- values that do not touch may be laid in either order
 pub laid-swap : (d : List ℕ) (at : ℕ) (vs : List ℕ) (to : ℕ) (ws : List ℕ) → at + length vs ≤ to → to + length ws ≤ length d
     → laid (laid d to ws) at vs ≡ laid (laid d at vs) to ws
