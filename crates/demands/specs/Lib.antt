@@ -5,3 +5,4 @@ pub mod Paths
 pub mod Cut
 pub mod Updates
 pub mod Written
+pub mod Refusals

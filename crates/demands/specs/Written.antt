@@ -13,7 +13,7 @@ use Rattle.wire.specs.Refusal.{listLimit, bodyLimit}
 use Rattle.wire.specs.Store.{laid}
 use Rattle.wire.specs.declared.WriteAnswer.the-variants.{Bytes}
 use Rattle.wire.proofs.AnswerLaws.{limited-fits}
-use Rattle.wire.proofs.FrontLaws.{written-front}
+use Rattle.wire.proofs.AnswerLaws.{written-front}
 use Rattle.messages.specs.Header.{openKind, routeRefreshKind, headerSize, messageLimit, leastLength, mostLength, messageOf, strictOf, bodyAt}
 use Rattle.messages.specs.Written.{messageBytes, writeMessage}
 use Rattle.messages.specs.declared.MessageAnswer.{MessageAnswer}

@@ -15,7 +15,7 @@ use Rattle.wire.proofs.NumberLaws.{toBe-four}
 use Rattle.wire.specs.Refusal.{messageType, messageLength, noRoom}
 use Rattle.wire.specs.Store.{laid, placed}
 use Rattle.wire.proofs.StoreLaws.{placed-next, placed-fits}
-use Rattle.wire.proofs.FrontLaws.{written-front}
+use Rattle.wire.proofs.AnswerLaws.{written-front}
 use Rattle.messages.specs.Header.{openKind, keepaliveKind, routeRefreshKind, headerSize, messageLimit, extendedLimit, crateLimit, leastLength, mostLength, isOutside, isUnknown, allFF, markerOf, claimedOf, kindOf}
 use Rattle.messages.proofs.HeaderLaws.{inside, inside-low, inside-high}
 use Rattle.messages.specs.Written.{header, totalOf, messageBytes, writeMessage, messageAfter}
@@ -149,12 +149,15 @@ unfolding isUnknown
 fit-written kind body places lo hi least most room =
     write-fits kind body places (inside openKind routeRefreshKind kind lo hi) (inside (leastLength kind) (mostLength kind) (totalOf body) least most) room
 
--- the front of the output is then the message
+-- the bytes that it says are the message
+pub message-length : (kind : ℕ) (body : List ℕ) (places n : ℕ) → writeMessage kind body places ≡ Bytes n → length (messageBytes kind body) ≡ n
+unfolding messageBytes
+message-length kind body places n e = omega (arith, length-append (header (totalOf body) kind) body, length-header (totalOf body) kind, written-fit kind body places n e .size)
+
+-- and the front of the output
 pub message-front : (kind : ℕ) (body out : List ℕ) (n : ℕ) → writeMessage kind body (length out) ≡ Bytes n → take n (messageAfter kind body out) ≡ messageBytes kind body
-unfolding messageAfter messageBytes
-message-front kind body out n e =
-    let size : length (messageBytes kind body) ≡ n = omega (arith, length-append (header (totalOf body) kind) body, length-header (totalOf body) kind, written-fit kind body (length out) n e .size) in
-    written-front (writeMessage kind body (length out)) n (messageBytes kind body) out e size
+unfolding messageAfter
+message-front kind body out n e = written-front (writeMessage kind body (length out)) n (messageBytes kind body) out e (message-length kind body (length out) n e)
 
 module _ (kind : ℕ) (body rest : List ℕ) where
   pub written-long : length (messageBytes kind body ++ rest) ≡ totalOf body + length rest

@@ -8,6 +8,7 @@ use native.Mathlib.Omega.{arith}
 use borrow.Author.Tests.{leb-true}
 use lib.ListN.{length}
 use Rattle.wire.specs.Refusal.{noRoom}
+use Rattle.wire.proofs.ChoiceLaws.{pick-any}
 use Rattle.wire.specs.Walk.{Reading}
 use Rattle.routes.specs.List.{listOf, sectionOf}
 use Rattle.routes.proofs.ListLaws.{words-length, count-rows, section-counted}
@@ -18,6 +19,7 @@ use Rattle.families.specs.declared.AddPath.{AddPath}
 use Rattle.routes.specs.declared.Row.{Row}
 use Rattle.routes.specs.declared.ListAnswer.{ListAnswer}
 use Rattle.routes.specs.declared.ListAnswer.the-variants as L
+use Rattle.route_reader.specs.declared.PairAnswer.{PairAnswer}
 use Rattle.route_reader.specs.declared.PairAnswer.the-variants.{Sections, Refused}
 
 module _ (a b : ListAnswer) (places places′ : ℕ) where
@@ -32,6 +34,14 @@ module _ (a b : ListAnswer) (places places′ : ℕ) where
   pub pair-both : hasRoom a places ≡ true → hasRoom b places′ ≡ true → readPairBy a b places places′ ≡ Sections a b
   unfolding readPairBy
   pair-both h k = rw (h, k)
+
+  -- what is answered is what was counted
+  pub pair-counted : (x y : ListAnswer) → readPairBy a b places places′ ≡ Sections x y → (a ≡ x) × (b ≡ y)
+  unfolding readPairBy
+  pair-counted x y =
+      let P : PairAnswer → Type 0 = λ p. p ≡ Sections x y → (a ≡ x) × (b ≡ y) in
+      let full : P (Refused noRoom) = λ e. let z : _≡_ {A = ℕ} 0 1 = cc in absurd (omega arith) in
+      pick-any P (hasRoom a places) _ (Refused noRoom) (pick-any P (hasRoom b places′) (Sections a b) (Refused noRoom) (λ e. (cc, cc)) full) full
 
 -- a section that was counted and has room is a good list that has room
 pub counted-fits : (s : List ℕ) (max : ℕ) (mode : AddPath) (store : List ℕ) (n : ℕ) → countAnswer s (sectionOf s max mode) ≡ L.Rows n → hasRoom (L.Rows n) (length store) ≡ true

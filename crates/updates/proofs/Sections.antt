@@ -150,6 +150,17 @@ update-verdicts b mode first second = by-parts (partsOf b) refl
 
 -- ---- reading and counting
 
+-- the sections of an UPDATE that is counted are counted each by itself
+pub counted-sections : (b : List ℕ) (mode : AddPath) (first second : ListAnswer) → countUpdate b mode ≡ Update first second
+    → (counted (withdrawnOf b) mode ≡ first) × (counted (announcedOf b) mode ≡ second)
+unfolding countUpdate
+counted-sections b mode first second = by-parts (partsOf b)
+  where
+    by-parts : (p : PartsAnswer) → ifParts p (Update (counted (withdrawnOf b) mode) (counted (announcedOf b) mode)) ≡ Update first second
+        → (counted (withdrawnOf b) mode ≡ first) × (counted (announcedOf b) mode ≡ second)
+    by-parts (Parts w a n) e = (cc, cc)
+    by-parts (Refused m) e = never (let z : _≡_ {A = ℕ} 0 1 = cc in z)
+
 -- an UPDATE that is read into stores is answered as it is counted
 pub read-is-count : (b : List ℕ) (mode : AddPath) (places places′ : ℕ) (first second : ListAnswer) → readUpdate b mode places places′ ≡ Update first second
     → countUpdate b mode ≡ Update first second

@@ -6,7 +6,8 @@ use mathlib.Core.List.{List}
 use native.Mathlib.Nat.{not-suc-le-zero}
 use native.Mathlib.Omega.{arith}
 use borrow.Author.Tests.{le-leb, lt-leb}
-use lib.ListN.{length, drop}
+use lib.ListN.{length, take}
+use lib.Seq.{take-at}
 use Rattle.wire.specs.Answer.{Answer, given, refusal, numberIn, filled, answerBy, unpacked, writeMeaning, limited}
 use Rattle.wire.specs.Refusal.{tooLong, noRoom, pastAll}
 use Rattle.wire.specs.declared.WriteAnswer.{WriteAnswer}
@@ -54,3 +55,8 @@ module _ (limit size places : ℕ) where
       (λ k e. (h, k, cc))
       (λ _ e. let z : _≡_ {A = ℕ} 0 1 = cc in absurd (omega arith)))
       (λ _ e. let z : _≡_ {A = ℕ} 0 1 = cc in absurd (omega arith))
+
+-- what was written stands at the front of the output
+pub written-front : (a : WriteAnswer) (n : ℕ) (bytes out : List ℕ) → a ≡ Bytes n → length bytes ≡ n → take n (filled (writeMeaning a) bytes out) ≡ bytes
+written-front (Bytes m) n bytes out e size = take-at bytes _ n size
+written-front (Refused m) n bytes out e size = let z : _≡_ {A = ℕ} 0 1 = cc in absurd (omega arith)

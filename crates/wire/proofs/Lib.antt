@@ -5,7 +5,6 @@ pub mod Parts
 pub mod StoreLaws
 pub mod ExtentLaws
 pub mod AnswerLaws
-pub mod FrontLaws
 pub mod Turn
 pub mod CuttingLaws
 pub mod Tight

@@ -1,13 +1,10 @@
 -- Two results that the promise of a call allows are equal, and so is what it leaves: of the ensures clauses themselves.
 use mathlib.Core.Path.{_≡_, sym, _∙_}
-use lib.ListN.{length}
-use Rattle.wire.specs.Extent.{extent, clipped}
 use Rattle.wire.proofs.ExtentLaws.{one-part}
 use Rattle.wire.proofs.wide.Reads as wide
 use Rattle.wire.proofs.least.Reads as least
 use Rattle.wire.proofs.most.Reads as most
 use Rattle.wire.proofs.octet.Reads as octet
-use Rattle.wire.proofs.join4.Reads as join4
 use Rattle.wire.proofs.u16_at.Reads as u16_at
 use Rattle.wire.proofs.u32_at.Reads as u32_at
 use Rattle.wire.proofs.part.Reads as part
@@ -23,9 +20,6 @@ tight-most κs a z z′ e e′ p q = p ∙ sym q
 
 pub tight-octet : (κs : _) (a : _) (z z′ : _) (e e′ : _) → octet.Learnt κs a z e → octet.Learnt κs a z′ e′ → z ≡ z′
 tight-octet κs a z z′ e e′ p q = p ∙ sym q
-
-pub tight-join4 : (κs : _) (a : _) (z z′ : _) (e e′ : _) → join4.Learnt κs a z e → join4.Learnt κs a z′ e′ → z ≡ z′
-tight-join4 κs a z z′ e e′ p q = p ∙ sym q
 
 pub tight-u16-at : (κs : _) (a : _) (z z′ : _) (e e′ : _) → u16_at.Learnt κs a z e → u16_at.Learnt κs a z′ e′ → z ≡ z′
 tight-u16-at κs a z z′ e e′ p q = p ∙ sym q

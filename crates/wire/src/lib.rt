@@ -54,7 +54,7 @@ fn join2(a: u8, b: u8) -> u32
 }
 
 // Four bytes as one number.
-pub fn join4(a: u8, b: u8, c: u8, d: u8) -> u32
+fn join4(a: u8, b: u8, c: u8, d: u8) -> u32
     ensures { λ r. ⌜ r ≡ be (a ∷ b ∷ c ∷ d ∷ []) ⌝ }
 {
     ((wide(a) * 256 + wide(b)) * 256 + wide(c)) * 256 + wide(d)
