@@ -17,7 +17,6 @@ use Rattle.wire.proofs.ChoiceLaws.{below-at}
 use Rattle.wire.specs.Number.{be, beAt, padded, Bytes}
 use Rattle.wire.proofs.NumberLaws.{pow-pos256, be-append, be-cut, be-lt, be-zeros, bytes-drop, bytes-padded, length-padded, padded-all, padded-take, padded-of-take, padded-of-more}
 use Rattle.wire.proofs.Parts.{drop-take}
-use Rattle.wire.proofs.Turn.{rest}
 use Rattle.families.specs.Family.{idSize}
 use Rattle.families.specs.declared.Form.{Form}
 use Rattle.routes.specs.Prefix.{wordAt, rowOf, itemRow, words}
@@ -86,17 +85,20 @@ masked t n i x y h few place e f =
     ∙ ap (λ (q : ℕ). q / 2 ^ k * 2 ^ k) e
     ∙ cut-at 4 i n t h
 
--- as a reader has the two: s from `seam` on, and a table of masks from the place of the mask on
-pub mask-there : (table : List ℕ) (n k : ℕ) → table ≡ masks → k ≤ 16 → k ≤ length (take (length table - (16 - n)) (drop (16 - n) table))
-mask-there table n k e le = rw rest (omega (arith, ap length e, length-drop (16 - n) table))
+-- a word of a part that holds it
+word-within : (t : List ℕ) (k i : ℕ) → i + 4 ≤ k → beAt (take k t) i 4 ≡ beAt t i 4
+unfolding beAt
+word-within t k i le = ap (λ (o : List ℕ). be (padded 4 o)) (drop-take i k t) ∙ ap be (padded-of-more 4 (k - i) (drop i t) (omega arith))
 
+-- as a reader has the two: sixteen octets of s from `seam` on, and sixteen of a table of masks from the place of the mask on
 pub masked-at : (s table : List ℕ) (seam n : ℕ) → Bytes s → table ≡ masks → n ≤ 16 → (i x y : ℕ) → i ≤ 12
-    → x ≡ beAt (take (length s - seam) (drop seam s)) i 4 → y ≡ beAt (take (length table - (16 - n)) (drop (16 - n) table)) i 4 → bitAnd x y ≡ beAt (take n (drop seam s)) i 4
+    → x ≡ beAt (take (seam + 16 - seam) (drop seam s)) i 4 → y ≡ beAt (take (16 - n + 16 - (16 - n)) (drop (16 - n) table)) i 4 → bitAnd x y ≡ beAt (take n (drop seam s)) i 4
 unfolding beAt
 masked-at s table seam n h e few i x y le f g =
     masked (drop seam s) n i x y (bytes-drop seam s h) few le
-    (f ∙ ap (λ (t : List ℕ). be (padded 4 (drop i t))) (rest s seam))
-    (g ∙ ap (λ (t : List ℕ). be (padded 4 (drop i t))) (rest table (16 - n)) ∙ ap (λ (t : List ℕ). be (padded 4 t)) (drop-drop i (16 - n) table) ∙ ap (λ (t : List ℕ). be (padded 4 (drop (16 - n + i) t))) e)
+    (f ∙ word-within (drop seam s) (seam + 16 - seam) i (omega arith))
+    (g ∙ word-within (drop (16 - n) table) (16 - n + 16 - (16 - n)) i (omega arith)
+    ∙ ap (λ (t : List ℕ). be (padded 4 t)) (drop-drop i (16 - n) table) ∙ ap (λ (t : List ℕ). be (padded 4 (drop (16 - n + i) t))) e)
 
 -- ---- the last octets of a list
 

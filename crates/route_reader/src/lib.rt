@@ -65,20 +65,14 @@ const MASKS: [u8; 32] = [
     0,
 ];
 
-// The number of the four bytes at a place that has them.
-fn word_at(s: &[u8], at: usize) -> u32
-    requires { ⌜ at + 4 ≤ length (now s) ⌝ }
-    ensures { λ r. ⌜ r ≡ beAt (now (s .entry)) at 4 ⌝ }
-{
-    wire::join4(s[at], s[at + 1], s[at + 2], s[at + 3])
-}
-
-// The word of the last n octets of s: the last four, shifted up over those before.
+// The word of the last n octets of s: the last four, shifted up over those before. Here and below a word is read where it is known to be all there, so
+// that no test of u32_at is left in the code.
 fn last_word(s: &[u8], n: usize) -> u32
     requires { ⌜ (4 ≤ length (now s)) × (n ≤ 4) ⌝ }
     ensures { λ r. ⌜ r ≡ beAt (now (s .entry)) (length (now (s .entry)) - n) 4 ⌝ }
 {
-    let w = word_at(s, s.len() - 4) as u64;
+    let at = s.len() - 4;
+    let w = wire::u32_at(&s[at..], 0) as u64;
     ((w << (8 * (4 - n)) as u32) % 4294967296) as u32
 }
 
@@ -89,7 +83,7 @@ fn id_of(s: &[u8], form: Form) -> u32
 {
     match form {
         Form::Plain => 0,
-        Form::Tagged => word_at(s, 0),
+        Form::Tagged => wire::u32_at(&s[..4], 0),
     }
 }
 
@@ -128,24 +122,31 @@ fn put_exact(store: &mut [u32], to: usize, octets: &[u8])
     }
     let last = last_word(t, n % 4);
     if n < 8 {
-        put_words(store, to, word_at(t, 0), last, 0, 0);
+        put_words(store, to, wire::u32_at(t, 0), last, 0, 0);
         return;
     }
     if n < 12 {
-        put_words(store, to, word_at(t, 0), word_at(t, 4), last, 0);
+        put_words(store, to, wire::u32_at(t, 0), wire::u32_at(t, 4), last, 0);
         return;
     }
     if n < 16 {
-        put_words(store, to, word_at(t, 0), word_at(t, 4), word_at(t, 8), last);
+        put_words(
+            store,
+            to,
+            wire::u32_at(t, 0),
+            wire::u32_at(t, 4),
+            wire::u32_at(t, 8),
+            last,
+        );
         return;
     }
     put_words(
         store,
         to,
-        word_at(t, 0),
-        word_at(t, 4),
-        word_at(t, 8),
-        word_at(t, 12),
+        wire::u32_at(t, 0),
+        wire::u32_at(t, 4),
+        wire::u32_at(t, 8),
+        wire::u32_at(t, 12),
     );
 }
 
@@ -174,15 +175,17 @@ fn put_long(store: &mut [u32], to: usize, s: &[u8], seam: usize, end: usize, tab
         return;
     }
     let m = LONG - (end - seam);
-    let t = &s[seam..];
-    let u = &table[m..];
+    let until = seam + LONG;
+    let t = &s[seam..until];
+    let stop = m + LONG;
+    let u = &table[m..stop];
     put_words(
         store,
         to,
-        word_at(t, 0) & word_at(u, 0),
-        word_at(t, 4) & word_at(u, 4),
-        word_at(t, 8) & word_at(u, 8),
-        word_at(t, 12) & word_at(u, 12),
+        wire::u32_at(t, 0) & wire::u32_at(u, 0),
+        wire::u32_at(t, 4) & wire::u32_at(u, 4),
+        wire::u32_at(t, 8) & wire::u32_at(u, 8),
+        wire::u32_at(t, 12) & wire::u32_at(u, 12),
     );
 }
 

@@ -1,14 +1,28 @@
-use Rattle.route_reader.proofs.WordsLaws.{last-octets}
+use Prim.Native.Nat.{_-_}
+use mathlib.Core.Path.{_∙_}
+use native.Mathlib.Omega.{arith}
+use lib.ListN.{length}
 use Rattle.wire.specs.Number.{Bytes}
+use Rattle.wire.proofs.NumberLaws.{be-between}
+use Rattle.route_reader.proofs.WordsLaws.{last-octets}
 use borrow.Author.Needs.{needs}
 use Rattle.route_reader.proofs.last_word.Statement.{statement}
 use Rattle.route_reader.proofs.last_word.Tie as tie
 
-sub-word-at : tie.Need-sub-word-at
-sub-word-at c = search needs
+sub-at : tie.Need-sub-at
+sub-at c = search needs
 
-word-at-requires : tie.Need-word-at-requires
-word-at-requires c κs = search needs
+sub-u32-at : tie.Need-sub-u32-at
+sub-u32-at c = search needs
+
+part-u32-at-start : tie.Need-part-u32-at-start
+part-u32-at-start c = search needs
+
+part-u32-at-end : tie.Need-part-u32-at-end
+part-u32-at-end c = search needs
+
+u32-at-requires : tie.Need-u32-at-requires
+u32-at-requires c κs = search needs
 
 cast-w : tie.Need-cast-w
 cast-w c = search needs
@@ -33,16 +47,20 @@ cast-result-3 c = search needs
 
 returns : tie.Need-returns
 returns c =
-    let a = c .before .before .args in
-    let bytes : Bytes (a .s .now) = λ i. c .before .shared-slice-known .given i .fits in
-    last-octets (a .s .now) (a .n) _ bytes (c .before .before .pre .0) (c .before .before .pre .1) (c .word-at .ensures)
+    let g = c .before .before .before in
+    let s = g .args .s .now in
+    let bytes : Bytes s = λ i. c .before .before .shared-slice-known .given i .fits in
+    last-octets s (g .args .n) _ bytes (g .pre .0) (g .pre .1) (c .u32-at .ensures ∙ be-between s (length s - 4) (length s) 4 (omega (arith, g .pre .0)))
 
 pub last-word-spec : {M : Type 1} → statement M
 last-word-spec =
     tie.close
     (tie.spec
-    sub-word-at
-    word-at-requires
+    sub-at
+    sub-u32-at
+    part-u32-at-start
+    part-u32-at-end
+    u32-at-requires
     cast-w
     sub-result
     mul-result

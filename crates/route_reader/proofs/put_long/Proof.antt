@@ -4,7 +4,7 @@ use native.Mathlib.Omega.{arith}
 use lib.ListN.{length}
 use Rattle.wire.specs.Number.{Bytes}
 use Rattle.wire.specs.Store.{laid}
-use Rattle.route_reader.proofs.WordsLaws.{mask-there, masked-at, address-parts}
+use Rattle.route_reader.proofs.WordsLaws.{masked-at, address-parts}
 use borrow.Author.Needs.{needs}
 use Rattle.route_reader.proofs.put_long.Statement.{statement}
 use Rattle.route_reader.proofs.put_long.Tie as tie
@@ -36,6 +36,9 @@ sub-m c = search needs
 sub-m-2 : tie.Need-sub-m-2
 sub-m-2 c = search needs
 
+add-until : tie.Need-add-until
+add-until c = search needs
+
 sub-t : tie.Need-sub-t
 sub-t c = search needs
 
@@ -45,6 +48,9 @@ part-t-start c = search needs
 part-t-end : tie.Need-part-t-end
 part-t-end c = search needs
 
+add-stop : tie.Need-add-stop
+add-stop c = search needs
+
 sub-u : tie.Need-sub-u
 sub-u c = omega (arith, ap length (c .before .before .before .before .before .pre .1 .1))
 
@@ -52,31 +58,31 @@ part-u-start : tie.Need-part-u-start
 part-u-start c = omega (arith, ap length (c .before .before .before .before .before .pre .1 .1))
 
 part-u-end : tie.Need-part-u-end
-part-u-end c = search needs
+part-u-end c = omega (arith, ap length (c .before .before .before .before .before .pre .1 .1))
 
-word-at-requires : tie.Need-word-at-requires
-word-at-requires c κs = search needs
+u32-at-requires : tie.Need-u32-at-requires
+u32-at-requires c κs = search needs
 
-word-at-requires-2 : tie.Need-word-at-requires-2
-word-at-requires-2 c κs = let a = c .before .before .before .before .before .before .before .before .args in mask-there (a .table .now) (a .end - a .seam) 4 (c .before .before .before .before .before .before .before .before .pre .1 .1) (omega arith)
+u32-at-requires-2 : tie.Need-u32-at-requires-2
+u32-at-requires-2 c κs = search needs
 
-word-at-requires-3 : tie.Need-word-at-requires-3
-word-at-requires-3 c κs = search needs
+u32-at-requires-3 : tie.Need-u32-at-requires-3
+u32-at-requires-3 c κs = search needs
 
-word-at-requires-4 : tie.Need-word-at-requires-4
-word-at-requires-4 c κs = let a = c .before .before .before .before .before .before .before .before .before .before .args in mask-there (a .table .now) (a .end - a .seam) 8 (c .before .before .before .before .before .before .before .before .before .before .pre .1 .1) (omega arith)
+u32-at-requires-4 : tie.Need-u32-at-requires-4
+u32-at-requires-4 c κs = search needs
 
-word-at-requires-5 : tie.Need-word-at-requires-5
-word-at-requires-5 c κs = search needs
+u32-at-requires-5 : tie.Need-u32-at-requires-5
+u32-at-requires-5 c κs = search needs
 
-word-at-requires-6 : tie.Need-word-at-requires-6
-word-at-requires-6 c κs = let a = c .before .before .before .before .before .before .before .before .before .before .before .before .args in mask-there (a .table .now) (a .end - a .seam) 12 (c .before .before .before .before .before .before .before .before .before .before .before .before .pre .1 .1) (omega arith)
+u32-at-requires-6 : tie.Need-u32-at-requires-6
+u32-at-requires-6 c κs = search needs
 
-word-at-requires-7 : tie.Need-word-at-requires-7
-word-at-requires-7 c κs = search needs
+u32-at-requires-7 : tie.Need-u32-at-requires-7
+u32-at-requires-7 c κs = search needs
 
-word-at-requires-8 : tie.Need-word-at-requires-8
-word-at-requires-8 c κs = let a = c .before .before .before .before .before .before .before .before .before .before .before .before .before .before .args in mask-there (a .table .now) (a .end - a .seam) 16 (c .before .before .before .before .before .before .before .before .before .before .before .before .before .before .pre .1 .1) (omega arith)
+u32-at-requires-8 : tie.Need-u32-at-requires-8
+u32-at-requires-8 c κs = search needs
 
 put-words-requires : tie.Need-put-words-requires
 put-words-requires c κs = search needs
@@ -93,10 +99,10 @@ returns-2 c =
     let word = masked-at (a .s .now) (a .table .now) (a .seam) (a .end - a .seam) bytes (g .pre .1 .1) (omega (arith, o .few)) in
     c .before .before .put-words .ensures
     ∙ ap (laid (a .store .now) (a .to)) (address-parts _ _ _ _ _
-    (word 0 _ _ (omega arith) (c .before .before .before .before .before .before .before .before .before .before .word-at .ensures) (c .before .before .before .before .before .before .before .before .before .word-at2 .ensures))
-    (word 4 _ _ (omega arith) (c .before .before .before .before .before .before .before .before .word-at3 .ensures) (c .before .before .before .before .before .before .before .word-at4 .ensures))
-    (word 8 _ _ (omega arith) (c .before .before .before .before .before .before .word-at5 .ensures) (c .before .before .before .before .before .word-at6 .ensures))
-    (word 12 _ _ (omega arith) (c .before .before .before .before .word-at7 .ensures) (c .before .before .before .word-at8 .ensures)))
+    (word 0 _ _ (omega arith) (c .before .before .before .before .before .before .before .before .before .before .u32-at .ensures) (c .before .before .before .before .before .before .before .before .before .u32-at2 .ensures))
+    (word 4 _ _ (omega arith) (c .before .before .before .before .before .before .before .before .u32-at3 .ensures) (c .before .before .before .before .before .before .before .u32-at4 .ensures))
+    (word 8 _ _ (omega arith) (c .before .before .before .before .before .before .u32-at5 .ensures) (c .before .before .before .before .before .u32-at6 .ensures))
+    (word 12 _ _ (omega arith) (c .before .before .before .before .u32-at7 .ensures) (c .before .before .before .u32-at8 .ensures)))
 
 pub put-long-spec : {M : Type 1} → statement M
 put-long-spec =
@@ -111,20 +117,22 @@ put-long-spec =
     returns
     sub-m
     sub-m-2
+    add-until
     sub-t
     part-t-start
     part-t-end
+    add-stop
     sub-u
     part-u-start
     part-u-end
-    word-at-requires
-    word-at-requires-2
-    word-at-requires-3
-    word-at-requires-4
-    word-at-requires-5
-    word-at-requires-6
-    word-at-requires-7
-    word-at-requires-8
+    u32-at-requires
+    u32-at-requires-2
+    u32-at-requires-3
+    u32-at-requires-4
+    u32-at-requires-5
+    u32-at-requires-6
+    u32-at-requires-7
+    u32-at-requires-8
     put-words-requires
     same-length-2
     returns-2)
