@@ -1,3 +1,4 @@
+pub mod Routes
 pub mod Starred
 pub mod Paths
 pub mod Cut

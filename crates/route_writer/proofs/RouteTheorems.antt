@@ -92,16 +92,16 @@ module _ (max : ℕ) (form : Form) (s : List ℕ) where
 
 module _ {max : ℕ} {form : Form} {s : List ℕ} {r : Reading Row} (reads : Reads max form s r) where
   -- as many rows as items
-  same-count : (items : List (List ℕ)) → Cutting (WellFormed max form) s items → length (r .rows) ≡ length items
-  same-count items c = ap (λ (x : Reading Row). length (x .rows)) (reads .read items c) ∙ length-map items (itemRow form)
+  rows-items : (items : List (List ℕ)) → Cutting (WellFormed max form) s items → length (r .rows) ≡ length items
+  rows-items items c = ap (λ (x : Reading Row). length (x .rows)) (reads .read items c) ∙ length-map items (itemRow form)
 
   pub cut-counted : (items : List (List ℕ)) → Cutting (WellFormed max form) s items → length s ≤ listLimit → countAnswer s r ≡ Rows (length items)
-  cut-counted items c short = count-good s r (length items) short (ap (λ (x : Reading Row). x .verdict) (reads .read items c), tally-one (r .rows) ∙ same-count items c)
+  cut-counted items c short = count-good s r (length items) short (ap (λ (x : Reading Row). x .verdict) (reads .read items c), tally-one (r .rows) ∙ rows-items items c)
 
   pub counted-cut : (n : ℕ) → countAnswer s r ≡ Rows n → (items : List (List ℕ)) × Cutting (WellFormed max form) s items × (length items ≡ n) × (length s ≤ listLimit)
   counted-cut n e =
       let c = reads .cut n e in
-      (c .0, c .1, sym (same-count (c .0) (c .1)) ∙ count-rows s r n e .1, count-short s r n e)
+      (c .0, c .1, sym (rows-items (c .0) (c .1)) ∙ count-rows s r n e .1, count-short s r n e)
 
   module _ (d : List ℕ) where
     pub cut-accepted : (items : List (List ℕ)) → Cutting (WellFormed max form) s items → length s ≤ listLimit → length items ≤ length d / 6
@@ -120,7 +120,7 @@ module _ {max : ℕ} {form : Form} {s : List ℕ} {r : Reading Row} (reads : Rea
           → (n ≡ length items) × (storeAfter s r d ≡ laid d 0 (flat words (map (itemRow form) items)))
       rows-stored items c =
           let h = read-rows s r d n e in (
-            sym (count-rows s r n (h .0) .1) ∙ same-count items c,
+            sym (count-rows s r n (h .0) .1) ∙ rows-items items c,
             sym (leave-rows s r d n (h .0) (h .1) .1) ∙ ap (λ (x : Reading Row). laid d 0 (flat words (x .rows))) (reads .read items c),
           )
 
@@ -181,11 +181,26 @@ module _ (max : ℕ) (small : max ≤ 128) (form : Form) where
 
 -- ---- the guess, where no item of the guess-off reading starts with a zero byte
 
-module _ (max : ℕ) (s : List ℕ) (no : NoZeroFirst (pieces (stepOf max Off) Plain s)) where
-  pub guess-list : listOf s max Guess ≡ listOf s max Off
+module _ (max max′ : ℕ) (s s′ : List ℕ) (mode mode′ : AddPath) (same : s ≡ s′) (alike : max ≡ max′) (on : mode ≡ Guess) (off : mode′ ≡ Off)
+    (no : NoZeroFirst (pieces (stepOf max Off) Plain s)) where
+  plain-list : listOf s max Guess ≡ listOf s max Off
   unfolding listOf
-  guess-list = guess-same max Plain s no
+  plain-list = guess-same max Plain s no
 
-  pub guess-section : sectionOf s max Guess ≡ sectionOf s max Off
+  plain-section : sectionOf s max Guess ≡ sectionOf s max Off
   unfolding sectionOf
-  guess-section = rw guess-list
+  plain-section = rw plain-list
+
+  pub guess-list : listOf s max mode ≡ listOf s′ max′ mode′
+  guess-list = ap (listOf s max) on ∙ plain-list ∙ ap₂ (λ (t : List ℕ) (k : ℕ). listOf t k Off) same alike ∙ ap (listOf s′ max′) (sym off)
+
+  pub guess-section : sectionOf s max mode ≡ sectionOf s′ max′ mode′
+  guess-section = ap (sectionOf s max) on ∙ plain-section ∙ ap₂ (λ (t : List ℕ) (k : ℕ). sectionOf t k Off) same alike ∙ ap (sectionOf s′ max′) (sym off)
+
+-- what is read alike is answered and stored alike
+module _ (s s′ : List ℕ) (r r′ : Reading Row) (same : s ≡ s′) (alike : r ≡ r′) where
+  pub same-count : countAnswer s r ≡ countAnswer s′ r′
+  same-count = ap₂ countAnswer same alike
+
+  pub same-read : (d d′ : List ℕ) → d ≡ d′ → (readAnswer s r (length d) ≡ readAnswer s′ r′ (length d′)) × (storeAfter s r d ≡ storeAfter s′ r′ d′)
+  same-read d d′ e = (λ i. readAnswer (same i) (alike i) (length (e i)), λ i. storeAfter (same i) (alike i) (e i))

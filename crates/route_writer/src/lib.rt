@@ -22,16 +22,13 @@ pub enum ListsAnswer {
     Refused(u8),
 }
 
-// The four bytes of a word of the store, at a place of the output.
+// The four bytes of a word of the store, at a place of the output: just those four are lent, so that no test of room is left when it is compiled.
 fn put_word(rows: &[u32], i: usize, out: &mut [u8], to: usize)
     requires { ⌜ (i < length (now rows)) × (to + 4 ≤ length (now out)) ⌝ }
     ensures { λ _. ⌜ now (out .exit) ≡ laid (now (out .entry)) to (toBe 4 (getD (now (rows .entry)) i 0)) ⌝ }
 {
-    let w = rows[i];
-    out[to] = (w / 16777216) as u8;
-    out[to + 1] = (w / 65536 % 256) as u8;
-    out[to + 2] = (w / 256 % 256) as u8;
-    out[to + 3] = (w % 256) as u8;
+    let end = to + 4;
+    outputs::put_u32(&mut out[to..end], 0, rows[i]);
 }
 
 // The sixteen address octets of the row at a place, at a place of the output. Each word is read just before it is put: its four bytes

@@ -1,79 +1,56 @@
-use mathlib.Core.Path.{_∙_, ap, sym}
-use mathlib.Core.List.{[], _∷_}
-use Prim.Native.Nat.{_/_, _%_}
+use mathlib.Core.Path.{refl, ap, _∙_}
+use mathlib.Core.List.{List, _++_}
+use Prim.Native.Nat.{ℕ, _+_, _-_}
 use native.Mathlib.Omega.{arith}
-use lib.ListN.{getD, length-set}
-use Rattle.wire.proofs.NumberLaws.{toBe-four}
-use Rattle.wire.specs.Store.{laid}
-use Rattle.wire.proofs.StoreLaws.{puts-laid}
+use lib.ListN.{getD, take, drop}
+use Rattle.wire.specs.Number.{toBe}
+use Rattle.wire.proofs.StoreLaws.{laid-between}
 use borrow.Author.Needs.{needs}
 use Rattle.route_writer.proofs.put_word.Statement.{statement}
 use Rattle.route_writer.proofs.put_word.Tie as tie
 
-mul-w : tie.Need-mul-w
-mul-w c = search needs
+add-end : tie.Need-add-end
+add-end c = search needs
 
-shared-slice-read-w : tie.Need-shared-slice-read-w
-shared-slice-read-w c = search needs
+sub-put-u32 : tie.Need-sub-put-u32
+sub-put-u32 c = search needs
 
-cast-out : tie.Need-cast-out
-cast-out c = omega (arith, c .shared-slice-known .given (c .before .args .i))
+part-put-u32-start : tie.Need-part-put-u32-start
+part-put-u32-start c = search needs
 
-slice-write-out : tie.Need-slice-write-out
-slice-write-out c = search needs
+part-put-u32-end : tie.Need-part-put-u32-end
+part-put-u32-end c = search needs
 
-cast-out-2 : tie.Need-cast-out-2
-cast-out-2 c = search needs
+mul-put-u32 : tie.Need-mul-put-u32
+mul-put-u32 c = search needs
 
-add-out : tie.Need-add-out
-add-out c = search needs
+shared-slice-read-put-u32 : tie.Need-shared-slice-read-put-u32
+shared-slice-read-put-u32 c = search needs
 
-slice-write-out-2 : tie.Need-slice-write-out-2
-slice-write-out-2 c = simp length-set (omega arith)
-
-cast-out-3 : tie.Need-cast-out-3
-cast-out-3 c = search needs
-
-add-out-2 : tie.Need-add-out-2
-add-out-2 c = search needs
-
-slice-write-out-3 : tie.Need-slice-write-out-3
-slice-write-out-3 c = simp length-set (omega arith)
-
-cast-out-4 : tie.Need-cast-out-4
-cast-out-4 c = search needs
-
-add-out-3 : tie.Need-add-out-3
-add-out-3 c = search needs
-
-slice-write-out-4 : tie.Need-slice-write-out-4
-slice-write-out-4 c = simp length-set (omega arith)
+put-u32-requires : tie.Need-put-u32-requires
+put-u32-requires c κs = search needs
 
 same-length : tie.Need-same-length
 same-length c = search needs
 
 returns : tie.Need-returns
 returns c =
-    let a = c .before .args in
-    let w = getD (a .rows .now) (a .i) 0 in
-    puts-laid (a .out .now) (a .to) (w / 16777216 ∷ w / 65536 % 256 ∷ w / 256 % 256 ∷ w % 256 ∷ []) (omega arith) ∙ ap (laid (a .out .now) (a .to)) (sym (toBe-four w))
+    let a = c .before .before .before .before .before .before .before .args in
+    let d = a .out .now in
+    let end = a .to + 4 in
+    ap (λ (l : List ℕ). take (a .to) d ++ (l ++ drop (end - a .to) (drop (a .to) d))) (c .before .before .put-u32 .ensures)
+    ∙ laid-between d (a .to) end (toBe 4 (getD (a .rows .now) (a .i) 0)) refl (omega arith)
 
 pub put-word-spec : {M : Type 1} → statement M
 put-word-spec =
     tie.close
     (tie.spec
-    mul-w
-    shared-slice-read-w
-    cast-out
-    slice-write-out
-    cast-out-2
-    add-out
-    slice-write-out-2
-    cast-out-3
-    add-out-2
-    slice-write-out-3
-    cast-out-4
-    add-out-3
-    slice-write-out-4
+    add-end
+    sub-put-u32
+    part-put-u32-start
+    part-put-u32-end
+    mul-put-u32
+    shared-slice-read-put-u32
+    put-u32-requires
     same-length
     returns)
