@@ -6,11 +6,12 @@ use mathlib.Core.List.{List, _∷_, _++_}
 use mathlib.Core.Bool.{true}
 use native.Mathlib.Numerals.{sub-one}
 use native.Mathlib.Omega.{arith}
+use borrow.Rule.Slice.PartMut.{putMid}
 use lib.ListN.{length, drop, take, getD, length-append}
 use Rattle.wire.proofs.NumberLaws.{length-toBe}
 use Rattle.wire.specs.Number.{toBe}
-use Rattle.wire.specs.Store.{laid}
-use Rattle.wire.proofs.StoreLaws.{Laying, laying-start, laying-long, laying-room, laying-step, laying-done}
+use Rattle.wire.specs.Store.{laid, placed}
+use Rattle.wire.proofs.StoreLaws.{laid-between, Laying, laying-start, laying-long, laying-room, laying-step, laying-done}
 use Rattle.wire.specs.Walk.{flat}
 use Rattle.path_writer.specs.Write.{allFit}
 use Rattle.path_writer.proofs.WriteLaws.{take-next, fit-here, fit-cons}
@@ -27,6 +28,12 @@ all-four ns h (suc n) at inside =
     ∙ fit-cons 4 (getD ns at 0) (take n (drop (at + 1) ns)) (h at) (all-four ns h n (at + 1) (omega arith))
 
 -- ---- numbers put
+
+-- a number put into the part between two places, once the part is back
+pub part-put : (d : List ℕ) (to end w v : ℕ) (part : List ℕ) → part ≡ placed (take (end - to) (drop to d)) 0 (toBe w v) → to + w ≡ end → end ≤ length d
+    → putMid to (end - to) d part ≡ laid d to (toBe w v)
+part-put d to end w v part e f h =
+    ap (putMid to (end - to) d) e ∙ laid-between d to end (toBe w v) (ap (λ (k : ℕ). to + k) (length-toBe w v) ∙ f) h
 
 -- n numbers that fit w bytes go from `from` to `start`; `left` of them are still to come, from `at`, to `to`
 pub record Putting (ns : List ℕ) (from w n : ℕ) (d₀ : List ℕ) (start at to left : ℕ) (d : List ℕ) : Type 0 where

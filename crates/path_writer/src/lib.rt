@@ -142,27 +142,6 @@ fn put_head(out: &mut [u8], to: usize, kind: u32, count: u32)
     out[to + 1] = count as u8;
 }
 
-// The two bytes of a number, at a place of the output.
-fn put_two(out: &mut [u8], to: usize, v: u32)
-    requires { ⌜ to + 2 ≤ length (now out) ⌝ }
-    requires { ⌜ v < 65536 ⌝ }
-    ensures { λ _. ⌜ now (out .exit) ≡ laid (now (out .entry)) to (toBe 2 v) ⌝ }
-{
-    out[to] = (v / 256) as u8;
-    out[to + 1] = (v % 256) as u8;
-}
-
-// The four bytes of a number, at a place of the output.
-fn put_four(out: &mut [u8], to: usize, v: u32)
-    requires { ⌜ to + 4 ≤ length (now out) ⌝ }
-    ensures { λ _. ⌜ now (out .exit) ≡ laid (now (out .entry)) to (toBe 4 v) ⌝ }
-{
-    out[to] = (v / 16777216) as u8;
-    out[to + 1] = (v / 65536 % 256) as u8;
-    out[to + 2] = (v / 256 % 256) as u8;
-    out[to + 3] = (v % 256) as u8;
-}
-
 // n numbers from a place on that fit two bytes, two in a turn, to a place of the output.
 fn put_narrow(numbers: &[u32], from: usize, n: usize, out: &mut [u8], start: usize)
     requires { ⌜ from + n ≤ length (now numbers) ⌝ }
@@ -174,14 +153,17 @@ fn put_narrow(numbers: &[u32], from: usize, n: usize, out: &mut [u8], start: usi
     let mut to = start;
     let mut left = n;
     while 1 < left {
-        put_two(out, to, numbers[at]);
-        put_two(out, to + 2, numbers[at + 1]);
+        let middle = to + 2;
+        let end = to + 4;
+        outputs::put_u16(&mut out[to..middle], 0, numbers[at] as u16);
+        outputs::put_u16(&mut out[middle..end], 0, numbers[at + 1] as u16);
         at = at + 2;
-        to = to + 4;
+        to = end;
         left = left - 2;
     }
     if left == 1 {
-        put_two(out, to, numbers[at]);
+        let end = to + 2;
+        outputs::put_u16(&mut out[to..end], 0, numbers[at] as u16);
     }
 }
 
@@ -196,9 +178,10 @@ fn put_full(numbers: &[u32], from: usize, n: usize, out: &mut [u8], start: usize
     let mut to = start;
     let mut left = n;
     while 0 < left {
-        put_four(out, to, numbers[at]);
+        let end = to + 4;
+        outputs::put_u32(&mut out[to..end], 0, numbers[at]);
         at = at + 1;
-        to = to + 4;
+        to = end;
         left = left - 1;
     }
 }

@@ -6,9 +6,12 @@ use mathlib.Core.List.{List, _∷_, _++_}
 use native.Mathlib.Nat.{not-suc-le-zero, zero-add}
 use native.Mathlib.Numerals.{sub-one}
 use native.Mathlib.Omega.{arith}
-use borrow.Author.Tests.{le-leb}
+use borrow.Author.Tests.{le-leb, lt-leb}
 use lib.ListN.{length, getD, drop}
+use lib.Dec.{leb}
 use lib.Seq.{drop-drop}
+use Rattle.wire.specs.Choice.{pick}
+use Rattle.wire.specs.Refusal.{truncated}
 use Rattle.wire.proofs.ChoiceLaws.{pick-leb}
 use Rattle.asns.proofs.AsnLaws.{span-many}
 use Rattle.wire.specs.Answer.{answerBy}
@@ -16,7 +19,7 @@ use Rattle.wire.specs.Number.{beAt}
 use Rattle.wire.specs.Walk.{Step, took, stop}
 use Rattle.wire.proofs.WalkLaws.{Sound}
 use Rattle.wire.proofs.Turn.{Light}
-use Rattle.paths.specs.Private.{countIn}
+use Rattle.paths.specs.Private.{shortFault, countIn}
 use Rattle.paths.specs.declared.SegmentAnswer.the-variants.{Numbers, Refused}
 use Rattle.asns.specs.Asn.{span}
 use Rattle.paths.specs.Segment.{Segment, numbersOf, Rule, typeFault, NoState, segmentAt, segmentOf, asnsOf}
@@ -54,6 +57,12 @@ type-known kind =
 pub known-type : (kind : ℕ) → 1 ≤ kind → kind ≤ 4 → typeFault kind ≡ 0
 unfolding typeFault
 known-type kind h k = rw (le-leb 1 kind h, le-leb kind 4 k)
+
+-- ---- whether a segment is all there
+
+pub none-short : (there size : ℕ) → shortFault there size ≡ 0 → size ≤ there
+unfolding shortFault
+none-short there size = pick-leb (λ (x : ℕ). x ≡ 0 → size ≤ there) size there _ _ (λ h _. h) (λ _ e. absurd (omega arith))
 
 -- ---- a segment that is taken
 
@@ -93,6 +102,16 @@ module _ (rule : Rule) (w : ℕ) where
     takes = λ st st′ s used g e. let t = segment-taken st st′ s used g e in (omega (arith, t .size), t .room);
     names = λ st s n e. rw e at (said st s);
   }
+
+  -- what is not all there is refused by its number
+  pub short-segment : (s : List ℕ) (n : ℕ) → 2 ≤ length s → n ≡ shortFault (length s) (2 + span w (getD s 1 0)) → 0 < n → segmentOf rule w tt s ≡ stop n
+  unfolding segmentOf shortFault
+  short-segment s n h =
+      rw (le-leb 2 (length s) h)
+      (pick-leb (λ (x : ℕ). n ≡ x → 0 < n → pick (leb (2 + span w (getD s 1 0)) (length s)) (answerBy (rule (getD s 0 0) (getD s 1 0)) (took (2 + span w (getD s 1 0)) (segmentAt w s) tt) stop) (stop truncated) ≡ stop n)
+      (2 + span w (getD s 1 0)) (length s) _ _
+      (λ _ e pos. absurd (omega arith))
+      (λ k e pos. rw (lt-leb (2 + span w (getD s 1 0)) (length s) k) (ap stop (sym e))))
 
   -- what is there, and has no fault, is taken
   pub taken-segment : (s : List ℕ) → 2 ≤ length s → 2 + span w (getD s 1 0) ≤ length s → rule (getD s 0 0) (getD s 1 0) ≡ 0

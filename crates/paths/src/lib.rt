@@ -5,12 +5,11 @@ ghost use Prim.Native.Nat.{_+_, _≤_, _<_};
 ghost use mathlib.Core.Bool.{true};
 ghost use mathlib.Core.List.{[], _∷_};
 ghost use lib.ListN.{length, drop};
-ghost use Rattle.wire.specs.Number.{beAt};
 ghost use Rattle.wire.specs.Store.{laid, PutAhead};
 ghost use Rattle.wire.specs.Walk.{flat};
 ghost use Rattle.asns.specs.Asn.{widthOf, span};
 ghost use Rattle.paths.specs.Segment.{numbersOf, typeFault, knownType, pairOf, asnsOf, segmentOf, pathOf};
-ghost use Rattle.paths.specs.Private.{countIn};
+ghost use Rattle.paths.specs.Private.{shortFault, countIn};
 ghost use Rattle.paths.specs.Promises.{countAnswer, readAnswer, pairsAfter, numbersAfter};
 use asns::AsnLength;
 use wire::refusal;
@@ -45,6 +44,16 @@ pub fn type_fault(kind: u32) -> u8
     0
 }
 
+// What is wrong where so many bytes are there of so many, 0 where nothing is.
+fn short_fault(there: usize, size: usize) -> u8
+    ensures { λ r. ⌜ r ≡ shortFault there size ⌝ }
+{
+    if there < size {
+        return refusal::TRUNCATED;
+    }
+    0
+}
+
 // How many numbers the segment at the front has: type and count there, 2; the numbers there, 2; the type, 9.
 fn segment_count(s: &[u8], width: AsnLength) -> SegmentAnswer
     ensures { λ r. ⌜ r ≡ countIn (segmentOf knownType (widthOf width) tt (now (s .entry))) ⌝ }
@@ -54,10 +63,11 @@ fn segment_count(s: &[u8], width: AsnLength) -> SegmentAnswer
     }
     let count = s[1];
     let size = 2 + asns::numbers_size(count as u16, width);
-    if s.len() < size {
-        return SegmentAnswer::Refused(refusal::TRUNCATED);
-    }
+    let short = short_fault(s.len(), size);
     let fault = type_fault(wire::wide(s[0]));
+    if short != 0 {
+        return SegmentAnswer::Refused(short);
+    }
     if fault != 0 {
         return SegmentAnswer::Refused(fault);
     }
@@ -98,22 +108,6 @@ fn put_pair(pairs: &mut [u32], to: usize, kind: u32, count: u32)
     pairs[to + 1] = count;
 }
 
-// The number of the two bytes at a place.
-fn two_at(s: &[u8], at: usize) -> u32
-    requires { ⌜ at + 2 ≤ length (now s) ⌝ }
-    ensures { λ r. ⌜ r ≡ beAt (now (s .entry)) at 2 ⌝ }
-{
-    s[at] as u32 * 256 + s[at + 1] as u32
-}
-
-// The number of the four bytes at a place.
-fn four_at(s: &[u8], at: usize) -> u32
-    requires { ⌜ at + 4 ≤ length (now s) ⌝ }
-    ensures { λ r. ⌜ r ≡ beAt (now (s .entry)) at 4 ⌝ }
-{
-    ((s[at] as u32 * 256 + s[at + 1] as u32) * 256 + s[at + 2] as u32) * 256 + s[at + 3] as u32
-}
-
 // The n numbers of two bytes at a place of the bytes, two in a turn, to a place of the store.
 fn put_narrow(s: &[u8], from: usize, n: usize, numbers: &mut [u32], start: usize)
     requires { ⌜ from + span 2 n ≤ length (now s) ⌝ }
@@ -124,14 +118,17 @@ fn put_narrow(s: &[u8], from: usize, n: usize, numbers: &mut [u32], start: usize
     let mut to = start;
     let mut left = n;
     while 1 < left {
-        numbers[to] = two_at(s, at);
-        numbers[to + 1] = two_at(s, at + 2);
-        at = at + 4;
+        let middle = at + 2;
+        let end = at + 4;
+        numbers[to] = wire::u16_at(&s[at..middle], 0);
+        numbers[to + 1] = wire::u16_at(&s[middle..end], 0);
+        at = end;
         to = to + 2;
         left = left - 2;
     }
     if left == 1 {
-        numbers[to] = two_at(s, at);
+        let end = at + 2;
+        numbers[to] = wire::u16_at(&s[at..end], 0);
     }
 }
 
@@ -145,8 +142,9 @@ fn put_full(s: &[u8], from: usize, n: usize, numbers: &mut [u32], start: usize)
     let mut to = start;
     let mut left = n;
     while 0 < left {
-        numbers[to] = four_at(s, at);
-        at = at + 4;
+        let end = at + 4;
+        numbers[to] = wire::u32_at(&s[at..end], 0);
+        at = end;
         to = to + 1;
         left = left - 1;
     }

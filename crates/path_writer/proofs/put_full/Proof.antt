@@ -1,11 +1,12 @@
 use borrow.Author.Needs.{needs}
 use native.Mathlib.Omega.{arith}
-use Prim.Native.Nat.{_+_, _-_, _^_, _≤_, _<_}
-use mathlib.Core.Path.{_≡_}
+use Prim.Native.Nat.{ℕ, _+_, _-_, _^_, _≤_, _<_}
+use mathlib.Core.Path.{_≡_, refl, sym, subst}
+use mathlib.Core.List.{List}
 use lib.ListN.{length, getD}
 use Rattle.wire.specs.Number.{toBe}
 use Rattle.wire.specs.Store.{laid}
-use Rattle.path_writer.proofs.NumberPut.{Putting, putting-start, putting-long, putting-done, putting-room, putting-fits, putting-next}
+use Rattle.path_writer.proofs.NumberPut.{part-put, Putting, putting-start, putting-long, putting-done, putting-room, putting-fits, putting-next}
 use Rattle.path_writer.proofs.put_full.Statement.{statement}
 use Rattle.path_writer.proofs.put_full.Tie as tie
 
@@ -41,20 +42,29 @@ loop-holds c =
     let p = c .before .before .pre in
     putting-start (a .numbers .now) (a .from) 4 (a .n) (a .out .now) (a .start) (p .1 .1) (p .0) (p .1 .0)
 
-mul-put-four : tie.Need-mul-put-four Inv-loop μ-loop
-mul-put-four c = omega (arith, turn (c .before), c .before .loop-test .taken)
+add-end : tie.Need-add-end Inv-loop μ-loop
+add-end c = omega (arith, turn c)
 
-shared-slice-read-put-four : tie.Need-shared-slice-read-put-four Inv-loop μ-loop
-shared-slice-read-put-four c = omega (arith, turn (c .before .before), c .before .before .loop-test .taken)
+sub-put-u32 : tie.Need-sub-put-u32 Inv-loop μ-loop
+sub-put-u32 c = search needs
 
-put-four-requires : tie.Need-put-four-requires Inv-loop μ-loop
-put-four-requires c κs = turn (c .before .before) .1
+part-put-u32-start : tie.Need-part-put-u32-start Inv-loop μ-loop
+part-put-u32-start c = omega (arith, turn c)
+
+part-put-u32-end : tie.Need-part-put-u32-end Inv-loop μ-loop
+part-put-u32-end c = omega (arith, turn c)
+
+mul-put-u32 : tie.Need-mul-put-u32 Inv-loop μ-loop
+mul-put-u32 c = omega (arith, turn (c .before), c .before .loop-test .taken)
+
+shared-slice-read-put-u32 : tie.Need-shared-slice-read-put-u32 Inv-loop μ-loop
+shared-slice-read-put-u32 c = omega (arith, turn (c .before .before), c .before .before .loop-test .taken)
+
+put-u32-requires : tie.Need-put-u32-requires Inv-loop μ-loop
+put-u32-requires c κs = search needs
 
 add-at : tie.Need-add-at Inv-loop μ-loop
 add-at c = omega (arith, turn (c .before .before .before .before .before), c .before .before .before .before .before .loop-test .taken)
-
-add-to : tie.Need-add-to Inv-loop μ-loop
-add-to c = omega (arith, turn (c .before .before .before .before .before))
 
 sub-left : tie.Need-sub-left Inv-loop μ-loop
 sub-left c = search needs
@@ -63,7 +73,13 @@ loop-less : tie.Need-loop-less Inv-loop μ-loop
 loop-less c = search needs
 
 loop-again : tie.Need-loop-again Inv-loop μ-loop
-loop-again c = rw (c .before .before .put-four .ensures) (turn (c .before .before .before .before .before) .4)
+loop-again c =
+    let k = c .before .before .before .before .before in
+    let l = k .before in
+    let a = l .before .before .before .args in
+    let h = turn k in
+    subst (λ (d : List ℕ). Putting (a .numbers .now) (a .from) 4 (a .n) (a .out .now) (a .start) (l .loop .at + 1) (l .loop .to + 4) (l .loop .left - 1) d)
+    (sym (part-put (l .loop .out) (l .loop .to) _ 4 _ _ (c .before .before .put-u32 .ensures) refl (h .1))) (h .4)
 
 same-length : tie.Need-same-length Inv-loop μ-loop
 same-length c =
@@ -84,11 +100,14 @@ put-full-spec =
     Inv-loop
     μ-loop
     loop-holds
-    mul-put-four
-    shared-slice-read-put-four
-    put-four-requires
+    add-end
+    sub-put-u32
+    part-put-u32-start
+    part-put-u32-end
+    mul-put-u32
+    shared-slice-read-put-u32
+    put-u32-requires
     add-at
-    add-to
     sub-left
     loop-less
     loop-again

@@ -1,8 +1,9 @@
 use borrow.Author.Needs.{needs}
 use native.Mathlib.Omega.{arith}
 use Prim.Native.Nat.{_+_, _-_, _≤_}
-use mathlib.Core.Path.{_≡_}
+use mathlib.Core.Path.{_≡_, refl, _∙_}
 use lib.ListN.{length}
+use Rattle.wire.proofs.NumberLaws.{be-between}
 use Rattle.asns.specs.Asn.{span}
 use Rattle.paths.proofs.NumberTurn.{Numbering, numbering-start, numbering-room, numbering-here, numbering-next, numbering-done}
 use Rattle.paths.proofs.put_full.Statement.{statement}
@@ -38,20 +39,29 @@ loop-holds c =
     let p = c .before .before .pre in
     numbering-start (a .s .now) (a .from) 4 (a .n) (a .numbers .now) (a .start) (p .1) (p .0)
 
-four-at-requires : tie.Need-four-at-requires Inv-loop μ-loop
-four-at-requires c κs = omega (arith, here c)
+add-end : tie.Need-add-end Inv-loop μ-loop
+add-end c = omega (arith, here c)
+
+sub-u32-at : tie.Need-sub-u32-at Inv-loop μ-loop
+sub-u32-at c = search needs
+
+part-u32-at-start : tie.Need-part-u32-at-start Inv-loop μ-loop
+part-u32-at-start c = omega (arith, here c)
+
+part-u32-at-end : tie.Need-part-u32-at-end Inv-loop μ-loop
+part-u32-at-end c = omega (arith, here c)
+
+u32-at-requires : tie.Need-u32-at-requires Inv-loop μ-loop
+u32-at-requires c κs = search needs
 
 mul-numbers : tie.Need-mul-numbers Inv-loop μ-loop
-mul-numbers c = omega (arith, room (c .before .before))
+mul-numbers c = omega (arith, room (c .before .before .before))
 
 slice-write-numbers : tie.Need-slice-write-numbers Inv-loop μ-loop
-slice-write-numbers c = omega (arith, room (c .before .before))
-
-add-at : tie.Need-add-at Inv-loop μ-loop
-add-at c = omega (arith, here (c .before))
+slice-write-numbers c = omega (arith, room (c .before .before .before), c .before .before .loop-test .taken)
 
 add-to : tie.Need-add-to Inv-loop μ-loop
-add-to c = omega (arith, room (c .before .before))
+add-to c = omega (arith, room (c .before .before .before))
 
 sub-left : tie.Need-sub-left Inv-loop μ-loop
 sub-left c = search needs
@@ -61,9 +71,10 @@ loop-less c = search needs
 
 loop-again : tie.Need-loop-again Inv-loop μ-loop
 loop-again c =
-    let l = c .before .before in
+    let l = c .before .before .before in
     let a = l .before .before .before .args in
-    numbering-next (a .s .now) (a .from) 4 (a .n) (a .numbers .now) (a .start) (l .before .before .before .pre .1) (l .loop .at) (l .loop .to) (l .loop .left) (l .loop .numbers) (l .loop .inv) _ (c .before .loop-test .taken) (c .four-at .ensures)
+    numbering-next (a .s .now) (a .from) 4 (a .n) (a .numbers .now) (a .start) (l .before .before .before .pre .1) (l .loop .at) (l .loop .to) (l .loop .left) (l .loop .numbers) (l .loop .inv) _
+    (c .before .before .loop-test .taken) (c .u32-at .ensures ∙ be-between (a .s .now) (l .loop .at) _ 4 refl)
 
 same-length : tie.Need-same-length Inv-loop μ-loop
 same-length c = room (c .before) .0
@@ -81,10 +92,13 @@ put-full-spec =
     Inv-loop
     μ-loop
     loop-holds
-    four-at-requires
+    add-end
+    sub-u32-at
+    part-u32-at-start
+    part-u32-at-end
+    u32-at-requires
     mul-numbers
     slice-write-numbers
-    add-at
     add-to
     sub-left
     loop-less

@@ -1,23 +1,17 @@
-use borrow.Author.Tests.{le-leb, lt-leb}
+use borrow.Author.Tests.{lt-leb}
 use mathlib.Core.Path.{_≡_, sym, ap, _∙_}
 use native.Mathlib.Omega.{arith}
 use lib.ListN.{getD, length}
 use Prim.Native.Nat.{ℕ, _+_, _≤_, _<_}
 use Rattle.wire.specs.Walk.{stop}
-use mathlib.Core.List.{List}
-use Rattle.asns.specs.declared.AsnLength.{AsnLength}
 use Rattle.asns.specs.Asn.{widthOf, span}
-use Rattle.paths.specs.Segment.{segmentOf, typeFault, knownType}
 use Rattle.asns.proofs.AsnLaws.{span-most}
-use Rattle.paths.proofs.SegmentLaws.{fault-segment, count-taken}
-use Rattle.paths.specs.Private.{countIn}
+use Rattle.paths.specs.Segment.{segmentOf, typeFault, knownType}
+use Rattle.paths.specs.Private.{shortFault, countIn}
+use Rattle.paths.proofs.SegmentLaws.{none-short, short-segment, fault-segment, count-taken}
 use borrow.Author.Needs.{needs}
 use Rattle.paths.proofs.segment_count.Statement.{statement}
 use Rattle.paths.proofs.segment_count.Tie as tie
-
--- the bytes that the segment takes are there
-fits : (width : AsnLength) (s : List ℕ) (r : ℕ) → r ≡ span (widthOf width) (getD s 1 0) → 2 + r ≤ length s → 2 + span (widthOf width) (getD s 1 0) ≤ length s
-fits width s r e h = rw e at h
 
 returns : tie.Need-returns
 unfolding segmentOf
@@ -37,9 +31,8 @@ add-size c =
     let a = c .before .before .before .before .args in
     omega (arith, c .numbers-size .ensures, span-most (a .width) (getD (a .s .now) 1 0), c .before .shared-slice-known2 .given 1)
 
-returns-2 : tie.Need-returns-2
-unfolding segmentOf
-returns-2 c = rw (← c .before .numbers-size .ensures) (simp (le-leb _ _ (c .before .before .before .if1 .left), lt-leb _ _ (c .if2 .taken)))
+short-fault-requires : tie.Need-short-fault-requires
+short-fault-requires c κs = search needs
 
 shared-slice-read-wide : tie.Need-shared-slice-read-wide
 shared-slice-read-wide c = search needs
@@ -50,22 +43,45 @@ wide-requires c κs = search needs
 type-fault-requires : tie.Need-type-fault-requires
 type-fault-requires c κs = search needs
 
+-- before the two tests: type and count are there, and what stands against the segment's size and its type
+two : (t : tie.After-type-fault) → 2 ≤ length (t .before .before .before .before .before .before .before .before .args .s .now)
+two t = t .before .before .before .before .before .before .if1 .left
+
+short-is : (t : tie.After-type-fault) →
+    let a = t .before .before .before .before .before .before .before .before .args in
+    t .before .before .before .short-fault .result ≡ shortFault (length (a .s .now)) (2 + span (widthOf (a .width)) (getD (a .s .now) 1 0))
+short-is t =
+    let a = t .before .before .before .before .before .before .before .before .args in
+    t .before .before .before .short-fault .ensures ∙ ap (λ (k : ℕ). shortFault (length (a .s .now)) (2 + k)) (t .before .before .before .before .numbers-size .ensures)
+
+type-is : (t : tie.After-type-fault) → t .type-fault .result ≡ typeFault (getD (t .before .before .before .before .before .before .before .before .args .s .now) 0 0)
+type-is t = t .type-fault .ensures ∙ ap typeFault (t .before .wide .ensures)
+
+returns-2 : tie.Need-returns-2
+returns-2 c =
+    let t = c .before in
+    let a = t .before .before .before .before .before .before .before .before .args in
+    let n : ℕ = t .before .before .before .short-fault .result in
+    let pos : 0 < n = omega (arith, c .if2 .taken) in
+    let e : segmentOf knownType (widthOf (a .width)) tt (a .s .now) ≡ stop n = short-segment knownType (widthOf (a .width)) (a .s .now) n (two t) (short-is t) pos in
+    sym (ap countIn e)
+
 returns-3 : tie.Need-returns-3
 returns-3 c =
-    let k = c .before .before .before .before in
-    let a = k .before .before .before .before .before .args in
-    let room = fits (a .width) (a .s .now) _ (k .before .numbers-size .ensures) (k .if2 .left) in
-    let n : ℕ = c .before .type-fault .result in
+    let t = c .before .before in
+    let a = t .before .before .before .before .before .before .before .before .args in
+    let room = none-short _ _ (sym (short-is t) ∙ c .before .if2 .left) in
+    let n : ℕ = t .type-fault .result in
     let pos : 0 < n = omega (arith, c .if3 .taken) in
-    let e : segmentOf knownType (widthOf (a .width)) tt (a .s .now) ≡ stop n = fault-segment knownType (widthOf (a .width)) (a .s .now) n (k .before .before .before .if1 .left) room (c .before .type-fault .ensures ∙ ap typeFault (c .before .before .wide .ensures)) pos in
+    let e : segmentOf knownType (widthOf (a .width)) tt (a .s .now) ≡ stop n = fault-segment knownType (widthOf (a .width)) (a .s .now) n (two t) room (type-is t) pos in
     sym (ap countIn e)
 
 returns-4 : tie.Need-returns-4
 returns-4 c =
-    let k = c .before .before .before .before in
-    let a = k .before .before .before .before .before .args in
-    let room = fits (a .width) (a .s .now) _ (k .before .numbers-size .ensures) (k .if2 .left) in
-    count-taken knownType (widthOf (a .width)) (a .s .now) (k .before .before .before .if1 .left) room (sym (c .if3 .left) ∙ c .before .type-fault .ensures ∙ ap typeFault (c .before .before .wide .ensures))
+    let t = c .before .before in
+    let a = t .before .before .before .before .before .before .before .before .args in
+    let room = none-short _ _ (sym (short-is t) ∙ c .before .if2 .left) in
+    count-taken knownType (widthOf (a .width)) (a .s .now) (two t) room (sym (c .if3 .left) ∙ type-is t)
 
 pub segment-count-spec : {M : Type 1} → statement M
 segment-count-spec =
@@ -76,9 +92,10 @@ segment-count-spec =
     cast-numbers-size
     numbers-size-requires
     add-size
-    returns-2
+    short-fault-requires
     shared-slice-read-wide
     wide-requires
     type-fault-requires
+    returns-2
     returns-3
     returns-4)
