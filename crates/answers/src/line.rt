@@ -83,16 +83,19 @@ fn first_bytes(out: &mut [u8], at: usize, s: &[u8]) -> usize {
     next
 }
 
-// A store that was lent: its sum and its first places.
-pub fn words(out: &mut [u8], at: usize, s: &[u32]) -> usize {
+// The places of a store that were lent: their sum and the first of them.
+pub fn words(out: &mut [u8], at: usize, s: &[u32], room: usize) -> usize {
+    let m = wire::least(room, s.len());
+    let lent = &s[..m];
     let bar = put(out, at, b" |");
-    let sum = number(out, bar, store::sum_of_words(s));
-    first_words(out, sum, s)
+    let sum = number(out, bar, store::sum_of_words(lent));
+    first_words(out, sum, lent)
 }
 
-// An output that was lent, in the same way.
-pub fn bytes(out: &mut [u8], at: usize, s: &[u8]) -> usize {
+// The places of an output that were lent, in the same way.
+pub fn bytes(out: &mut [u8], at: usize, s: &[u8], room: usize) -> usize {
+    let lent = wire::part(s, 0, room);
     let bar = put(out, at, b" |");
-    let sum = number(out, bar, store::sum_of_bytes(s));
-    first_bytes(out, sum, s)
+    let sum = number(out, bar, store::sum_of_bytes(lent));
+    first_bytes(out, sum, lent)
 }

@@ -1,6 +1,8 @@
 // Reads request records from standard input, runs the call that each names, and writes a line for each to standard output.
 ghost use mathlib.Core.Path.{_≡_};
 ghost use lib.ListN.{length};
+use crate::numbers::Numbers;
+use crate::request::Head;
 use crate::request::Judged;
 
 mod line;
@@ -13,6 +15,9 @@ mod writes;
 // Output is written when this many bytes wait: what is left holds any line.
 const WAITING_LIMIT: usize = 64000;
 
+// The first op that writes; those below it read.
+const FIRST_WRITER: u8 = 13;
+
 // Where the run is: the bytes in hand are input[start..have], the output that waits is out[..at].
 struct State {
     start: usize,
@@ -21,6 +26,30 @@ struct State {
     at: usize,
     ended: bool,
     over: bool,
+}
+
+// The call that a record names: what it answered, and in the stores and the output what it left.
+fn call(h: Head, s: &[u8], a: &mut [u32], b: &mut [u32], w: &mut [u8]) -> Numbers {
+    if h.op < FIRST_WRITER {
+        return reads::answer(h, request::part_one(s, h), a, b);
+    }
+    writes::answer(h, s, a, b, w)
+}
+
+// The stores or the output that an op lends.
+fn show_lent(h: Head, a: &[u32], b: &[u32], w: &[u8], out: &mut [u8], at: usize) -> usize {
+    if FIRST_WRITER <= h.op {
+        return line::bytes(out, at, w, h.room_a);
+    }
+    let stores = reads::stores_lent(h.op);
+    if stores == 0 {
+        return at;
+    }
+    let first = line::words(out, at, a, h.room_a);
+    if stores == 1 {
+        return first;
+    }
+    line::words(out, first, b, h.room_b)
 }
 
 // The line of a whole record.
@@ -35,12 +64,9 @@ fn answer(
 ) -> usize {
     let h = request::read_head(s);
     let named = line::record_and_op(out, at, record, h.op);
-    if h.op < 13 {
-        let read = reads::answer(h, request::part_one(s, h), a, b, out, named);
-        return line::put(out, read, b"\n");
-    }
-    let written = writes::answer(h, s, a, b, w, out, named);
-    line::put(out, written, b"\n")
+    let told = line::numbers(out, named, call(h, s, a, b, w));
+    let shown = show_lent(h, a, b, w, out, told);
+    line::put(out, shown, b"\n")
 }
 
 // Writes the output that waits, and answers whether all of it went out.

@@ -1,5 +1,4 @@
 // Ops 1 to 12: the readers.
-use crate::line;
 use crate::numbers;
 use crate::numbers::Numbers;
 use crate::request;
@@ -65,8 +64,8 @@ fn stored(op: u8, settings: u8, s: &[u8], a: &mut [u32], b: &mut [u32]) -> Numbe
     }
 }
 
-// The stores that an op lends.
-fn stores_lent(op: u8) -> u8 {
+// How many stores an op lends.
+pub fn stores_lent(op: u8) -> u8 {
     match op {
         2 | 4 => 1,
         6 | 10 => 2,
@@ -74,36 +73,19 @@ fn stores_lent(op: u8) -> u8 {
     }
 }
 
-fn show_stores(lent: u8, a: &[u32], b: &[u32], out: &mut [u8], at: usize) -> usize {
-    let next = line::words(out, at, a);
-    if lent == 1 {
-        return next;
-    }
-    line::words(out, next, b)
-}
-
-// The places of each store that are lent.
-fn into_stores(
-    op: u8,
-    settings: u8,
-    s: &[u8],
-    a: &mut [u32],
-    b: &mut [u32],
-    out: &mut [u8],
-    at: usize,
-) -> usize {
+// The call, on the places of each store that are lent.
+fn into_stores(op: u8, settings: u8, s: &[u8], a: &mut [u32], b: &mut [u32]) -> Numbers {
     store::fill_words(a);
     store::fill_words(b);
-    let next = line::numbers(out, at, stored(op, settings, s, a, b));
-    show_stores(stores_lent(op), a, b, out, next)
+    stored(op, settings, s, a, b)
 }
 
-// The refusal and the numbers of a reader, and what it left in the stores.
-pub fn answer(h: Head, s: &[u8], a: &mut [u32], b: &mut [u32], out: &mut [u8], at: usize) -> usize {
+// The refusal and the numbers of a reader; what it left stands in the stores.
+pub fn answer(h: Head, s: &[u8], a: &mut [u32], b: &mut [u32]) -> Numbers {
     if stores_lent(h.op) == 0 {
-        return line::numbers(out, at, plain(h.op, h.settings, s));
+        return plain(h.op, h.settings, s);
     }
     let m = wire::least(h.room_a, a.len());
     let n = wire::least(h.room_b, b.len());
-    into_stores(h.op, h.settings, s, &mut a[..m], &mut b[..n], out, at)
+    into_stores(h.op, h.settings, s, &mut a[..m], &mut b[..n])
 }

@@ -1,6 +1,6 @@
 // Ops 13 to 17: the writers.
-use crate::line;
 use crate::numbers;
+use crate::numbers::Numbers;
 use crate::request;
 use crate::request::Head;
 use crate::store;
@@ -36,46 +36,21 @@ fn written(
     }
 }
 
-// The refusal and the bytes written, and what the writer left in the output.
-fn into_output(
-    h: Head,
-    s: &[u8],
-    rows: &mut [u32],
-    more: &mut [u32],
-    w: &mut [u8],
-    out: &mut [u8],
-    at: usize,
-) -> usize {
+// The call, on the numbers of the parts and the places of the output that are lent.
+fn into_output(h: Head, s: &[u8], rows: &mut [u32], more: &mut [u32], w: &mut [u8]) -> Numbers {
     let one = request::part_one(s, h);
     store::decode(one, rows);
     store::decode(request::last_part(s, h), more);
     store::fill_bytes(w);
-    let answer = written(h, one, request::part_two(s, h), rows, more, w);
-    let next = line::numbers(out, at, numbers::of_written(answer));
-    line::bytes(out, next, w)
+    numbers::of_written(written(h, one, request::part_two(s, h), rows, more, w))
 }
 
-// The places lent: a word for each number of the parts that hold numbers, and the output's room.
-pub fn answer(
-    h: Head,
-    s: &[u8],
-    rows: &mut [u32],
-    more: &mut [u32],
-    w: &mut [u8],
-    out: &mut [u8],
-    at: usize,
-) -> usize {
+// The refusal and the bytes written; what the writer left stands in the output. A word is lent for each number of the parts that hold
+// numbers, and of the output its room.
+pub fn answer(h: Head, s: &[u8], rows: &mut [u32], more: &mut [u32], w: &mut [u8]) -> Numbers {
     let m = wire::least(h.one / 4, rows.len());
     let last = request::last_part(s, h);
     let n = wire::least(last.len() / 4, more.len());
     let room = wire::least(h.room_a, w.len());
-    into_output(
-        h,
-        s,
-        &mut rows[..m],
-        &mut more[..n],
-        &mut w[..room],
-        out,
-        at,
-    )
+    into_output(h, s, &mut rows[..m], &mut more[..n], &mut w[..room])
 }

@@ -9,12 +9,6 @@ stores-lent-requires c κs = search needs
 plain-requires : tie.Need-plain-requires
 plain-requires c κs = search needs
 
-numbers-requires : tie.Need-numbers-requires
-numbers-requires c κs = search needs
-
-same-length : tie.Need-same-length
-same-length c = search needs
-
 returns : tie.Need-returns
 returns c = search needs
 
@@ -39,14 +33,11 @@ slice-aggregate-into-stores-2 c = lent _ _ _ (c .before .before .least2 .ensures
 into-stores-requires : tie.Need-into-stores-requires
 into-stores-requires c κs = search needs
 
+same-length : tie.Need-same-length
+same-length c = search needs
+
 same-length-2 : tie.Need-same-length-2
 same-length-2 c = search needs
-
-same-length-3 : tie.Need-same-length-3
-same-length-3 c = search needs
-
-same-length-4 : tie.Need-same-length-4
-same-length-4 c = search needs
 
 returns-2 : tie.Need-returns-2
 returns-2 c = search needs
@@ -57,8 +48,6 @@ answer-spec =
     (tie.spec
     stores-lent-requires
     plain-requires
-    numbers-requires
-    same-length
     returns
     least-requires
     least-requires-2
@@ -67,7 +56,6 @@ answer-spec =
     slice-relend-prefix-into-stores-2
     slice-aggregate-into-stores-2
     into-stores-requires
+    same-length
     same-length-2
-    same-length-3
-    same-length-4
     returns-2)

@@ -45,9 +45,6 @@ same-length-2 c = search needs
 same-length-3 : tie.Need-same-length-3
 same-length-3 c = search needs
 
-same-length-4 : tie.Need-same-length-4
-same-length-4 c = search needs
-
 returns : tie.Need-returns
 returns c = search needs
 
@@ -69,5 +66,4 @@ answer-spec =
     same-length
     same-length-2
     same-length-3
-    same-length-4
     returns)
