@@ -20,6 +20,7 @@ use Rattle.outputs.proofs.put_u32.Reads as put_u32
 use Rattle.copies.proofs.copy_at.Reads as copy_at
 use Rattle.families.specs.Family.{maxOf, modeOf}
 use Rattle.families.specs.declared.Afi.the-variants.{Ipv4}
+use Rattle.families.specs.declared.Form.{Form}
 use Rattle.routes.specs.List.{listOf, sectionOf}
 use Rattle.routes.specs.Prefix.{words}
 use Rattle.routes.specs.Promises.{listMeaning, rowsIn, countAnswer, readAnswer, storeAfter}
@@ -50,7 +51,7 @@ use Rattle.asns.specs.declared.AsnLength.{AsnLength}
 use Rattle.asns.proofs.AggregatorLaws.{bytes-length}
 use Rattle.asns.proofs.RoundTrip as Aggregators
 use Rattle.asns.proofs.encode_aggregator.Reads as encode_aggregator
-use Rattle.paths.specs.Segment.{Segment, knownType, pathOf, pairOf, asnsOf}
+use Rattle.paths.specs.Segment.{Segment, Rule, knownType, pathOf, pairOf, asnsOf}
 use Rattle.paths.specs.Promises as Paths
 use Rattle.paths.specs.Promises.{pathMeaning, pairsAfter, numbersAfter}
 use Rattle.paths.specs.declared.PathAnswer.{PathAnswer}
@@ -117,9 +118,206 @@ write-kept (W.Bytes n) bytes before after size e = kept (given (n ∷ [])) (valu
 write-kept (W.Refused n) bytes before after size e =
     kept (refusal n) (valueIn 0) bytes before after (λ m. refl) (λ fields f. let z : _≡_ {A = ℕ} 0 1 = cc in absurd (omega arith)) e
 
+-- a written list, path, AGGREGATOR, message and UPDATE body, by their definitions
+list-written : (rows : List ℕ) (max : ℕ) (form : Form) (before after : List ℕ) (a : WriteAnswer) → a ≡ writeAnswer rows max form (length before) → after ≡ outAfter rows max form before
+    → Kept (writeMeaning a) (valueIn 0 (writeMeaning a)) before after
+unfolding outAfter
+list-written rows max form before after a e f =
+    write-kept a (bytesOf rows max form) before after (λ n g. written-bytes rows max form before n (sym e ∙ g) .1)
+    (f ∙ ap (λ (x : WriteAnswer). filled (writeMeaning x) (bytesOf rows max form) before) (sym e))
+
+path-written : (rule : Rule) (w : ℕ) (pairs numbers before after : List ℕ) (a : WriteAnswer) → a ≡ encodeAnswer rule w pairs numbers (length before)
+    → after ≡ encodeLeft rule w pairs numbers before → Kept (writeMeaning a) (valueIn 0 (writeMeaning a)) before after
+unfolding encodeLeft
+path-written rule w pairs numbers before after a e f =
+    write-kept a (Writer.lentBytes rule w pairs numbers) before after (λ n g. encode-written rule w pairs numbers (length before) n (sym e ∙ g) .2)
+    (f ∙ ap (λ (x : WriteAnswer). filled (writeMeaning x) (Writer.lentBytes rule w pairs numbers) before) (sym e))
+
+aggregator-written : (asn identifier : ℕ) (width : AsnLength) (before after : List ℕ) (a : WriteAnswer) → a ≡ aggregatorWritten asn identifier width (length before)
+    → after ≡ aggregatorLeft asn identifier width before → Kept (writeMeaning a) (valueIn 0 (writeMeaning a)) before after
+unfolding aggregatorLeft
+aggregator-written asn identifier width before after a e f =
+    write-kept a (aggregatorBytes width asn identifier) before after
+    (λ n g. bytes-length asn identifier width ∙ sym (Aggregators.written-fits asn identifier width (length before) n (sym e ∙ g) .1))
+    (f ∙ ap (λ (x : WriteAnswer). filled (writeMeaning x) (aggregatorBytes width asn identifier) before) (sym e))
+
+message-written : (kind : ℕ) (body before after : List ℕ) (a : WriteAnswer) → a ≡ writeMessage kind body (length before) → after ≡ messageAfter kind body before
+    → Kept (writeMeaning a) (valueIn 0 (writeMeaning a)) before after
+message-written kind body before after a e f =
+    write-kept a (messageBytes kind body) before after (λ n g. message-length kind body (length before) n (sym e ∙ g)) (f ∙ out-by kind body before a (sym e))
+
+update-written : (withdrawn attributes announced : List ℕ) (form : Form) (before after : List ℕ) (a : WriteAnswer) → a ≡ bodyAnswer withdrawn attributes announced form (length before)
+    → after ≡ filled (writeMeaning a) (bodyBytes withdrawn attributes announced form) before → Kept (writeMeaning a) (valueIn 0 (writeMeaning a)) before after
+update-written withdrawn attributes announced form before after a e f =
+    write-kept a (bodyBytes withdrawn attributes announced form) before after
+    (λ n g. Bodies.written-size withdrawn attributes announced form (length before) n (sym e ∙ g)) f
+
 module _ (κs : _) (lent : _) (answer : _) (exit : _) where
-  pub encode-nlri-prefixes-kept : encode_nlri_prefixes.Learnt κs lent answer exit → Kept (writeMeaning answer) (valueIn 0 (writeMeaning answer)) (now (lent .1 .1 .1 .0)) (now (exit .1 .1 .1 .0))
-  unfolding outAfter
-  encode-nlri-prefixes-kept call =
-      write-kept answer _ _ _ (λ n e. written-bytes _ _ _ (now (lent .1 .1 .1 .0)) n (sym (call .0) ∙ e) .1)
-      (call .1 ∙ ap (λ (x : WriteAnswer). filled (writeMeaning x) (bytesOf _ _ _) (now (lent .1 .1 .1 .0))) (sym (call .0)))
+  pub encode-nlri-prefixes-kept : encode_nlri_prefixes.Learnt κs lent answer exit
+      → Kept (writeMeaning answer) (valueIn 0 (writeMeaning answer)) (now (lent .1 .1 .1 .0)) (now (exit .1 .1 .1 .0))
+  encode-nlri-prefixes-kept call = list-written _ _ _ _ _ answer (call .0) (call .1)
+
+module _ (κs : _) (lent : _) (answer : _) (exit : _) where
+  pub encode-as-path-kept : encode_as_path.Learnt κs lent answer exit
+      → Kept (writeMeaning answer) (valueIn 0 (writeMeaning answer)) (now (lent .1 .1 .1 .0)) (now (exit .1 .1 .1 .0))
+  encode-as-path-kept call = path-written _ _ _ _ _ _ answer (call .0) (call .1)
+
+module _ (κs : _) (lent : _) (answer : _) (exit : _) where
+  pub encode-aggregator-kept : encode_aggregator.Learnt κs lent answer exit
+      → Kept (writeMeaning answer) (valueIn 0 (writeMeaning answer)) (now (lent .1 .1 .1 .0)) (now (exit .1 .1 .1 .0))
+  encode-aggregator-kept call = aggregator-written _ _ _ _ _ answer (call .0) (call .1)
+
+module _ (κs : _) (lent : _) (answer : _) (exit : _) where
+  pub encode-bgp-message-kept : encode_bgp_message.Learnt κs lent answer exit
+      → Kept (writeMeaning answer) (valueIn 0 (writeMeaning answer)) (now (lent .1 .1 .0)) (now (exit .1 .1 .0))
+  encode-bgp-message-kept call = message-written _ _ _ _ answer (call .0) (call .1)
+
+module _ (κs : _) (lent : _) (answer : _) (exit : _) where
+  pub encode-bgp-update-message-kept : encode_bgp_update_message.Learnt κs lent answer exit
+      → Kept (writeMeaning answer) (valueIn 0 (writeMeaning answer)) (now (lent .1 .1 .1 .1 .0)) (now (exit .1 .1 .1 .1 .0))
+  encode-bgp-update-message-kept call = update-written _ _ _ _ _ _ answer (call .0) (call .1)
+
+-- two lists with room before and between them: nothing is written by a refusal, and nothing past the second list
+module _ (κs : _) (lent : _) (answer : _) (exit : _) (call : encode_nlri_pair.Learnt κs lent answer exit) where
+  abbrev start : ℕ
+  start = lent .1 .1 .1 .1 .0
+
+  abbrev between : ℕ
+  between = lent .1 .1 .1 .1 .1 .0
+
+  abbrev out : List ℕ
+  out = now (lent .1 .1 .1 .1 .1 .1 .1 .0)
+
+  abbrev outAtExit : List ℕ
+  outAtExit = now (exit .1 .1 .1 .1 .1 .1 .1 .0)
+
+  pub encode-nlri-pair-refused : (n : ℕ) → listsMeaning answer ≡ refusal n → outAtExit ≡ out
+  encode-nlri-pair-refused n e = call .1 ∙ ap (λ (x : Answer). writePairAfter x start between _ _ out) e
+
+  pub encode-nlri-pair-past : (a b : ℕ) → answer ≡ S.Lists a b → drop (writePairEnd start between a b) outAtExit ≡ drop (writePairEnd start between a b) out
+  encode-nlri-pair-past a b e =
+      let fits = write-pair-fits start between _ (length out) a b _ _ _ _ (sym (call .0) ∙ e) in
+      let first : List ℕ = bytesOf (now (lent .0)) _ _ in
+      let second : List ℕ = bytesOf (now (lent .1 .0)) _ _ in
+      let m : length first ≡ a = measured-bytes _ _ _ a (fits .first) .1 in
+      let n : length second ≡ b = measured-bytes _ _ _ b (fits .second) .1 in
+      let end : ℕ = writePairEnd start between a b in
+      let room : end ≤ length out = fits .room in
+      ap (drop end) (call .1 ∙ ap (λ (x : ListsAnswer). writePairAfter (listsMeaning x) start between first second out) e)
+      ∙ drop-laid-past (laid out start first) (start + a + between) second end (omega arith) (omega (arith, length-laid out start first (omega arith)))
+      ∙ drop-laid-past out start first end (omega arith) (omega arith)
+
+-- ---- readers into two stores
+
+module _ (κs : _) (lent : _) (answer : _) (exit : _) (call : parse_as_path.Learnt κs lent answer exit) where
+  abbrev value : List ℕ
+  value = now (lent .0)
+
+  abbrev pairs : List ℕ
+  pairs = now (lent .1 .1 .0)
+
+  abbrev numbers : List ℕ
+  numbers = now (lent .1 .1 .1 .0)
+
+  path : Reading Segment
+  path = pathOf knownType (widthOf (lent .1 .0)) value
+
+  lengths : (a : PathAnswer) (fields : List ℕ) → Paths.readAnswer value path (length pairs) (length numbers) ≡ a → pathMeaning a ≡ given fields
+      → (length (flat pairOf (path .rows)) ≡ 2 * valueIn 0 (pathMeaning a)) × (length (flat asnsOf (path .rows)) ≡ valueIn 1 (pathMeaning a))
+  lengths (T.Path m n) fields e f =
+      let h = read-path value path m n (length pairs) (length numbers) e in
+      (pairs-length (path .rows) ∙ ap (λ (k : ℕ). 2 * k) (h .2), h .3)
+  lengths (T.Refused m) fields e f = let z : _≡_ {A = ℕ} 0 1 = cc in absurd (omega arith)
+
+  -- two places a segment
+  pub parse-as-path-pairs-kept : Kept (pathMeaning answer) (2 * valueIn 0 (pathMeaning answer)) pairs (now (exit .1 .1 .0))
+  unfolding pairsAfter path
+  parse-as-path-pairs-kept =
+      kept (pathMeaning answer) (λ a. 2 * valueIn 0 a) (flat pairOf (path .rows)) pairs _ (λ n. refl) (λ fields e. lengths answer fields (sym (call .0)) e .0)
+      (call .1 .0 ∙ ap (λ (x : PathAnswer). filled (pathMeaning x) (flat pairOf (path .rows)) pairs) (sym (call .0)))
+
+  -- a place a number
+  pub parse-as-path-numbers-kept : Kept (pathMeaning answer) (valueIn 1 (pathMeaning answer)) numbers (now (exit .1 .1 .1 .0))
+  unfolding numbersAfter path
+  parse-as-path-numbers-kept =
+      kept (pathMeaning answer) (valueIn 1) (flat asnsOf (path .rows)) numbers _ (λ n. refl) (λ fields e. lengths answer fields (sym (call .0)) e .1)
+      (call .1 .1 ∙ ap (λ (x : PathAnswer). filled (pathMeaning x) (flat asnsOf (path .rows)) numbers) (sym (call .0)))
+
+-- a section that was counted, in a store
+section-kept : (s : List ℕ) (r : Reading Row) (a : ListAnswer) (before after : List ℕ) → countAnswer s r ≡ a → after ≡ filled (listMeaning a) (flat words (r .rows)) before
+    → Kept (listMeaning a) (6 * rowsIn a) before after
+section-kept s r a before after e f =
+    kept (listMeaning a) (λ x. 6 * valueIn 0 x) (flat words (r .rows)) before after (λ n. refl) (λ fields g. counted-places s r a fields e g) f
+
+-- a store that a refusal leaves
+refusal-kept : (n : ℕ) (count : Answer → ℕ) (values before after : List ℕ) → ((m : ℕ) → count (refusal m) ≡ 0) → after ≡ filled (refusal n) values before
+    → Kept (refusal n) (count (refusal n)) before after
+refusal-kept n count values before after none e =
+    kept (refusal n) count values before after none (λ fields f. let z : _≡_ {A = ℕ} 0 1 = cc in absurd (omega arith)) e
+
+module _ (κs : _) (lent : _) (answer : _) (exit : _) (call : parse_bgp_update_message.Learnt κs lent answer exit) where
+  abbrev body : List ℕ
+  body = now (lent .0)
+
+  counted-both : (first second : ListAnswer) → answer ≡ U.Update first second
+      → (countAnswer (withdrawnOf body) (sectionOf (withdrawnOf body) (maxOf Ipv4) (lent .1 .0)) ≡ first)
+      × (countAnswer (announcedOf body) (sectionOf (announcedOf body) (maxOf Ipv4) (lent .1 .0)) ≡ second)
+  counted-both first second e = counted-sections body (lent .1 .0) first second (read-is-count body (lent .1 .0) _ _ first second (sym (call .0) ∙ e))
+
+  -- each section by itself: a malformed one leaves its own store as it was, and a refusal of the UPDATE both
+  pub update-withdrawn-kept : Kept (withdrawnMeaning answer) (6 * valueIn 0 (withdrawnMeaning answer)) (now (lent .1 .1 .0)) (now (exit .1 .1 .0))
+  update-withdrawn-kept = by answer refl (call .1 .0)
+    where
+      by : (u : UpdateAnswer) → answer ≡ u
+          → now (exit .1 .1 .0) ≡ filled (withdrawnMeaning u) (flat words (sectionOf (withdrawnOf body) (maxOf Ipv4) (lent .1 .0) .rows)) (now (lent .1 .1 .0))
+          → Kept (withdrawnMeaning u) (6 * valueIn 0 (withdrawnMeaning u)) (now (lent .1 .1 .0)) (now (exit .1 .1 .0))
+      by (U.Update first second) e f = section-kept _ _ first _ _ (counted-both first second e .0) f
+      by (U.Refused n) e f = refusal-kept n (λ x. 6 * valueIn 0 x) _ _ _ (λ m. refl) f
+
+  pub update-announced-kept : Kept (announcedMeaning answer) (6 * valueIn 0 (announcedMeaning answer)) (now (lent .1 .1 .1 .0)) (now (exit .1 .1 .1 .0))
+  update-announced-kept = by answer refl (call .1 .1)
+    where
+      by : (u : UpdateAnswer) → answer ≡ u
+          → now (exit .1 .1 .1 .0) ≡ filled (announcedMeaning u) (flat words (sectionOf (announcedOf body) (maxOf Ipv4) (lent .1 .0) .rows)) (now (lent .1 .1 .1 .0))
+          → Kept (announcedMeaning u) (6 * valueIn 0 (announcedMeaning u)) (now (lent .1 .1 .1 .0)) (now (exit .1 .1 .1 .0))
+      by (U.Update first second) e f = section-kept _ _ second _ _ (counted-both first second e .1) f
+      by (U.Refused n) e f = refusal-kept n (λ x. 6 * valueIn 0 x) _ _ _ (λ m. refl) f
+
+module _ (κs : _) (lent : _) (answer : _) (exit : _) (call : read_nlri_pair.Learnt κs lent answer exit) where
+  counted-pair : (first second : ListAnswer) → answer ≡ P.Sections first second
+      → (countAnswer (now (lent .0)) (sectionOf (now (lent .0)) (maxOf (lent .1 .1 .0)) (lent .1 .1 .1 .0)) ≡ first)
+      × (countAnswer (now (lent .1 .0)) (sectionOf (now (lent .1 .0)) (maxOf (lent .1 .1 .0)) (lent .1 .1 .1 .0)) ≡ second)
+  unfolding readPair
+  counted-pair first second e = pair-counted _ _ _ _ first second (sym (call .0) ∙ e)
+
+  pub read-nlri-pair-first-kept : Kept (firstMeaning answer) (6 * valueIn 0 (firstMeaning answer)) (now (lent .1 .1 .1 .1 .0)) (now (exit .1 .1 .1 .1 .0))
+  read-nlri-pair-first-kept = by answer refl (call .1 .0)
+    where
+      by : (p : PairAnswer) → answer ≡ p
+          → now (exit .1 .1 .1 .1 .0) ≡ filled (firstMeaning p) (flat words (sectionOf (now (lent .0)) (maxOf (lent .1 .1 .0)) (lent .1 .1 .1 .0) .rows)) (now (lent .1 .1 .1 .1 .0))
+          → Kept (firstMeaning p) (6 * valueIn 0 (firstMeaning p)) (now (lent .1 .1 .1 .1 .0)) (now (exit .1 .1 .1 .1 .0))
+      by (P.Sections first second) e f = section-kept _ _ first _ _ (counted-pair first second e .0) f
+      by (P.Refused n) e f = refusal-kept n (λ x. 6 * valueIn 0 x) _ _ _ (λ m. refl) f
+
+  pub read-nlri-pair-second-kept : Kept (secondMeaning answer) (6 * valueIn 0 (secondMeaning answer)) (now (lent .1 .1 .1 .1 .1 .0)) (now (exit .1 .1 .1 .1 .1 .0))
+  read-nlri-pair-second-kept = by answer refl (call .1 .1)
+    where
+      by : (p : PairAnswer) → answer ≡ p
+          → now (exit .1 .1 .1 .1 .1 .0) ≡ filled (secondMeaning p) (flat words (sectionOf (now (lent .1 .0)) (maxOf (lent .1 .1 .0)) (lent .1 .1 .1 .0) .rows)) (now (lent .1 .1 .1 .1 .1 .0))
+          → Kept (secondMeaning p) (6 * valueIn 0 (secondMeaning p)) (now (lent .1 .1 .1 .1 .1 .0)) (now (exit .1 .1 .1 .1 .1 .0))
+      by (P.Sections first second) e f = section-kept _ _ second _ _ (counted-pair first second e .1) f
+      by (P.Refused n) e f = refusal-kept n (λ x. 6 * valueIn 0 x) _ _ _ (λ m. refl) f
+
+-- ---- numbers and bytes put at a place: there is no refusal number, and where there is no room nothing is put
+
+module _ (κs : _) (lent : _) (answer : _) (exit : _) where
+  pub put-u16-no-room : put_u16.Learnt κs lent answer exit → length (now (lent .0)) < lent .1 .0 + 2 → now (exit .0) ≡ now (lent .0)
+  put-u16-no-room call h = call ∙ placed-not (now (lent .0)) (lent .1 .0) (toBe 2 (lent .1 .1 .0)) h
+
+module _ (κs : _) (lent : _) (answer : _) (exit : _) where
+  pub put-u32-no-room : put_u32.Learnt κs lent answer exit → length (now (lent .0)) < lent .1 .0 + 4 → now (exit .0) ≡ now (lent .0)
+  put-u32-no-room call h = call ∙ placed-not (now (lent .0)) (lent .1 .0) (toBe 4 (lent .1 .1 .0)) h
+
+module _ (κs : _) (lent : _) (answer : _) (exit : _) where
+  pub copy-at-no-room : copy_at.Learnt κs lent answer exit → length (now (lent .0)) < lent .1 .0 + length (now (lent .1 .1 .0)) → now (exit .0) ≡ now (lent .0)
+  copy-at-no-room call h = call ∙ placed-not (now (lent .0)) (lent .1 .0) (now (lent .1 .1 .0)) h

@@ -294,7 +294,7 @@ module _ (κs : _) (given : _) (answer : _) (exit : _) (call : «encode_as_path�
   numberSize = widthOf (given .1 .1 .0)
 
   abbrev pathSize : ℕ
-  pathSize = length (Paths.bytesOf knownType numberSize pairs numbers)
+  pathSize = length (Paths.lentBytes knownType numberSize pairs numbers)
 
   -- whole pairs whose counts use up the numbers, in segments that can be written, of up to 65,535 bytes, are written, given room
   pub path-is-written : addsUp pairs (length numbers) ≡ true → lentPath knownType numberSize pairs numbers .verdict ≡ 0 → pathSize ≤ listLimit

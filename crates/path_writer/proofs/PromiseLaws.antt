@@ -19,14 +19,14 @@ use Rattle.wire.specs.declared.WriteAnswer.the-variants as W
 use Rattle.path_writer.specs.Write.{addsUp, lentPath}
 use Rattle.path_writer.proofs.WriteLaws.{path-length}
 use Rattle.path_writer.proofs.Lent.{lent-back}
-use Rattle.path_writer.specs.Promises.{bytesOf, encodeAnswer, encodeLeft}
+use Rattle.path_writer.specs.Promises.{lentBytes, encodeAnswer, encodeLeft}
 
 module _ (rule : Rule) (w : ℕ) (pairs numbers : List ℕ) where
   -- an answer, and the output that goes with it
   pub leave : (out : List ℕ) (x : WriteAnswer) → encodeAnswer rule w pairs numbers (length out) ≡ x
-      → (x ≡ encodeAnswer rule w pairs numbers (length out)) × (filled (writeMeaning x) (bytesOf rule w pairs numbers) out ≡ encodeLeft rule w pairs numbers out)
+      → (x ≡ encodeAnswer rule w pairs numbers (length out)) × (filled (writeMeaning x) (lentBytes rule w pairs numbers) out ≡ encodeLeft rule w pairs numbers out)
   unfolding encodeLeft
-  leave out x e = (sym e, ap (λ (y : WriteAnswer). filled (writeMeaning y) (bytesOf rule w pairs numbers) out) (sym e))
+  leave out x e = (sym e, ap (λ (y : WriteAnswer). filled (writeMeaning y) (lentBytes rule w pairs numbers) out) (sym e))
 
   module _ (places : ℕ) where
     pub not-whole : addsUp pairs (length numbers) ≡ false → encodeAnswer rule w pairs numbers places ≡ W.Refused notWritable
@@ -41,8 +41,8 @@ module _ (rule : Rule) (w : ℕ) (pairs numbers : List ℕ) where
 
       module _ (good : 0 ≡ lentPath rule w pairs numbers .verdict) where
         -- the size, from the stores' lengths alone
-        pub size-is : length (bytesOf rule w pairs numbers) ≡ length pairs + span w (length numbers)
-        unfolding bytesOf
+        pub size-is : length (lentBytes rule w pairs numbers) ≡ length pairs + span w (length numbers)
+        unfolding lentBytes
         size-is =
             let back = lent-back rule w pairs numbers adds (sym good) in
             path-length w (lentPath rule w pairs numbers .rows) ∙ ap₂ (λ (p n : List ℕ). length p + span w (length n)) (back .1) (back .2)
@@ -63,7 +63,7 @@ module _ (rule : Rule) (w : ℕ) (pairs numbers : List ℕ) where
 
     -- what an accepted writing says
     pub encode-written : (n : ℕ) → encodeAnswer rule w pairs numbers places ≡ W.Bytes n
-        → (addsUp pairs (length numbers) ≡ true) × (lentPath rule w pairs numbers .verdict ≡ 0) × (length (bytesOf rule w pairs numbers) ≡ n) × (n ≤ listLimit) × (n ≤ places)
+        → (addsUp pairs (length numbers) ≡ true) × (lentPath rule w pairs numbers .verdict ≡ 0) × (length (lentBytes rule w pairs numbers) ≡ n) × (n ≤ listLimit) × (n ≤ places)
     unfolding encodeAnswer
     encode-written n = by-adds (addsUp pairs (length numbers))
       where
@@ -71,12 +71,12 @@ module _ (rule : Rule) (w : ℕ) (pairs numbers : List ℕ) where
         by-verdict zero size e = let b = limited-bytes listLimit size places n e in (refl, b .2, rw (b .2) at (b .0), rw (b .2) at (b .1))
         by-verdict (suc v) size e = let z : _≡_ {A = ℕ} 0 1 = cc in absurd (omega (arith, z))
 
-        by-adds : (t : Bool) → pick t (answerBy (lentPath rule w pairs numbers .verdict) (limited listLimit (length (bytesOf rule w pairs numbers)) places) W.Refused) (W.Refused notWritable) ≡ W.Bytes n
-            → (t ≡ true) × (lentPath rule w pairs numbers .verdict ≡ 0) × (length (bytesOf rule w pairs numbers) ≡ n) × (n ≤ listLimit) × (n ≤ places)
-        by-adds true e = let h = by-verdict (lentPath rule w pairs numbers .verdict) (length (bytesOf rule w pairs numbers)) e in (refl, h .0, h .1, h .2, h .3)
+        by-adds : (t : Bool) → pick t (answerBy (lentPath rule w pairs numbers .verdict) (limited listLimit (length (lentBytes rule w pairs numbers)) places) W.Refused) (W.Refused notWritable) ≡ W.Bytes n
+            → (t ≡ true) × (lentPath rule w pairs numbers .verdict ≡ 0) × (length (lentBytes rule w pairs numbers) ≡ n) × (n ≤ listLimit) × (n ≤ places)
+        by-adds true e = let h = by-verdict (lentPath rule w pairs numbers .verdict) (length (lentBytes rule w pairs numbers)) e in (refl, h .0, h .1, h .2, h .3)
         by-adds false e = let z : _≡_ {A = ℕ} 0 1 = cc in absurd (omega (arith, z))
 
   -- the output of an accepted writing
-  pub written-out : (out : List ℕ) (n : ℕ) → encodeAnswer rule w pairs numbers (length out) ≡ W.Bytes n → encodeLeft rule w pairs numbers out ≡ laid out 0 (bytesOf rule w pairs numbers)
+  pub written-out : (out : List ℕ) (n : ℕ) → encodeAnswer rule w pairs numbers (length out) ≡ W.Bytes n → encodeLeft rule w pairs numbers out ≡ laid out 0 (lentBytes rule w pairs numbers)
   unfolding encodeLeft
-  written-out out n e = ap (λ (y : WriteAnswer). filled (writeMeaning y) (bytesOf rule w pairs numbers) out) e
+  written-out out n e = ap (λ (y : WriteAnswer). filled (writeMeaning y) (lentBytes rule w pairs numbers) out) e

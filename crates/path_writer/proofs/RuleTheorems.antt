@@ -23,7 +23,7 @@ use Rattle.paths.specs.declared.PathAnswer.the-variants.{Path}
 use Rattle.wire.specs.declared.WriteAnswer.the-variants as W
 use Rattle.path_writer.specs.Write.{segmentBytes, lentPath, pathBytes}
 use Rattle.path_writer.proofs.Lent.{WritableSegment, lent-back, lend}
-use Rattle.path_writer.specs.Promises.{bytesOf, encodeAnswer, encodeLeft}
+use Rattle.path_writer.specs.Promises.{lentBytes, encodeAnswer, encodeLeft}
 use Rattle.path_writer.proofs.PromiseLaws.{size-is, all-written, encode-written, written-out}
 use Rattle.path_writer.proofs.RoundTrip.{stands}
 
@@ -113,7 +113,7 @@ module _ (rule : Rule) (allowed : ℕ → ℕ → Type 0) (for : RuleFor rule al
           let pairs′ : List ℕ = take (2 * m) (pairsAfter s (pathOf rule w s) pairs (length numbers)) in
           let numbers′ : List ℕ = take n (numbersAfter s (pathOf rule w s) (length pairs) numbers) in
           (encodeAnswer rule w pairs′ numbers′ (length out) ≡ W.Bytes (length s)) × (encodeLeft rule w pairs′ numbers′ out ≡ laid out 0 s)
-      unfolding bytesOf
+      unfolding lentBytes
       read-written out room =
           let rows : List Segment = pathOf rule w s .rows in
           let r = read-path s (pathOf rule w s) m n (length pairs) (length numbers) e in
@@ -125,7 +125,7 @@ module _ (rule : Rule) (allowed : ℕ → ℕ → Type 0) (for : RuleFor rule al
           let q-is : take n (numbersAfter s (pathOf rule w s) (length pairs) numbers) ≡ q = ap (take n) (st .1) ∙ front numbers q n (r .3) in
           let l = lend rule w rows (a .0) in
           let good : 0 ≡ lentPath rule w p q .verdict = sym (ap (λ (x : Reading Segment). x .verdict) (l .0)) in
-          let bytes : bytesOf rule w p q ≡ s = ap (λ (x : Reading Segment). pathBytes w (x .rows)) (l .0) ∙ a .1 in
+          let bytes : lentBytes rule w p q ≡ s = ap (λ (x : Reading Segment). pathBytes w (x .rows)) (l .0) ∙ a .1 in
           let size : length p + span w (length q) ≡ length s = sym (size-is rule w p q (length out) (l .1) good) ∙ ap length bytes in
           let answer : encodeAnswer rule w p q (length out) ≡ W.Bytes (length s) =
           all-written rule w p q (length out) (l .1) good (omega (arith, size, r .0)) (omega (arith, size)) ∙ ap W.Bytes size in (
@@ -143,7 +143,7 @@ module _ (rule : Rule) (allowed : ℕ → ℕ → Type 0) (for : RuleFor rule al
   pub written-once : (pairs numbers out : List ℕ) (n : ℕ) (pairs′ numbers′ out′ : List ℕ) (n′ : ℕ)
       → encodeAnswer rule w pairs numbers (length out) ≡ W.Bytes n → encodeAnswer rule w pairs′ numbers′ (length out′) ≡ W.Bytes n′
       → take n (encodeLeft rule w pairs numbers out) ≡ take n′ (encodeLeft rule w pairs′ numbers′ out′) → (pairs ≡ pairs′) × (numbers ≡ numbers′)
-  unfolding bytesOf
+  unfolding lentBytes
   written-once pairs numbers out n pairs′ numbers′ out′ n′ e e′ same =
       let h = encode-written rule w pairs numbers (length out) n e in
       let h′ = encode-written rule w pairs′ numbers′ (length out′) n′ e′ in

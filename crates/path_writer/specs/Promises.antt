@@ -11,16 +11,16 @@ use Rattle.wire.specs.declared.WriteAnswer.the-variants as W
 use Rattle.path_writer.specs.Write.{addsUp, lentPath, pathBytes}
 
 -- the bytes of what is lent
-unfoldable pub bytesOf : Rule → ℕ → List ℕ → List ℕ → List ℕ
-bytesOf rule w pairs numbers = pathBytes w (lentPath rule w pairs numbers .rows)
+unfoldable pub lentBytes : Rule → ℕ → List ℕ → List ℕ → List ℕ
+lentBytes rule w pairs numbers = pathBytes w (lentPath rule w pairs numbers .rows)
 
 -- 14 first; then the verdict on the segments; then 1 and 11 by the size
 unfoldable pub encodeAnswer : Rule → ℕ → List ℕ → List ℕ → ℕ → WriteAnswer
 encodeAnswer rule w pairs numbers places =
     pick (addsUp pairs (length numbers))
-    (answerBy (lentPath rule w pairs numbers .verdict) (limited listLimit (length (bytesOf rule w pairs numbers)) places) W.Refused)
+    (answerBy (lentPath rule w pairs numbers .verdict) (limited listLimit (length (lentBytes rule w pairs numbers)) places) W.Refused)
     (W.Refused notWritable)
 
 -- the output afterwards
 unfoldable pub encodeLeft : Rule → ℕ → List ℕ → List ℕ → List ℕ → List ℕ
-encodeLeft rule w pairs numbers out = filled (writeMeaning (encodeAnswer rule w pairs numbers (length out))) (bytesOf rule w pairs numbers) out
+encodeLeft rule w pairs numbers out = filled (writeMeaning (encodeAnswer rule w pairs numbers (length out))) (lentBytes rule w pairs numbers) out

@@ -11,7 +11,7 @@ ghost use Rattle.wire.specs.Walk.{flat};
 ghost use Rattle.asns.specs.Asn.{widthOf};
 ghost use Rattle.paths.specs.Segment.{knownType};
 ghost use Rattle.path_writer.specs.Write.{addsUp, allFit, writeFault, lentPath};
-ghost use Rattle.path_writer.specs.Promises.{bytesOf, encodeAnswer, encodeLeft};
+ghost use Rattle.path_writer.specs.Promises.{lentBytes, encodeAnswer, encodeLeft};
 use asns::AsnLength;
 use wire::WriteAnswer;
 use wire::refusal;
@@ -232,8 +232,8 @@ fn put_ahead(
 fn write_segments(pairs: &[u32], numbers: &[u32], width: AsnLength, out: &mut [u8], total: usize)
     requires { ⌜ addsUp (now pairs) (length (now numbers)) ≡ true ⌝ }
     requires { ⌜ lentPath knownType (widthOf width) (now pairs) (now numbers) .verdict ≡ 0 ⌝ }
-    requires { ⌜ (total ≡ length (bytesOf knownType (widthOf width) (now pairs) (now numbers))) × (total ≤ length (now out)) ⌝ }
-    ensures { λ _. ⌜ now (out .exit) ≡ laid (now (out .entry)) 0 (bytesOf knownType (widthOf width) (now (pairs .entry)) (now (numbers .entry))) ⌝ }
+    requires { ⌜ (total ≡ length (lentBytes knownType (widthOf width) (now pairs) (now numbers))) × (total ≤ length (now out)) ⌝ }
+    ensures { λ _. ⌜ now (out .exit) ≡ laid (now (out .entry)) 0 (lentBytes knownType (widthOf width) (now (pairs .entry)) (now (numbers .entry))) ⌝ }
 {
     let mut at: usize = 0;
     let mut from: usize = 0;

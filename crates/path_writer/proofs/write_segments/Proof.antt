@@ -8,7 +8,7 @@ use lib.ListN.{length, getD}
 use Rattle.wire.proofs.StoreLaws.{length-laid}
 use Rattle.asns.specs.Asn.{widthOf, span}
 use Rattle.paths.specs.Segment.{knownType}
-use Rattle.path_writer.specs.Promises.{bytesOf}
+use Rattle.path_writer.specs.Promises.{lentBytes}
 use Rattle.path_writer.proofs.WriteTurn.{WritingAhead, total, ahead-start, ahead-long, ahead-fits, ahead-next, ahead-done, writing-inside, writing-fine, body-length}
 use Rattle.path_writer.proofs.Lent.{lent-fit}
 use Rattle.path_writer.proofs.write_segments.Statement.{statement}
@@ -22,7 +22,7 @@ abbrev μ-loop : tie.MeasureT-loop
 
 -- the size that is handed over is that of the path's bytes
 sized : (k : tie.After-slice-known Inv-loop μ-loop) → let a = k .before .before .before .args in a .total ≡ total knownType (widthOf (a .width)) (a .pairs .now) (a .numbers .now) (a .out .now)
-unfolding bytesOf
+unfolding lentBytes
 sized k = k .before .before .before .pre .1 .1 .0
 
 loop-holds : tie.Need-loop-holds Inv-loop μ-loop
@@ -132,7 +132,7 @@ same-length c =
     ahead-long knownType (widthOf (a .width)) (a .pairs .now) (a .numbers .now) (a .out .now) (l .loop .at) (l .loop .from) (l .loop .to) (l .loop .out) (l .loop .inv)
 
 returns : tie.Need-returns Inv-loop μ-loop
-unfolding bytesOf
+unfolding lentBytes
 returns c =
     let l = c .before in
     let a = l .before .before .before .before .args in
