@@ -3,7 +3,7 @@ use mathlib.Core.List.{[], _∷_}
 use native.Mathlib.Omega.{arith}
 use borrow.Author.Tests.{lt-ltb, le-ltb}
 use Rattle.wire.proofs.StoreLaws.{puts-laid}
-use Rattle.words.proofs.FlagLaws.{flag-byte}
+use Rattle.firmware.proofs.AggregatorBounds.{differs-byte}
 use borrow.Author.Needs.{needs}
 use Rattle.firmware.proofs.aggregator.doorbramble_parse_aggregator.Statement.{statement}
 use Rattle.firmware.proofs.aggregator.doorbramble_parse_aggregator.Tie as tie
@@ -54,7 +54,7 @@ returns-2 : tie.Need-returns-2
 returns-2 c =
     let room = c .before .if1 .left in
     let told = c .before .before .before .asn .given in
-    rw (← c .before .before .before .before .before .before .asn-length-of .ensures, ← c .before .before .before .before .before .parse-aggregator .ensures, told .1, le-ltb _ _ room, ← flag-byte (told .0 .1 .1 .0))
+    rw (← c .before .before .before .before .before .before .asn-length-of .ensures, ← c .before .before .before .before .before .parse-aggregator .ensures, told .1, le-ltb _ _ room, differs-byte (told .0 .0) (told .0 .1 .0) (told .0 .1 .1 .0))
     (c .word2 .ensures, puts-laid (c .before .before .before .before .before .before .before .before .before .args .words .now) 0 (told .0 .0 ∷ told .0 .1 .0 ∷ []) (omega (arith, room)))
 
 returns-3 : tie.Need-returns-3
