@@ -156,6 +156,21 @@ fn refill(state: State, input: &mut [u8], out: &[u8]) -> State {
     }
 }
 
+// A whole record of so many bytes is answered.
+fn answered(
+    state: State,
+    size: usize,
+    input: &[u8],
+    a: &mut [u32],
+    b: &mut [u32],
+    w: &mut [u8],
+    out: &mut [u8],
+) -> State {
+    let s = wire::part(input, state.start, size);
+    let at = answer(s, state.record, a, b, w, out, state.at);
+    after(state, size, at, out)
+}
+
 // One turn: a record is answered, or more is read, or the run ends.
 fn turn(
     state: State,
@@ -165,14 +180,9 @@ fn turn(
     w: &mut [u8],
     out: &mut [u8],
 ) -> State {
-    let start = state.start;
-    let left = request::minus(state.have, start);
-    match request::judge(wire::part(input, start, left), state.ended) {
-        Judged::Whole(size) => {
-            let s = wire::part(input, start, size);
-            let at = answer(s, state.record, a, b, w, out, state.at);
-            after(state, size, at, out)
-        }
+    let left = request::minus(state.have, state.start);
+    match request::judge(wire::part(input, state.start, left), state.ended) {
+        Judged::Whole(size) => answered(state, size, input, a, b, w, out),
         Judged::More => refill(state, input, out),
         Judged::Wrong => stop(state, out),
         Judged::End => finish(state, state.at, out),
