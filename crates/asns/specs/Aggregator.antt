@@ -7,7 +7,7 @@ use lib.Dec.{leb, eqb}
 use Rattle.wire.specs.Choice.{pick}
 use Rattle.wire.specs.Number.{beAt, toBe}
 use Rattle.wire.specs.Refusal.{tooLong, aggregatorLength, noRoom, wideNumber, listLimit}
-use Rattle.wire.specs.Answer.{Answer, given, refusal, filled, writeMeaning}
+use Rattle.wire.specs.Answer.{Answer, given, refusal, flag, filled, writeMeaning}
 use Rattle.asns.specs.Asn.{widthOf, fitsWidth}
 use Rattle.asns.specs.declared.AsnLength.{AsnLength}
 use Rattle.asns.specs.declared.AsnLength.the-variants.{Bits16, Bits32}
@@ -20,7 +20,7 @@ use Rattle.wire.specs.declared.WriteAnswer.the-variants as W
 
 -- the number, the identifier, and 1 where the width is not the configured one
 abbrev pub aggregatorMeaning : AggregatorAnswer → Answer
-aggregatorMeaning (A.Aggregator asn identifier differs) = given (asn ∷ identifier ∷ pick differs 1 0 ∷ [])
+aggregatorMeaning (A.Aggregator asn identifier differs) = given (asn ∷ identifier ∷ flag differs ∷ [])
 aggregatorMeaning (A.Refused n) = refusal n
 
 -- the width found is not the one configured

@@ -7,7 +7,7 @@ use mathlib.Core.List.{List, map}
 use denote.Ref.{RefT, now}
 use lib.ListN.{length, take}
 use Rattle.wire.specs.Cutting.{Cutting}
-use Rattle.wire.specs.Number.{Bytes}
+use Rattle.wire.specs.Number.{Bytes, Words}
 use Rattle.wire.specs.Refusal.{listLimit}
 use Rattle.wire.specs.Store.{laid}
 use Rattle.wire.specs.Walk.{pieces, flat}
@@ -27,7 +27,6 @@ use Rattle.routes.proofs.count_nlri_list.Reads as count_nlri_list
 use Rattle.routes.proofs.count_nlri.Reads as count_nlri
 use Rattle.route_reader.proofs.parse_nlri_list.Reads as parse_nlri_list
 use Rattle.route_reader.proofs.read_nlri.Reads as read_nlri
-use Rattle.route_bytes.specs.Encode.{Words}
 use Rattle.route_writer.specs.Promises.{writeAnswer, outAfter}
 use Rattle.route_writer.proofs.encode_nlri_prefixes.Reads as encode_nlri_prefixes
 use Rattle.route_writer.proofs.RouteTheorems as Laws

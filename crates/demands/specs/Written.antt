@@ -8,6 +8,7 @@ use native.Mathlib.Omega.{arith}
 use denote.Ref.{now}
 use lib.ListN.{length, take}
 use lib.Dec.{ltb}
+use Rattle.wire.specs.Number.{Words}
 use Rattle.wire.specs.Extent.{within}
 use Rattle.wire.specs.Refusal.{listLimit, bodyLimit}
 use Rattle.wire.specs.Store.{laid}
@@ -31,7 +32,7 @@ use Rattle.families.specs.declared.AddPath.{AddPath}
 use Rattle.families.specs.declared.Form.{Form}
 use Rattle.routes.specs.List.{fixed}
 use Rattle.routes.specs.declared.ListAnswer.the-variants.{Rows}
-use Rattle.route_bytes.specs.Encode.{writing, bytesOf, Words}
+use Rattle.route_bytes.specs.Encode.{writing, bytesOf}
 use Rattle.route_writer.specs.Promises.{writeAnswer}
 use Rattle.route_writer.proofs.encode_nlri_prefixes.Reads as encode_nlri_prefixes
 use Rattle.updates.specs.Body.{partsOf, withdrawnOf, attributesOf, announcedOf}

@@ -4,20 +4,15 @@ use mathlib.Core.List.{List, [], _∷_}
 use mathlib.Core.Bool.{Bool, true, false, not}
 use lib.ListN.{length, getD, take}
 use lib.Dec.{ltb, eqb}
-use Rattle.wire.specs.Answer.{Answer, given, refusal}
+use Rattle.wire.specs.Answer.{Answer, given, refusal, valueIn, flag, handed}
 use Rattle.wire.specs.Choice.{pick}
-use Rattle.wire.specs.Extent.{Extent, nothing}
+use Rattle.wire.specs.Extent.{Extent, extent}
 use Rattle.wire.specs.Number.{beAt}
 use Rattle.wire.specs.Refusal.{truncated, messageLength, messageType, shortBody, badMarker}
 use Rattle.messages.specs.declared.MessageAnswer.{MessageAnswer}
 use Rattle.messages.specs.declared.MessageAnswer.the-variants.{Message, Refused}
 
 -- ---- a message as document 01 has it: type, claimed, taken, and the flags marker, cut and trailing
-
--- 1 where it is set, and else 0
-abbrev pub flag : Bool → ℕ
-flag true = 1
-flag false = 0
 
 abbrev pub messageMeaning : MessageAnswer → Answer
 messageMeaning (Message kind claimed taken marker cut trailing) = given (kind ∷ claimed ∷ taken ∷ flag marker ∷ flag cut ∷ flag trailing ∷ [])
@@ -143,5 +138,4 @@ strictOf s = strictWithin messageLimit s
 
 -- what is taken past the header, and nothing where the message is refused
 abbrev pub bodyAt : MessageAnswer → Extent
-bodyAt (Message kind claimed taken marker cut trailing) = record { start = headerSize; size = taken - headerSize }
-bodyAt (Refused n) = nothing
+bodyAt a = handed (messageMeaning a) (extent headerSize (valueIn 2 (messageMeaning a) - headerSize))

@@ -11,7 +11,7 @@ use lib.ListN.{length, getD, take, drop, replicate, length-drop, take-append-dro
 use lib.Dec.{eqb}
 use lib.Seq.{take-length, length-take-le, take-at, drop-at, getD-at, getD-drop, drop-drop, take-append-seam, drop-append-seam}
 use Rattle.wire.specs.Cutting.{Each, none, one}
-use Rattle.wire.specs.Number.{be, toBe, padded, beAt, Bytes}
+use Rattle.wire.specs.Number.{be, toBe, padded, beAt, Bytes, Words}
 use Rattle.wire.specs.Walk.{took, more, readAll, flat}
 use Rattle.wire.proofs.ChoiceLaws.{and-true}
 use Rattle.wire.proofs.CuttingLaws.{Stands}
@@ -23,7 +23,7 @@ use Rattle.families.specs.declared.Form.the-variants.{Plain, Tagged}
 use Rattle.routes.specs.Prefix.{wordAt, rowOf, itemRow, words}
 use Rattle.routes.specs.WellFormed.{WellFormed}
 use Rattle.routes.specs.declared.Row.{Row}
-use Rattle.route_bytes.specs.Encode.{fourWords, address, lengthOf, rowBytes, allZero, idFits, frontRow, writeStep, Words}
+use Rattle.route_bytes.specs.Encode.{fourWords, address, lengthOf, rowBytes, allZero, idFits, frontRow, writeStep}
 use Rattle.route_bytes.proofs.EncodeLaws.{WritableRow, address-length, write-took, took-write, write-sound}
 
 -- ---- octets that are 0

@@ -64,7 +64,3 @@ writing ws max form = readAll (writeStep max form) tt ws
 -- their bytes, one row after another
 unfoldable pub bytesOf : List ℕ → ℕ → Form → List ℕ
 bytesOf ws max form = flat (rowBytes form) (writing ws max form .rows)
-
--- a store of 32-bit numbers, as every lent one is
-abbrev pub Words : List ℕ → Type 0
-Words ws = (i : ℕ) → getD ws i 0 < 2 ^ 32

@@ -7,6 +7,7 @@ use native.Mathlib.Nat.{lt-of-not-le}
 use native.Mathlib.Decide.{decLe}
 use native.Mathlib.Omega.{arith}
 use lib.ListN.{length, take, length-map}
+use Rattle.wire.specs.Number.{Words}
 use Rattle.wire.specs.Cutting.{Cutting}
 use Rattle.wire.specs.Number as Number
 use Rattle.wire.specs.Refusal.{listLimit}
@@ -29,7 +30,7 @@ use Rattle.routes.specs.declared.ListAnswer.the-variants.{Rows, Refused}
 use Rattle.routes.specs.declared.Row.{Row}
 use Rattle.routes.proofs.CuttingLaws.{decides, guess-same, cut-not-strange}
 use Rattle.routes.proofs.ListLaws.{words-length, count-long, count-good, count-rows, leave-refused, leave-full, leave-rows, section-list, section-counted}
-use Rattle.route_bytes.specs.Encode.{rowBytes, writing, bytesOf, Words}
+use Rattle.route_bytes.specs.Encode.{rowBytes, writing, bytesOf}
 use Rattle.route_bytes.proofs.PromiseLaws.{measured-good}
 use Rattle.route_bytes.proofs.RowLaws.{GoodRow, stands, rows-write, store-rows}
 use Rattle.route_writer.specs.Promises.{writeAnswer, outAfter}

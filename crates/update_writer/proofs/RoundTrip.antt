@@ -7,7 +7,7 @@ use native.Mathlib.Omega.{arith}
 use borrow.Author.Tests.{le-leb}
 use lib.ListN.{length, take, drop, length-append}
 use lib.Seq.{take-at, drop-at, drop-drop, take-length}
-use Rattle.wire.specs.Number.{toBe, beAt}
+use Rattle.wire.specs.Number.{toBe, beAt, Words}
 use Rattle.wire.specs.Refusal.{listLimit, bodyLimit}
 use Rattle.wire.specs.Walk.{Reading, flat}
 use Rattle.wire.proofs.WalkLaws.{tally-one}
@@ -26,7 +26,7 @@ use Rattle.routes.proofs.CuttingLaws.{decides, cut-not-strange}
 use Rattle.routes.specs.declared.Row.{Row}
 use Rattle.routes.specs.declared.ListAnswer.the-variants.{Rows}
 use Rattle.route_reader.specs.Pair.{readPairBy, readPair}
-use Rattle.route_bytes.specs.Encode.{rowBytes, writing, bytesOf, Words}
+use Rattle.route_bytes.specs.Encode.{rowBytes, writing, bytesOf}
 use Rattle.route_bytes.proofs.RowLaws.{GoodRow, stands, store-rows}
 use Rattle.route_bytes.specs.Promises.{measured}
 use Rattle.route_bytes.proofs.PromiseLaws.{measured-bytes}

@@ -4,9 +4,9 @@ use Prim.Native.Nat.{ℕ, _+_, _-_}
 use mathlib.Core.List.{List, [], _∷_}
 use lib.ListN.{length}
 use lib.Dec.{ltb}
-use Rattle.wire.specs.Answer.{Answer, given, refusal}
+use Rattle.wire.specs.Answer.{Answer, given, refusal, valueIn, handed}
 use Rattle.wire.specs.Choice.{pick}
-use Rattle.wire.specs.Extent.{Extent, nothing, within}
+use Rattle.wire.specs.Extent.{Extent, extent, within}
 use Rattle.wire.specs.Number.{beAt}
 use Rattle.wire.specs.Refusal.{tooLong, truncated, bodyLimit}
 use Rattle.updates.specs.declared.PartsAnswer.{PartsAnswer}
@@ -48,16 +48,14 @@ partsOf b =
 -- ---- the sections as parts of the body, and nothing where it is refused
 
 abbrev pub withdrawnAt : PartsAnswer → Extent
-withdrawnAt (Parts w a n) = record { start = lengthSize; size = w }
-withdrawnAt (Refused m) = nothing
+withdrawnAt p = handed (partsMeaning p) (extent lengthSize (valueIn 0 (partsMeaning p)))
 
 abbrev pub attributesAt : PartsAnswer → Extent
-attributesAt (Parts w a n) = record { start = lengthSize + w + lengthSize; size = a }
-attributesAt (Refused m) = nothing
+attributesAt p = handed (partsMeaning p) (extent (lengthSize + valueIn 0 (partsMeaning p) + lengthSize) (valueIn 1 (partsMeaning p)))
 
 abbrev pub announcedAt : PartsAnswer → Extent
-announcedAt (Parts w a n) = record { start = lengthSize + w + lengthSize + a; size = n }
-announcedAt (Refused m) = nothing
+announcedAt p =
+    handed (partsMeaning p) (extent (lengthSize + valueIn 0 (partsMeaning p) + lengthSize + valueIn 1 (partsMeaning p)) (valueIn 2 (partsMeaning p)))
 
 unfoldable pub withdrawnOf : List ℕ → List ℕ
 withdrawnOf b = within (withdrawnAt (partsOf b)) b

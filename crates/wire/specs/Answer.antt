@@ -6,6 +6,7 @@ use mathlib.Core.Bool.{Bool, true, false}
 use lib.ListN.{getD}
 use lib.Dec.{leb}
 use Rattle.wire.specs.Choice.{pick}
+use Rattle.wire.specs.Extent.{Extent, nothing}
 use Rattle.wire.specs.Refusal.{tooLong, noRoom, pastAll}
 use Rattle.wire.specs.Store.{laid}
 use Rattle.wire.specs.declared.WriteAnswer.{WriteAnswer}
@@ -34,6 +35,11 @@ flag false = 0
 abbrev pub filled : Answer → List ℕ → List ℕ → List ℕ
 filled (given fields) values store = laid store 0 values
 filled (refusal n) values store = store
+
+-- a part that is handed back: where something is given, and nothing where it is refused
+abbrev pub handed : Answer → Extent → Extent
+handed (given values) part = part
+handed (refusal n) part = nothing
 
 -- by a verdict: what is good where it is 0, and else a refusal
 abbrev pub answerBy : {X : Type 0} → ℕ → X → (ℕ → X) → X

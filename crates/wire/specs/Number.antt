@@ -26,3 +26,7 @@ beAt s at n = be (padded n (drop at s))
 -- each is a byte
 abbrev pub Bytes : List ℕ → Type 0
 Bytes s = (i : ℕ) → getD s i 0 < 256
+
+-- each is a 32-bit number
+abbrev pub Words : List ℕ → Type 0
+Words s = (i : ℕ) → getD s i 0 < 2 ^ 32
