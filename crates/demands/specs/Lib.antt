@@ -1,8 +1,9 @@
-pub mod Routes
-pub mod Starred
-pub mod Slots
-pub mod Paths
+pub mod Refusals
 pub mod Cut
+pub mod Routes
+pub mod Paths
 pub mod Updates
 pub mod Written
-pub mod Refusals
+pub mod Slots
+pub mod Numbers
+pub mod Starred

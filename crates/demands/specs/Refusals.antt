@@ -57,11 +57,11 @@ use Rattle.paths.specs.Promises.{pathMeaning, pairsAfter, numbersAfter}
 use Rattle.paths.specs.declared.PathAnswer.{PathAnswer}
 use Rattle.paths.specs.declared.PathAnswer.the-variants as T
 use Rattle.paths.proofs.PromiseLaws.{read-path, pairs-length}
-use Rattle.paths.proofs.parse_as_path.Reads as parse_as_path
+use Rattle.paths.proofs.parse_as_path.Reads as «parse_as_path»
 use Rattle.path_writer.specs.Promises as Writer
 use Rattle.path_writer.specs.Promises.{encodeAnswer, encodeLeft}
 use Rattle.path_writer.proofs.PromiseLaws.{encode-written}
-use Rattle.path_writer.proofs.encode_as_path.Reads as encode_as_path
+use Rattle.path_writer.proofs.encode_as_path.Reads as «encode_as_path»
 use Rattle.messages.specs.Written.{messageBytes, writeMessage, messageAfter}
 use Rattle.messages.proofs.WrittenLaws.{message-length, out-by}
 use Rattle.messages.proofs.encode_bgp_message.Reads as encode_bgp_message
@@ -158,7 +158,7 @@ module _ (κs : _) (lent : _) (answer : _) (exit : _) where
   encode-nlri-prefixes-kept call = list-written _ _ _ _ _ answer (call .0) (call .1)
 
 module _ (κs : _) (lent : _) (answer : _) (exit : _) where
-  pub encode-as-path-kept : encode_as_path.Learnt κs lent answer exit
+  pub encode-as-path-kept : «encode_as_path».Learnt κs lent answer exit
       → Kept (writeMeaning answer) (valueIn 0 (writeMeaning answer)) (now (lent .1 .1 .1 .0)) (now (exit .1 .1 .1 .0))
   encode-as-path-kept call = path-written _ _ _ _ _ _ answer (call .0) (call .1)
 
@@ -185,6 +185,12 @@ module _ (κs : _) (lent : _) (answer : _) (exit : _) (call : encode_nlri_pair.L
   abbrev between : ℕ
   between = lent .1 .1 .1 .1 .1 .0
 
+  abbrev firstBytes : List ℕ
+  firstBytes = bytesOf (now (lent .0)) (maxOf (lent .1 .1 .0)) (lent .1 .1 .1 .0)
+
+  abbrev secondBytes : List ℕ
+  secondBytes = bytesOf (now (lent .1 .0)) (maxOf (lent .1 .1 .0)) (lent .1 .1 .1 .0)
+
   abbrev out : List ℕ
   out = now (lent .1 .1 .1 .1 .1 .1 .1 .0)
 
@@ -192,24 +198,22 @@ module _ (κs : _) (lent : _) (answer : _) (exit : _) (call : encode_nlri_pair.L
   outAtExit = now (exit .1 .1 .1 .1 .1 .1 .1 .0)
 
   pub encode-nlri-pair-refused : (n : ℕ) → listsMeaning answer ≡ refusal n → outAtExit ≡ out
-  encode-nlri-pair-refused n e = call .1 ∙ ap (λ (x : Answer). writePairAfter x start between _ _ out) e
+  encode-nlri-pair-refused n e = call .1 ∙ ap (λ (x : Answer). writePairAfter x start between firstBytes secondBytes out) e
 
   pub encode-nlri-pair-past : (a b : ℕ) → answer ≡ S.Lists a b → drop (writePairEnd start between a b) outAtExit ≡ drop (writePairEnd start between a b) out
   encode-nlri-pair-past a b e =
       let fits = write-pair-fits start between _ (length out) a b _ _ _ _ (sym (call .0) ∙ e) in
-      let first : List ℕ = bytesOf (now (lent .0)) _ _ in
-      let second : List ℕ = bytesOf (now (lent .1 .0)) _ _ in
-      let m : length first ≡ a = measured-bytes _ _ _ a (fits .first) .1 in
-      let n : length second ≡ b = measured-bytes _ _ _ b (fits .second) .1 in
+      let m : length firstBytes ≡ a = measured-bytes _ _ _ a (fits .first) .1 in
+      let n : length secondBytes ≡ b = measured-bytes _ _ _ b (fits .second) .1 in
       let end : ℕ = writePairEnd start between a b in
       let room : end ≤ length out = fits .room in
-      ap (drop end) (call .1 ∙ ap (λ (x : ListsAnswer). writePairAfter (listsMeaning x) start between first second out) e)
-      ∙ drop-laid-past (laid out start first) (start + a + between) second end (omega arith) (omega (arith, length-laid out start first (omega arith)))
-      ∙ drop-laid-past out start first end (omega arith) (omega arith)
+      ap (drop end) (call .1 ∙ ap (λ (x : ListsAnswer). writePairAfter (listsMeaning x) start between firstBytes secondBytes out) e)
+      ∙ drop-laid-past (laid out start firstBytes) (start + a + between) secondBytes end (omega arith) (omega (arith, length-laid out start firstBytes (omega arith)))
+      ∙ drop-laid-past out start firstBytes end (omega arith) (omega arith)
 
 -- ---- readers into two stores
 
-module _ (κs : _) (lent : _) (answer : _) (exit : _) (call : parse_as_path.Learnt κs lent answer exit) where
+module _ (κs : _) (lent : _) (answer : _) (exit : _) (call : «parse_as_path».Learnt κs lent answer exit) where
   abbrev value : List ℕ
   value = now (lent .0)
 
@@ -250,10 +254,8 @@ section-kept s r a before after e f =
     kept (listMeaning a) (λ x. 6 * valueIn 0 x) (flat words (r .rows)) before after (λ n. refl) (λ fields g. counted-places s r a fields e g) f
 
 -- a store that a refusal leaves
-refusal-kept : (n : ℕ) (count : Answer → ℕ) (values before after : List ℕ) → ((m : ℕ) → count (refusal m) ≡ 0) → after ≡ filled (refusal n) values before
-    → Kept (refusal n) (count (refusal n)) before after
-refusal-kept n count values before after none e =
-    kept (refusal n) count values before after none (λ fields f. let z : _≡_ {A = ℕ} 0 1 = cc in absurd (omega arith)) e
+refusal-kept : (n : ℕ) (before after : List ℕ) → after ≡ before → Kept (refusal n) 0 before after
+refusal-kept n before after e = record { refused = λ m f. (refl, e); past = e }
 
 module _ (κs : _) (lent : _) (answer : _) (exit : _) (call : parse_bgp_update_message.Learnt κs lent answer exit) where
   abbrev body : List ℕ
@@ -271,8 +273,9 @@ module _ (κs : _) (lent : _) (answer : _) (exit : _) (call : parse_bgp_update_m
       by : (u : UpdateAnswer) → answer ≡ u
           → now (exit .1 .1 .0) ≡ filled (withdrawnMeaning u) (flat words (sectionOf (withdrawnOf body) (maxOf Ipv4) (lent .1 .0) .rows)) (now (lent .1 .1 .0))
           → Kept (withdrawnMeaning u) (6 * valueIn 0 (withdrawnMeaning u)) (now (lent .1 .1 .0)) (now (exit .1 .1 .0))
-      by (U.Update first second) e f = section-kept _ _ first _ _ (counted-both first second e .0) f
-      by (U.Refused n) e f = refusal-kept n (λ x. 6 * valueIn 0 x) _ _ _ (λ m. refl) f
+      by (U.Update first second) e f =
+          section-kept (withdrawnOf body) (sectionOf (withdrawnOf body) (maxOf Ipv4) (lent .1 .0)) first (now (lent .1 .1 .0)) (now (exit .1 .1 .0)) (counted-both first second e .0) f
+      by (U.Refused n) e f = refusal-kept n (now (lent .1 .1 .0)) (now (exit .1 .1 .0)) f
 
   pub update-announced-kept : Kept (announcedMeaning answer) (6 * valueIn 0 (announcedMeaning answer)) (now (lent .1 .1 .1 .0)) (now (exit .1 .1 .1 .0))
   update-announced-kept = by answer refl (call .1 .1)
@@ -280,8 +283,9 @@ module _ (κs : _) (lent : _) (answer : _) (exit : _) (call : parse_bgp_update_m
       by : (u : UpdateAnswer) → answer ≡ u
           → now (exit .1 .1 .1 .0) ≡ filled (announcedMeaning u) (flat words (sectionOf (announcedOf body) (maxOf Ipv4) (lent .1 .0) .rows)) (now (lent .1 .1 .1 .0))
           → Kept (announcedMeaning u) (6 * valueIn 0 (announcedMeaning u)) (now (lent .1 .1 .1 .0)) (now (exit .1 .1 .1 .0))
-      by (U.Update first second) e f = section-kept _ _ second _ _ (counted-both first second e .1) f
-      by (U.Refused n) e f = refusal-kept n (λ x. 6 * valueIn 0 x) _ _ _ (λ m. refl) f
+      by (U.Update first second) e f =
+          section-kept (announcedOf body) (sectionOf (announcedOf body) (maxOf Ipv4) (lent .1 .0)) second (now (lent .1 .1 .1 .0)) (now (exit .1 .1 .1 .0)) (counted-both first second e .1) f
+      by (U.Refused n) e f = refusal-kept n (now (lent .1 .1 .1 .0)) (now (exit .1 .1 .1 .0)) f
 
 module _ (κs : _) (lent : _) (answer : _) (exit : _) (call : read_nlri_pair.Learnt κs lent answer exit) where
   counted-pair : (first second : ListAnswer) → answer ≡ P.Sections first second
@@ -296,8 +300,9 @@ module _ (κs : _) (lent : _) (answer : _) (exit : _) (call : read_nlri_pair.Lea
       by : (p : PairAnswer) → answer ≡ p
           → now (exit .1 .1 .1 .1 .0) ≡ filled (firstMeaning p) (flat words (sectionOf (now (lent .0)) (maxOf (lent .1 .1 .0)) (lent .1 .1 .1 .0) .rows)) (now (lent .1 .1 .1 .1 .0))
           → Kept (firstMeaning p) (6 * valueIn 0 (firstMeaning p)) (now (lent .1 .1 .1 .1 .0)) (now (exit .1 .1 .1 .1 .0))
-      by (P.Sections first second) e f = section-kept _ _ first _ _ (counted-pair first second e .0) f
-      by (P.Refused n) e f = refusal-kept n (λ x. 6 * valueIn 0 x) _ _ _ (λ m. refl) f
+      by (P.Sections first second) e f =
+          section-kept (now (lent .0)) (sectionOf (now (lent .0)) (maxOf (lent .1 .1 .0)) (lent .1 .1 .1 .0)) first (now (lent .1 .1 .1 .1 .0)) (now (exit .1 .1 .1 .1 .0)) (counted-pair first second e .0) f
+      by (P.Refused n) e f = refusal-kept n (now (lent .1 .1 .1 .1 .0)) (now (exit .1 .1 .1 .1 .0)) f
 
   pub read-nlri-pair-second-kept : Kept (secondMeaning answer) (6 * valueIn 0 (secondMeaning answer)) (now (lent .1 .1 .1 .1 .1 .0)) (now (exit .1 .1 .1 .1 .1 .0))
   read-nlri-pair-second-kept = by answer refl (call .1 .1)
@@ -305,8 +310,9 @@ module _ (κs : _) (lent : _) (answer : _) (exit : _) (call : read_nlri_pair.Lea
       by : (p : PairAnswer) → answer ≡ p
           → now (exit .1 .1 .1 .1 .1 .0) ≡ filled (secondMeaning p) (flat words (sectionOf (now (lent .1 .0)) (maxOf (lent .1 .1 .0)) (lent .1 .1 .1 .0) .rows)) (now (lent .1 .1 .1 .1 .1 .0))
           → Kept (secondMeaning p) (6 * valueIn 0 (secondMeaning p)) (now (lent .1 .1 .1 .1 .1 .0)) (now (exit .1 .1 .1 .1 .1 .0))
-      by (P.Sections first second) e f = section-kept _ _ second _ _ (counted-pair first second e .1) f
-      by (P.Refused n) e f = refusal-kept n (λ x. 6 * valueIn 0 x) _ _ _ (λ m. refl) f
+      by (P.Sections first second) e f =
+          section-kept (now (lent .1 .0)) (sectionOf (now (lent .1 .0)) (maxOf (lent .1 .1 .0)) (lent .1 .1 .1 .0)) second (now (lent .1 .1 .1 .1 .1 .0)) (now (exit .1 .1 .1 .1 .1 .0)) (counted-pair first second e .1) f
+      by (P.Refused n) e f = refusal-kept n (now (lent .1 .1 .1 .1 .1 .0)) (now (exit .1 .1 .1 .1 .1 .0)) f
 
 -- ---- numbers and bytes put at a place: there is no refusal number, and where there is no room nothing is put
 

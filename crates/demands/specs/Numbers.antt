@@ -1,0 +1,475 @@
+-- Every number and every order of two checks that document 01 fixes, as one table over the definitions with one claim: definition and code
+-- cannot be changed to the same wrong number. A line holds what the definitions say of an input to what the document says.
+-- Assumes nothing.
+use Prim.Native.Nat.{ℕ, _-_}
+use mathlib.Core.Path.{_≡_, refl}
+use mathlib.Core.List.{List, [], _∷_, _++_}
+use mathlib.Core.Bool.{Bool, true, false, _&&_}
+use lib.ListN.{replicate}
+use lib.Dec.{eqb}
+use Rattle.wire.specs.Answer.{numberIn, writeMeaning, limited}
+use Rattle.wire.specs.Number.{beAt, toBe}
+use Rattle.wire.specs.Refusal as refusals
+use Rattle.wire.specs.Walk.{readAll, walk, flat}
+use Rattle.families.specs.Family.{maxOf, idSize, markOf, octets, modeOf}
+use Rattle.families.specs.declared.Afi.{Afi}
+use Rattle.families.specs.declared.Afi.the-variants.{Ipv4, Ipv6}
+use Rattle.families.specs.declared.Form.{Form}
+use Rattle.families.specs.declared.Form.the-variants.{Plain, Tagged}
+use Rattle.families.specs.declared.AddPath.{AddPath}
+use Rattle.families.specs.declared.AddPath.the-variants.{On, Off, Guess}
+use Rattle.routes.specs.Prefix.{wordAt, rowOf, itemRow, prefixMeaning, prefixOf}
+use Rattle.routes.specs.List.{inForm, guessForm, stepOf, listOf, sectionOf}
+use Rattle.routes.specs.Promises as routes
+use Rattle.routes.specs.Promises.{listMeaning}
+use Rattle.route_bytes.specs.Encode.{fourWords, rowBytes, allZero, writable, frontRow, writeStep, writing, bytesOf}
+use Rattle.route_bytes.specs.Promises.{measured}
+use Rattle.route_writer.specs.Promises as routeWriter
+use Rattle.asns.specs.Asn.{widthOf, span}
+use Rattle.asns.specs.Aggregator.{aggregatorMeaning, aggregatorOf, aggregatorBytes, aggregatorWritten}
+use Rattle.asns.specs.declared.AsnLength.{AsnLength}
+use Rattle.asns.specs.declared.AsnLength.the-variants.{Bits16, Bits32}
+use Rattle.paths.specs.Segment.{knownType, typeFault, numbersOf, segmentAt, segmentOf, pathOf}
+use Rattle.paths.specs.Promises as paths
+use Rattle.paths.specs.Promises.{pathMeaning}
+use Rattle.path_writer.specs.Write.{mostNumbers, segmentBytes, addsUp, allFit, writeFault, lentOf, lentPath, pathBytes}
+use Rattle.path_writer.specs.Promises as pathWriter
+use Rattle.messages.specs.Header.{markerSize, headerSize, messageLimit, extendedLimit, leastLength, mostLength, crateLimit, isOutside, isUnknown, allFF, messageMeaning, messageOf, strictWithin, strictOf}
+use Rattle.messages.specs.Written as messageWriter
+use Rattle.updates.specs.Body.{partsMeaning, partsOf}
+use Rattle.update_writer.specs.Body.{bodySized, bodyAnswer}
+use Rattle.slots.specs.Slot.{markFirst, markSecond, recordSize, settingsLimit}
+use Rattle.words.specs.Word.{fields, wordOf}
+use Rattle.firmware.specs.Fields.{messageFields}
+use Rattle.messages.specs.declared.MessageAnswer.the-variants.{Message}
+use Rattle.words.specs.Settings.{familyOf, formOf, asnLengthOf}
+
+-- ---- a table of numbers
+
+-- what the definitions say, and what the document says
+pub record Line : Type 0 where
+  pub found : ℕ
+  pub fixed : ℕ
+
+abbrev pub line : ℕ → ℕ → Line
+line found fixed = record { found = found; fixed = fixed }
+
+-- the two are equal in every line
+unfoldable pub agree : List Line → Bool
+agree [] = true
+agree (l ∷ ls) = eqb (l .found) (l .fixed) && agree ls
+
+-- so many zero bytes
+unfoldable pub zeros : ℕ → List ℕ
+zeros n = replicate n 0
+
+-- ---- "Refusal numbers"
+
+abbrev pub refusalNumbers : List Line
+refusalNumbers =
+    line refusals.tooLong 1
+    ∷ line refusals.truncated 2
+    ∷ line refusals.messageLength 3
+    ∷ line refusals.messageType 4
+    ∷ line refusals.shortBody 5
+    ∷ line refusals.badMarker 6
+    ∷ line refusals.prefixLength 7
+    ∷ line refusals.oneByteSection 8
+    ∷ line refusals.segmentType 9
+    ∷ line refusals.aggregatorLength 10
+    ∷ line refusals.noRoom 11
+    ∷ line refusals.longSegment 12
+    ∷ line refusals.wideNumber 13
+    ∷ line refusals.notWritable 14
+    ∷ line refusals.listLimit 65535
+    ∷ line refusals.bodyLimit 65516
+    ∷ []
+
+-- ---- "The message header"
+
+-- a header whose marker starts with a byte, and which has a type and claims a length, with zeros after it up to so many bytes given
+abbrev pub header : ℕ → ℕ → ℕ → ℕ → List ℕ
+header first kind claimed size = first ∷ (replicate 15 255 ++ (toBe 2 claimed ++ (kind ∷ zeros (size - 19))))
+
+-- the refusal number of the crate's reading and of the strict one, of a header of an all-FF marker; and of the strict one where it is not
+abbrev pub byCrate : ℕ → ℕ → ℕ → ℕ
+byCrate kind claimed size = numberIn (messageMeaning (messageOf (header 255 kind claimed size)))
+
+abbrev pub byStrict : ℕ → ℕ → ℕ → ℕ
+byStrict kind claimed size = numberIn (messageMeaning (strictOf (header 255 kind claimed size)))
+
+abbrev pub unmarked : ℕ → ℕ → ℕ → ℕ
+unmarked kind claimed size = numberIn (messageMeaning (strictOf (header 254 kind claimed size)))
+
+-- of writing a type and a body of so many bytes
+abbrev pub written : ℕ → ℕ → ℕ → ℕ
+written kind size places = numberIn (writeMeaning (messageWriter.writeMessage kind (zeros size) places))
+
+abbrev pub headers : List Line
+headers =
+    -- sixteen marker bytes, nineteen in all; the lengths of both editions
+    line markerSize 16
+    ∷ line headerSize 19
+    ∷ line messageLimit 4096
+    ∷ line extendedLimit 65535
+    -- under 19 bytes given, 2, before the marker, the length and the type
+    ∷ line (numberIn (messageMeaning (messageOf (zeros 18)))) 2
+    ∷ line (numberIn (messageMeaning (strictOf (zeros 18)))) 2
+    -- the crate: claimed under 19, 3, before the type; the type, 4, before its limit; OPEN and KEEPALIVE claiming over 4,096, 3
+    ∷ line (byCrate 9 18 19) 3
+    ∷ line (byCrate 2 18 19) 3
+    ∷ line (byCrate 2 19 19) 0
+    ∷ line (byCrate 0 65535 19) 4
+    ∷ line (byCrate 6 65535 19) 4
+    ∷ line (byCrate 1 4095 19) 0
+    ∷ line (byCrate 1 4096 19) 0
+    ∷ line (byCrate 1 4097 19) 3
+    ∷ line (byCrate 4 4095 19) 0
+    ∷ line (byCrate 4 4096 19) 0
+    ∷ line (byCrate 4 4097 19) 3
+    ∷ line (byCrate 2 65535 19) 0
+    ∷ line (byCrate 3 65535 19) 0
+    ∷ line (byCrate 5 65535 19) 0
+    -- the strict reading: the marker, 6, before the length; 3 before the type; 4 before the type's own length; that before what is there, 2
+    ∷ line (unmarked 9 18 19) 6
+    ∷ line (unmarked 1 19 19) 6
+    ∷ line (byStrict 9 18 19) 3
+    ∷ line (byStrict 9 4097 19) 3
+    ∷ line (byStrict 0 28 19) 4
+    ∷ line (byStrict 6 4096 19) 4
+    ∷ line (byStrict 1 28 19) 3
+    ∷ line (byStrict 1 29 19) 2
+    ∷ line (byStrict 1 29 28) 2
+    ∷ line (byStrict 1 29 29) 0
+    ∷ line (byStrict 1 30 30) 0
+    ∷ line (byStrict 1 4095 19) 2
+    ∷ line (byStrict 1 4096 19) 2
+    ∷ line (byStrict 1 4096 4096) 0
+    ∷ line (byStrict 1 4097 4097) 3
+    ∷ line (byStrict 2 22 19) 3
+    ∷ line (byStrict 2 23 19) 2
+    ∷ line (byStrict 2 23 22) 2
+    ∷ line (byStrict 2 23 23) 0
+    ∷ line (byStrict 2 24 24) 0
+    ∷ line (byStrict 2 4095 19) 2
+    ∷ line (byStrict 2 4096 19) 2
+    ∷ line (byStrict 2 4096 4096) 0
+    ∷ line (byStrict 2 4097 4097) 3
+    ∷ line (byStrict 3 20 19) 3
+    ∷ line (byStrict 3 21 19) 2
+    ∷ line (byStrict 3 21 20) 2
+    ∷ line (byStrict 3 21 21) 0
+    ∷ line (byStrict 3 22 22) 0
+    ∷ line (byStrict 3 4095 19) 2
+    ∷ line (byStrict 3 4096 19) 2
+    ∷ line (byStrict 3 4096 4096) 0
+    ∷ line (byStrict 3 4097 4097) 3
+    ∷ line (byStrict 5 22 19) 3
+    ∷ line (byStrict 5 23 19) 2
+    ∷ line (byStrict 5 23 22) 2
+    ∷ line (byStrict 5 23 23) 0
+    ∷ line (byStrict 5 24 24) 0
+    ∷ line (byStrict 5 4095 19) 2
+    ∷ line (byStrict 5 4096 19) 2
+    ∷ line (byStrict 5 4096 4096) 0
+    ∷ line (byStrict 5 4097 4097) 3
+    ∷ line (byStrict 4 18 19) 3
+    ∷ line (byStrict 4 19 19) 0
+    ∷ line (byStrict 4 20 19) 3
+    ∷ line (byStrict 4 20 20) 3
+    ∷ line (byStrict 4 4096 19) 3
+    -- the writer: 4, then 3, then 11
+    ∷ line (written 0 65517 0) 4
+    ∷ line (written 6 65517 0) 4
+    ∷ line (written 1 9 0) 3
+    ∷ line (written 1 10 28) 11
+    ∷ line (written 1 10 29) 0
+    ∷ line (written 1 11 30) 0
+    ∷ line (written 2 3 0) 3
+    ∷ line (written 2 4 22) 11
+    ∷ line (written 2 4 23) 0
+    ∷ line (written 2 5 24) 0
+    ∷ line (written 3 1 0) 3
+    ∷ line (written 3 2 20) 11
+    ∷ line (written 3 2 21) 0
+    ∷ line (written 3 3 22) 0
+    ∷ line (written 5 3 0) 3
+    ∷ line (written 5 4 22) 11
+    ∷ line (written 5 4 23) 0
+    ∷ line (written 5 5 24) 0
+    ∷ line (written 4 0 18) 11
+    ∷ line (written 4 0 19) 0
+    ∷ line (written 4 1 0) 3
+    ∷ line (written 1 4076 4095) 0
+    ∷ line (written 1 4077 4096) 0
+    ∷ line (written 1 4078 70000) 3
+    ∷ line (written 1 4078 0) 3
+    ∷ line (written 2 65515 65534) 0
+    ∷ line (written 2 65516 65535) 0
+    ∷ line (written 2 65517 70000) 3
+    ∷ line (written 2 65517 0) 3
+    ∷ line (written 3 65515 65534) 0
+    ∷ line (written 3 65516 65535) 0
+    ∷ line (written 3 65517 70000) 3
+    ∷ line (written 3 65517 0) 3
+    ∷ line (written 5 65515 65534) 0
+    ∷ line (written 5 65516 65535) 0
+    ∷ line (written 5 65517 70000) 3
+    ∷ line (written 5 65517 0) 3
+    ∷ []
+
+-- ---- "The UPDATE body"
+
+-- the refusal number of a body, and of writing rows to withdraw, so many attribute bytes and no rows to announce
+abbrev pub body : List ℕ → ℕ
+body b = numberIn (partsMeaning (partsOf b))
+
+abbrev pub bodyWritten : List ℕ → ℕ → List ℕ → ℕ → ℕ
+bodyWritten withdrawn attributes announced places = numberIn (writeMeaning (bodyAnswer withdrawn (zeros attributes) announced Plain places))
+
+abbrev pub bodies : List Line
+bodies =
+    -- over 65,516, 1, first
+    line (body (zeros 65515)) 0
+    ∷ line (body (zeros 65516)) 0
+    ∷ line (body (zeros 65517)) 1
+    ∷ line (body (255 ∷ 255 ∷ zeros 65514)) 2
+    ∷ line (body (255 ∷ 255 ∷ zeros 65515)) 1
+    -- each length and each section is all there
+    ∷ line (body (0 ∷ [])) 2
+    ∷ line (body (0 ∷ 1 ∷ [])) 2
+    ∷ line (body (0 ∷ 1 ∷ 0 ∷ 0 ∷ [])) 2
+    ∷ line (body (0 ∷ 0 ∷ 0 ∷ [])) 2
+    ∷ line (body (0 ∷ 0 ∷ 0 ∷ 1 ∷ [])) 2
+    ∷ line (body (0 ∷ 0 ∷ 0 ∷ 0 ∷ [])) 0
+    -- the writer: 14 in either list, then 1, then 11
+    ∷ line (bodyWritten (0 ∷ []) 65513 [] 0) 14
+    ∷ line (bodyWritten [] 65513 (0 ∷ []) 0) 14
+    ∷ line (bodyWritten [] 65513 [] 0) 1
+    ∷ line (bodyWritten [] 65513 [] 70000) 1
+    ∷ line (bodyWritten [] 65512 [] 70000) 0
+    ∷ line (bodyWritten [] 65511 [] 70000) 0
+    ∷ line (bodyWritten [] 65512 [] 65515) 11
+    ∷ line (bodyWritten [] 65512 [] 65516) 0
+    ∷ line (bodyWritten [] 0 [] 3) 11
+    ∷ line (bodyWritten [] 0 [] 4) 0
+    ∷ []
+
+-- ---- "One route, and a list of them"
+
+-- the refusal number of one route, of a list and of a section, and of a list into a store of so many places
+abbrev pub route : Afi → Form → List ℕ → ℕ
+route family form s = numberIn (prefixMeaning (prefixOf s (maxOf family) form))
+
+abbrev pub list : AddPath → List ℕ → ℕ
+list setting s = numberIn (listMeaning (routes.countAnswer s (listOf s (maxOf Ipv4) setting)))
+
+abbrev pub section : AddPath → List ℕ → ℕ
+section setting s = numberIn (listMeaning (routes.countAnswer s (sectionOf s (maxOf Ipv4) setting)))
+
+abbrev pub listInto : List ℕ → ℕ → ℕ
+listInto s places = numberIn (listMeaning (routes.readAnswer s (listOf s (maxOf Ipv4) Off) places))
+
+-- of writing rows in a form into so many places
+abbrev pub listWritten : Form → List ℕ → ℕ → ℕ
+listWritten form rows places = numberIn (writeMeaning (routeWriter.writeAnswer rows (maxOf Ipv4) form places))
+
+abbrev pub lists : List Line
+lists =
+    -- the longest prefix, the bytes of an id, what an id adds to the first word, whole octets
+    line (maxOf Ipv4) 32
+    ∷ line (maxOf Ipv6) 128
+    ∷ line (idSize Plain) 0
+    ∷ line (idSize Tagged) 4
+    ∷ line (markOf Plain) 0
+    ∷ line (markOf Tagged) 256
+    ∷ line (octets 0) 0
+    ∷ line (octets 1) 1
+    ∷ line (octets 8) 1
+    ∷ line (octets 9) 2
+    ∷ line (octets 32) 4
+    ∷ line (octets 128) 16
+    -- id there, 2; length byte there, 2; length against the maximum, 7; octets there, 2; nothing is 2
+    ∷ line (route Ipv4 Plain []) 2
+    ∷ line (route Ipv4 Tagged (0 ∷ 0 ∷ 0 ∷ [])) 2
+    ∷ line (route Ipv4 Tagged (0 ∷ 0 ∷ 0 ∷ 7 ∷ [])) 2
+    ∷ line (route Ipv4 Plain (33 ∷ [])) 7
+    ∷ line (route Ipv4 Tagged (0 ∷ 0 ∷ 0 ∷ 7 ∷ 33 ∷ [])) 7
+    ∷ line (route Ipv4 Plain (32 ∷ [])) 2
+    ∷ line (route Ipv4 Plain (32 ∷ 10 ∷ 0 ∷ 0 ∷ [])) 2
+    ∷ line (route Ipv4 Plain (32 ∷ 10 ∷ 0 ∷ 0 ∷ 1 ∷ [])) 0
+    ∷ line (route Ipv6 Plain (129 ∷ [])) 7
+    ∷ line (route Ipv6 Plain (128 ∷ zeros 15)) 2
+    ∷ line (route Ipv6 Plain (128 ∷ zeros 16)) 0
+    -- a single route is never 1, and a list is, over 65,535 bytes, before its items
+    ∷ line (route Ipv4 Plain (zeros 65536)) 0
+    ∷ line (list Off (33 ∷ zeros 65533)) 7
+    ∷ line (list Off (33 ∷ zeros 65534)) 7
+    ∷ line (list Off (33 ∷ zeros 65535)) 1
+    ∷ line (section Off (33 ∷ zeros 65534)) 7
+    ∷ line (section Off (33 ∷ zeros 65535)) 1
+    -- a section of one nonzero byte is 8, before any item; a list is not
+    ∷ line (section Off (33 ∷ [])) 8
+    ∷ line (section On (33 ∷ [])) 8
+    ∷ line (list Off (33 ∷ [])) 7
+    ∷ line (list On (33 ∷ [])) 2
+    ∷ line (section Off (0 ∷ [])) 0
+    ∷ line (section Off (33 ∷ 0 ∷ [])) 7
+    -- all items, then 11; six places to a row, rounded down
+    ∷ line (listInto (33 ∷ []) 0) 7
+    ∷ line (listInto (0 ∷ []) 5) 11
+    ∷ line (listInto (0 ∷ []) 6) 0
+    ∷ line (listInto (0 ∷ 0 ∷ []) 11) 11
+    ∷ line (listInto (0 ∷ 0 ∷ []) 12) 0
+    ∷ line (listInto [] 0) 0
+    -- rows to write: whole rows, a length in range, the mark exactly if Add-Path is on, no id is 0, nothing past the octets; 14, then 11
+    ∷ line (listWritten Plain (32 ∷ 0 ∷ 1 ∷ 0 ∷ 0 ∷ []) 0) 14
+    ∷ line (listWritten Plain (33 ∷ 0 ∷ 0 ∷ 0 ∷ 0 ∷ 0 ∷ []) 0) 14
+    ∷ line (listWritten Plain (288 ∷ 0 ∷ 0 ∷ 0 ∷ 0 ∷ 0 ∷ []) 0) 14
+    ∷ line (listWritten Tagged (32 ∷ 0 ∷ 0 ∷ 0 ∷ 0 ∷ 0 ∷ []) 0) 14
+    ∷ line (listWritten Plain (32 ∷ 1 ∷ 0 ∷ 0 ∷ 0 ∷ 0 ∷ []) 0) 14
+    ∷ line (listWritten Plain (8 ∷ 0 ∷ 1 ∷ 0 ∷ 0 ∷ 0 ∷ []) 0) 14
+    ∷ line (listWritten Plain (32 ∷ 0 ∷ 1 ∷ 1 ∷ 0 ∷ 0 ∷ []) 0) 14
+    ∷ line (listWritten Plain (32 ∷ 0 ∷ 1 ∷ 0 ∷ 0 ∷ 0 ∷ []) 4) 11
+    ∷ line (listWritten Plain (32 ∷ 0 ∷ 1 ∷ 0 ∷ 0 ∷ 0 ∷ []) 5) 0
+    ∷ line (listWritten Tagged (288 ∷ 7 ∷ 1 ∷ 0 ∷ 0 ∷ 0 ∷ []) 8) 11
+    ∷ line (listWritten Tagged (288 ∷ 7 ∷ 1 ∷ 0 ∷ 0 ∷ 0 ∷ []) 9) 0
+    ∷ []
+
+-- ---- "AS_PATH and AGGREGATOR"
+
+abbrev pub path : AsnLength → List ℕ → ℕ
+path width s = numberIn (pathMeaning (paths.countAnswer s (pathOf knownType (widthOf width) s)))
+
+abbrev pub pathInto : List ℕ → ℕ → ℕ → ℕ
+pathInto s pairs numbers = numberIn (pathMeaning (paths.readAnswer s (pathOf knownType 2 s) pairs numbers))
+
+abbrev pub pathWritten : AsnLength → List ℕ → List ℕ → ℕ → ℕ
+pathWritten width pairs numbers places = numberIn (writeMeaning (pathWriter.encodeAnswer knownType (widthOf width) pairs numbers places))
+
+abbrev pub aggregator : List ℕ → ℕ
+aggregator value = numberIn (aggregatorMeaning (aggregatorOf value Bits16))
+
+abbrev pub aggregatorInto : AsnLength → ℕ → ℕ → ℕ
+aggregatorInto width asn places = numberIn (writeMeaning (aggregatorWritten asn 0 width places))
+
+abbrev pub pathsAndAggregators : List Line
+pathsAndAggregators =
+    -- types 1 to 4; two bytes or four
+    line (path Bits16 (0 ∷ 0 ∷ [])) 9
+    ∷ line (path Bits16 (1 ∷ 0 ∷ [])) 0
+    ∷ line (path Bits16 (2 ∷ 0 ∷ [])) 0
+    ∷ line (path Bits16 (3 ∷ 0 ∷ [])) 0
+    ∷ line (path Bits16 (4 ∷ 0 ∷ [])) 0
+    ∷ line (path Bits16 (5 ∷ 0 ∷ [])) 9
+    ∷ line (path Bits16 (2 ∷ 1 ∷ 0 ∷ 0 ∷ [])) 0
+    ∷ line (path Bits32 (2 ∷ 1 ∷ 0 ∷ 0 ∷ 0 ∷ [])) 2
+    ∷ line (path Bits32 (2 ∷ 1 ∷ 0 ∷ 0 ∷ 0 ∷ 0 ∷ [])) 0
+    -- count there, 2; numbers there, 2; type, 9
+    ∷ line (path Bits16 (5 ∷ [])) 2
+    ∷ line (path Bits16 (5 ∷ 1 ∷ [])) 2
+    ∷ line (path Bits16 (5 ∷ 1 ∷ 0 ∷ [])) 2
+    ∷ line (path Bits16 (5 ∷ 1 ∷ 0 ∷ 0 ∷ [])) 9
+    -- over 65,535 bytes, 1, first
+    ∷ line (path Bits16 (5 ∷ zeros 65533)) 9
+    ∷ line (path Bits16 (5 ∷ zeros 65534)) 9
+    ∷ line (path Bits16 (5 ∷ zeros 65535)) 1
+    -- 11 last, of either store
+    ∷ line (pathInto (5 ∷ 0 ∷ []) 0 0) 9
+    ∷ line (pathInto (2 ∷ 0 ∷ []) 1 0) 11
+    ∷ line (pathInto (2 ∷ 0 ∷ []) 2 0) 0
+    ∷ line (pathInto (2 ∷ 1 ∷ 0 ∷ 7 ∷ []) 1 1) 11
+    ∷ line (pathInto (2 ∷ 1 ∷ 0 ∷ 7 ∷ []) 2 0) 11
+    ∷ line (pathInto (2 ∷ 1 ∷ 0 ∷ 7 ∷ []) 2 1) 0
+    -- to write: 14 first; then by segment 9, 12, 13; then 11
+    ∷ line mostNumbers 255
+    ∷ line (pathWritten Bits16 (9 ∷ []) [] 0) 14
+    ∷ line (pathWritten Bits16 (9 ∷ 1 ∷ []) [] 0) 14
+    ∷ line (pathWritten Bits16 (9 ∷ 0 ∷ []) (7 ∷ []) 0) 14
+    ∷ line (pathWritten Bits16 (9 ∷ 256 ∷ []) (replicate 256 65536) 0) 9
+    ∷ line (pathWritten Bits16 (2 ∷ 256 ∷ []) (replicate 256 65536) 0) 12
+    ∷ line (pathWritten Bits16 (2 ∷ 255 ∷ []) (replicate 255 65536) 0) 13
+    ∷ line (pathWritten Bits16 (2 ∷ 1 ∷ 9 ∷ 0 ∷ []) (65536 ∷ []) 0) 13
+    ∷ line (pathWritten Bits16 (2 ∷ 1 ∷ []) (65535 ∷ []) 3) 11
+    ∷ line (pathWritten Bits16 (2 ∷ 1 ∷ []) (65535 ∷ []) 4) 0
+    ∷ line (pathWritten Bits32 (2 ∷ 1 ∷ []) (65536 ∷ []) 5) 11
+    ∷ line (pathWritten Bits32 (2 ∷ 1 ∷ []) (65536 ∷ []) 6) 0
+    ∷ line (pathWritten Bits16 (2 ∷ 255 ∷ []) (zeros 255) 512) 0
+    ∷ line (pathWritten Bits32 (2 ∷ 255 ∷ []) (zeros 255) 1022) 0
+    -- AGGREGATOR: 6 bytes or 8, else 10 up to 65,535 bytes, and 1 over them; to write 13, then 11
+    ∷ line (aggregator (zeros 5)) 10
+    ∷ line (aggregator (zeros 6)) 0
+    ∷ line (aggregator (zeros 7)) 10
+    ∷ line (aggregator (zeros 8)) 0
+    ∷ line (aggregator (zeros 9)) 10
+    ∷ line (aggregator (zeros 65534)) 10
+    ∷ line (aggregator (zeros 65535)) 10
+    ∷ line (aggregator (zeros 65536)) 1
+    ∷ line (aggregatorInto Bits16 65536 0) 13
+    ∷ line (aggregatorInto Bits16 65535 5) 11
+    ∷ line (aggregatorInto Bits16 65535 6) 0
+    ∷ line (aggregatorInto Bits32 65536 7) 11
+    ∷ line (aggregatorInto Bits32 65536 8) 0
+    ∷ []
+
+-- ---- the limit of a list and of a path to write: 1 over 65,535 bytes, before 11
+
+abbrev pub limits : List Line
+limits =
+    line (numberIn (writeMeaning (limited refusals.listLimit 65534 65534))) 0
+    ∷ line (numberIn (writeMeaning (limited refusals.listLimit 65535 65535))) 0
+    ∷ line (numberIn (writeMeaning (limited refusals.listLimit 65535 65534))) 11
+    ∷ line (numberIn (writeMeaning (limited refusals.listLimit 65536 0))) 1
+    ∷ line (numberIn (writeMeaning (limited refusals.listLimit 65536 70000))) 1
+    ∷ []
+
+-- ---- the settings of a slot and of a C call, and C's words
+
+-- a family, a form, a setting and a width as numbers that tell them apart
+abbrev pub modeNumber : AddPath → ℕ
+modeNumber Off = 0
+modeNumber On = 1
+modeNumber Guess = 2
+
+abbrev pub settings : List Line
+settings =
+    line (modeNumber (modeOf 0)) 0
+    ∷ line (modeNumber (modeOf 1)) 1
+    ∷ line (modeNumber (modeOf 2)) 2
+    ∷ line (modeNumber (modeOf 3)) 1
+    ∷ line (modeNumber (modeOf 4)) 0
+    ∷ line (modeNumber (modeOf 252)) 0
+    -- 0 is IPv4, no ids, two bytes; any other number IPv6, ids, four bytes
+    ∷ line (maxOf (familyOf 0)) 32
+    ∷ line (maxOf (familyOf 1)) 128
+    ∷ line (maxOf (familyOf 255)) 128
+    ∷ line (idSize (formOf 0)) 0
+    ∷ line (idSize (formOf 1)) 4
+    ∷ line (idSize (formOf 255)) 4
+    ∷ line (widthOf (asnLengthOf 0)) 2
+    ∷ line (widthOf (asnLengthOf 1)) 4
+    ∷ line (widthOf (asnLengthOf 255)) 4
+    -- a record: C5 3A, five bytes, settings up to 3
+    ∷ line markFirst 0xC5
+    ∷ line markSecond 0x3A
+    ∷ line recordSize 5
+    ∷ line settingsLimit 3
+    -- a word: three fields of 16 bits and the refusal number above them
+    ∷ line (wordOf (fields 1 0 0 0)) 0x1
+    ∷ line (wordOf (fields 0 1 0 0)) 0x10000
+    ∷ line (wordOf (fields 0 0 1 0)) 0x100000000
+    ∷ line (wordOf (fields 0 0 0 1)) 0x1000000000000
+    -- a message: claimed, taken, and the type with the flags 1 marker, 2 cut, 4 trailing above it
+    ∷ line (wordOf (messageFields (Message 2 19 23 false false false))) 0x200170013
+    ∷ line (wordOf (messageFields (Message 2 0 0 true false false))) 0x10200000000
+    ∷ line (wordOf (messageFields (Message 2 0 0 false true false))) 0x20200000000
+    ∷ line (wordOf (messageFields (Message 2 0 0 false false true))) 0x40200000000
+    ∷ []
+
+abbrev pub table : List Line
+table = refusalNumbers ++ (headers ++ (bodies ++ (lists ++ (pathsAndAggregators ++ (limits ++ settings)))))
+
+-- every line of the table holds
+pub numbers : agree table ≡ true
+unfolding agree zeros beAt readAll walk flat modeOf wordAt rowOf itemRow prefixOf inForm guessForm stepOf listOf sectionOf routes.countAnswer routes.readAnswer fourWords rowBytes allZero writable frontRow writeStep writing bytesOf measured routeWriter.writeAnswer limited span aggregatorOf aggregatorBytes aggregatorWritten typeFault numbersOf segmentAt segmentOf pathOf paths.countAnswer paths.readAnswer segmentBytes addsUp allFit writeFault lentOf lentPath pathBytes pathWriter.lentBytes pathWriter.encodeAnswer leastLength mostLength crateLimit isOutside isUnknown allFF messageOf strictWithin messageWriter.writeMessage partsOf bodySized bodyAnswer wordOf familyOf formOf asnLengthOf
+numbers = refl
