@@ -17,7 +17,6 @@ use Rattle.wire.proofs.ChoiceLaws.{below-at}
 use Rattle.wire.specs.Number.{be, beAt, padded, Bytes}
 use Rattle.wire.proofs.NumberLaws.{pow-pos256, be-append, be-cut, be-lt, be-zeros, bytes-drop, bytes-padded, length-padded, padded-all, padded-take, padded-of-take, padded-of-more}
 use Rattle.wire.proofs.Parts.{drop-take}
-use Rattle.wire.proofs.Turn.{rest}
 use Rattle.families.specs.Family.{idSize}
 use Rattle.families.specs.declared.Form.{Form}
 use Rattle.routes.specs.Prefix.{wordAt, rowOf, itemRow, words}

@@ -65,8 +65,8 @@ const MASKS: [u8; 32] = [
     0,
 ];
 
-// The word of the last n octets of s: the last four, shifted up over those before. Here and below, a word is read from a part whose length is known
-// to hold it.
+// The word of the last n octets of s: the last four, shifted up over those before. Here and below a word is read where it is known to be all there, so
+// that no test of u32_at is left in the code.
 fn last_word(s: &[u8], n: usize) -> u32
     requires { ⌜ (4 ≤ length (now s)) × (n ≤ 4) ⌝ }
     ensures { λ r. ⌜ r ≡ beAt (now (s .entry)) (length (now (s .entry)) - n) 4 ⌝ }

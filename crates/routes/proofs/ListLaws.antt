@@ -10,6 +10,7 @@ use borrow.Author.Tests.{le-leb, lt-leb}
 use lib.ListN.{length, getD, take, drop}
 use Rattle.wire.specs.Answer.{filled, answerBy, unpacked}
 use Rattle.wire.proofs.AnswerLaws.{answer-refused, unpacked-count, unpacked-refused}
+use Rattle.wire.specs.Choice.{pick}
 use Rattle.wire.proofs.ChoiceLaws.{pick-leb}
 use Rattle.wire.specs.Refusal.{tooLong, oneByteSection, noRoom, pastAll, listLimit}
 use Rattle.wire.specs.Store.{laid}
@@ -19,7 +20,7 @@ use Rattle.wire.proofs.WalkLaws.{Sound, tally-one, flat-length, all-blind}
 use Rattle.routes.specs.Prefix.{itemRow, words, prefixOf}
 use Rattle.routes.proofs.PrefixLaws.{Took, prefix-took, prefix-names}
 use Rattle.routes.specs.List.{asStep, inForm, plainHere, tried, guessForm, formBy, fixed, stepOf, listOf, strange, sectionOf}
-use Rattle.routes.specs.Promises.{sized, listMeaning, countAnswer, readAnswer, storeAfter}
+use Rattle.routes.specs.Promises.{sized, listMeaning, countAnswer, hasRoom, readAnswer, storeAfter}
 use Rattle.routes.specs.Private.{sizeOf, kept}
 use Rattle.families.specs.declared.Form.{Form}
 use Rattle.families.specs.declared.Form.the-variants.{Plain, Tagged}
@@ -185,11 +186,34 @@ module _ (s : List ℕ) (r : Reading Row) where
       (λ _ e. answer-rows (r .verdict) n _ e)
       (λ _ e. let z : _≡_ {A = ℕ} 0 1 = cc in absurd (zero-ne-one z))
 
+  pub count-short : (n : ℕ) → countAnswer s r ≡ L.Rows n → length s ≤ listLimit
+  unfolding countAnswer
+  count-short n =
+      pick-leb (λ (a : ListAnswer). a ≡ L.Rows n → length s ≤ listLimit) (length s) listLimit _ _
+      (λ le _. le)
+      (λ _ e. let z : _≡_ {A = ℕ} 0 1 = cc in absurd (zero-ne-one z))
+
+  -- what is read was counted, and has room
+  pub read-rows : (n places : ℕ) → readAnswer s r places ≡ L.Rows n → (countAnswer s r ≡ L.Rows n) × (n ≤ places / 6)
+  unfolding readAnswer
+  read-rows n places = by (countAnswer s r)
+    where
+      by : (a : ListAnswer) → pick (hasRoom a places) a (L.Refused noRoom) ≡ L.Rows n → (a ≡ L.Rows n) × (n ≤ places / 6)
+      by (L.Rows m) =
+          pick-leb (λ (a : ListAnswer). a ≡ L.Rows n → (L.Rows m ≡ L.Rows n) × (n ≤ places / 6)) m (places / 6) _ _
+          (λ le e. let same : m ≡ n = cc in (e, omega arith))
+          (λ _ e. let z : _≡_ {A = ℕ} 0 1 = cc in absurd (zero-ne-one z))
+      by (L.Refused k) = λ e. let z : _≡_ {A = ℕ} 0 1 = cc in absurd (zero-ne-one z)
+
+  -- the store, by the answer
+  pub store-by : (d : List ℕ) (a : ListAnswer) → readAnswer s r (length d) ≡ a → storeAfter s r d ≡ filled (listMeaning a) (flat words (r .rows)) d
+  unfolding storeAfter
+  store-by d a e = ap (λ (x : ListAnswer). filled (listMeaning x) (flat words (r .rows)) d) e
+
   -- the answer and the store that a reading leaves, by what the count says
   module _ (d : List ℕ) where
     leave : (a : ListAnswer) → a ≡ readAnswer s r (length d) → (a ≡ readAnswer s r (length d)) × (filled (listMeaning a) (flat words (r .rows)) d ≡ storeAfter s r d)
-    unfolding storeAfter
-    leave a e = (e, ap (λ (x : ListAnswer). filled (listMeaning x) (flat words (r .rows)) d) e)
+    leave a e = (e, sym (store-by d a (sym e)))
 
     pub leave-refused : (n : ℕ) → countAnswer s r ≡ L.Refused n → (L.Refused n ≡ readAnswer s r (length d)) × (d ≡ storeAfter s r d)
     unfolding readAnswer

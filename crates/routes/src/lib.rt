@@ -1,6 +1,6 @@
 // Routes: one, and a list of them (RFC 4271 section 4.3, RFC 7911 section 3). The reading of utils.rs and of read_nlri in messages.rs.
 ghost use mathlib.Core.Path.{_≡_};
-ghost use Prim.Native.Nat.{_+_, _≤_, _<_};
+ghost use Prim.Native.Nat.{_≤_};
 ghost use lib.ListN.{length, getD, take};
 ghost use Rattle.wire.specs.Answer.{unpacked};
 ghost use Rattle.wire.specs.Number.{beAt};
