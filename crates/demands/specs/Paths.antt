@@ -3,182 +3,141 @@
 use Prim.Native.Nat.{ℕ, _*_, _/_, _≤_}
 use mathlib.Core.Path.{_≡_, sym, ap, ap₂, _∙_}
 use mathlib.Core.List.{List}
-use denote.Ref.{now}
+use denote.Ref.{RefT, now}
 use lib.ListN.{length, take}
+use Rattle.wire.specs.Cutting.{Cutting}
 use Rattle.wire.specs.Number.{Bytes}
 use Rattle.wire.specs.Refusal.{listLimit}
 use Rattle.wire.specs.Store.{laid}
 use Rattle.wire.specs.Walk.{flat}
-use Rattle.wire.specs.Cutting.{Cutting}
+use Rattle.wire.specs.declared.WriteAnswer.the-variants as W
 use Rattle.asns.specs.Asn.{widthOf}
 use Rattle.asns.specs.declared.AsnLength.{AsnLength}
 use Rattle.paths.specs.Segment.{knownType}
 use Rattle.paths.specs.WellFormed.{Known, WellFormed, headOf, asNumbers}
-use Rattle.paths.proofs.FormedLaws.{known}
 use Rattle.paths.specs.declared.PathAnswer.the-variants.{Path}
-use Rattle.wire.specs.declared.WriteAnswer.the-variants as W
-use Rattle.path_writer.specs.Promises.{encodeAnswer, encodeLeft}
-use Rattle.path_writer.proofs.RuleTheorems as general
+use Rattle.paths.proofs.FormedLaws.{known}
 use Rattle.paths.proofs.count_as_path.Reads as «count_as_path»
 use Rattle.paths.proofs.parse_as_path.Reads as «parse_as_path»
+use Rattle.path_writer.specs.Promises.{encodeAnswer, encodeLeft}
 use Rattle.path_writer.proofs.encode_as_path.Reads as «encode_as_path»
+use Rattle.path_writer.proofs.RuleTheorems as Laws
 
--- bytes cut into well-formed segments
-abbrev pub Segments : AsnLength → List ℕ → List (List ℕ) → Type 0
-Segments width = Cutting (WellFormed Known (widthOf width))
+-- ---- the words of the statements
+
+-- A call is given what stands at these places among its arguments; of what it is lent, `pairs exit`, `numbers exit` and `output exit` are what that
+-- holds at exit.
+
+-- a reading call: the bytes, the width and, unless it counts, the stores of the pairs and of the numbers
+abbrev pub bytes : {R : Type 0} → RefT (List ℕ) × R → List ℕ
+bytes given = now (given .0)
+
+abbrev pub width : {A R : Type 0} → A × (AsnLength × R) → AsnLength
+width given = given .1 .0
+
+abbrev pub pairs : {A B R : Type 0} → A × (B × (RefT (List ℕ) × R)) → List ℕ
+pairs given = now (given .1 .1 .0)
+
+abbrev pub numbers : {A B C R : Type 0} → A × (B × (C × (RefT (List ℕ) × R))) → List ℕ
+numbers given = now (given .1 .1 .1 .0)
+
+-- the writing call: the pairs, the numbers, the width and the output
+abbrev pub pairsLent : {R : Type 0} → RefT (List ℕ) × R → List ℕ
+pairsLent given = now (given .0)
+
+abbrev pub numbersLent : {A R : Type 0} → A × (RefT (List ℕ) × R) → List ℕ
+numbersLent given = now (given .1 .0)
+
+abbrev pub widthAsked : {A B R : Type 0} → A × (B × (AsnLength × R)) → AsnLength
+widthAsked given = given .1 .1 .0
+
+abbrev pub output : {A B C R : Type 0} → A × (B × (C × (RefT (List ℕ) × R))) → List ℕ
+output given = now (given .1 .1 .1 .0)
+
+-- a cutting of bytes into well-formed segments, with AS numbers of a width
+abbrev pub Cut : AsnLength → List ℕ → List (List ℕ) → Type 0
+Cut asnLength = Cutting (WellFormed Known (widthOf asnLength))
 
 -- the types and counts of a cutting's items, one after another, and their AS numbers
 abbrev pub heads : List (List ℕ) → List ℕ
 heads items = flat headOf items
 
 abbrev pub asns : AsnLength → List (List ℕ) → List ℕ
-asns width items = flat (asNumbers (widthOf width)) items
+asns asnLength items = flat (asNumbers (widthOf asnLength)) items
 
 -- ---- 1. Bytes are accepted, given room, exactly if they can be cut into well-formed segments.
+-- A call that accepts has a cutting, with as many items as segments and as many numbers, within the limit and with room; a cutting within the limit
+-- and with room is accepted.
 
--- any call of parse_as_path
 module _ (κs : _) (given : _) (answer : _) (exit : _) (call : «parse_as_path».Learnt κs given answer exit) where
-  abbrev bytes : List ℕ
-  bytes = now (given .0)
+  pub path-accepted : (m n : ℕ) → answer ≡ Path m n
+      → (items : List (List ℕ)) × Cut (width given) (bytes given) items × (length items ≡ m) × (length (asns (width given) items) ≡ n)
+      × (length (bytes given) ≤ listLimit) × (m ≤ length (pairs given) / 2) × (n ≤ length (numbers given))
+  path-accepted m n said =
+      Laws.accepted-cut knownType Known known (widthOf (width given)) (bytes given) (length (pairs given)) (length (numbers given)) m n (sym (call .0) ∙ said)
 
-  abbrev width : AsnLength
-  width = given .1 .0
+  pub path-cut : (items : List (List ℕ)) → Cut (width given) (bytes given) items → length (bytes given) ≤ listLimit
+      → length items ≤ length (pairs given) / 2 → length (asns (width given) items) ≤ length (numbers given)
+      → answer ≡ Path (length items) (length (asns (width given) items))
+  path-cut items cut short room space =
+      call .0 ∙ Laws.cut-accepted knownType Known known (widthOf (width given)) (bytes given) items cut (length (pairs given)) (length (numbers given)) short room space
 
-  abbrev pairs : List ℕ
-  pairs = now (given .1 .1 .0)
-
-  abbrev numbers : List ℕ
-  numbers = now (given .1 .1 .1 .0)
-
-  pub accepted-cut : (m n : ℕ) → answer ≡ Path m n
-      → (items : List (List ℕ)) × Segments width bytes items × (length items ≡ m) × (length (asns width items) ≡ n)
-      × (length bytes ≤ listLimit) × (m ≤ length pairs / 2) × (n ≤ length numbers)
-  accepted-cut m n e = general.accepted-cut knownType Known known (widthOf width) bytes (length pairs) (length numbers) m n (sym (call .0) ∙ e)
-
-  pub cut-accepted : (items : List (List ℕ)) → Segments width bytes items → length bytes ≤ listLimit
-      → length items ≤ length pairs / 2 → length (asns width items) ≤ length numbers → answer ≡ Path (length items) (length (asns width items))
-  cut-accepted items cut short h k = call .0 ∙ general.cut-accepted knownType Known known (widthOf width) bytes items cut (length pairs) (length numbers) short h k
-
--- any call of count_as_path
+-- counting needs no room
 module _ (κs : _) (given : _) (answer : _) (exit : _) (call : «count_as_path».Learnt κs given answer exit) where
-  abbrev bytesCounted : List ℕ
-  bytesCounted = now (given .0)
+  pub path-counted : (m n : ℕ) → answer ≡ Path m n
+      → (items : List (List ℕ)) × Cut (width given) (bytes given) items × (length items ≡ m) × (length (asns (width given) items) ≡ n) × (length (bytes given) ≤ listLimit)
+  path-counted m n said = Laws.counted-cut knownType Known known (widthOf (width given)) (bytes given) m n (sym call ∙ said)
 
-  abbrev widthCounted : AsnLength
-  widthCounted = given .1 .0
-
-  pub counted-cut : (m n : ℕ) → answer ≡ Path m n
-      → (items : List (List ℕ)) × Segments widthCounted bytesCounted items × (length items ≡ m) × (length (asns widthCounted items) ≡ n) × (length bytesCounted ≤ listLimit)
-  counted-cut m n e = general.counted-cut knownType Known known (widthOf widthCounted) bytesCounted m n (sym call ∙ e)
-
-  pub cut-counted : (items : List (List ℕ)) → Segments widthCounted bytesCounted items → length bytesCounted ≤ listLimit
-      → answer ≡ Path (length items) (length (asns widthCounted items))
-  cut-counted items cut short = call ∙ general.cut-counted knownType Known known (widthOf widthCounted) bytesCounted items cut short
+  pub path-cut-counted : (items : List (List ℕ)) → Cut (width given) (bytes given) items → length (bytes given) ≤ listLimit
+      → answer ≡ Path (length items) (length (asns (width given) items))
+  path-cut-counted items cut short = call ∙ Laws.cut-counted knownType Known known (widthOf (width given)) (bytes given) items cut short
 
 -- ---- 2. There is one cutting.
 
-pub one-cutting : (width : AsnLength) (bytes : List ℕ) (items items′ : List (List ℕ)) → Segments width bytes items → Segments width bytes items′ → items ≡ items′
-one-cutting width = general.one-cutting knownType Known known (widthOf width)
+pub one-cutting : (asnLength : AsnLength) (s : List ℕ) (items items′ : List (List ℕ)) → Cut asnLength s items → Cut asnLength s items′ → items ≡ items′
+one-cutting asnLength = Laws.one-cutting knownType Known known (widthOf asnLength)
 
--- ---- 3. What is read are its items: as many segments and numbers, and they stand in the stores.
+-- ---- 3. What is read are its items: as many segments and numbers, and the stores at exit hold them from their fronts.
 
--- any call of parse_as_path, with what its stores hold before and after
 module _ (κs : _) (given : _) (answer : _) (exit : _) (call : «parse_as_path».Learnt κs given answer exit) where
-  abbrev bytesRead : List ℕ
-  bytesRead = now (given .0)
+  pub path-rows : (m n : ℕ) → answer ≡ Path m n → (items : List (List ℕ)) → Cut (width given) (bytes given) items
+      → (m ≡ length items) × (n ≡ length (asns (width given) items))
+      × (pairs exit ≡ laid (pairs given) 0 (heads items)) × (numbers exit ≡ laid (numbers given) 0 (asns (width given) items))
+  path-rows m n said items cut =
+      let r = Laws.cut-stores knownType Known known (widthOf (width given)) (bytes given) items cut (pairs given) (numbers given) m n (sym (call .0) ∙ said) in
+      (r .0, r .1, call .1 .0 ∙ r .2, call .1 .1 ∙ r .3)
 
-  abbrev widthRead : AsnLength
-  widthRead = given .1 .0
+-- ---- 4. Writing what was read gives the bytes, at the front of any output that has room for them.
 
-  abbrev pairsBefore : List ℕ
-  pairsBefore = now (given .1 .1 .0)
-
-  abbrev numbersBefore : List ℕ
-  numbersBefore = now (given .1 .1 .1 .0)
-
-  abbrev pairsStored : List ℕ
-  pairsStored = now (exit .1 .1 .0)
-
-  abbrev numbersStored : List ℕ
-  numbersStored = now (exit .1 .1 .1 .0)
-
-  pub path-stored : (m n : ℕ) → answer ≡ Path m n → (items : List (List ℕ)) → Segments widthRead bytesRead items
-      → (m ≡ length items) × (n ≡ length (asns widthRead items))
-      × (pairsStored ≡ laid pairsBefore 0 (heads items)) × (numbersStored ≡ laid numbersBefore 0 (asns widthRead items))
-  path-stored m n e items cut =
-      let h = general.cut-stores knownType Known known (widthOf widthRead) bytesRead items cut pairsBefore numbersBefore m n (sym (call .0) ∙ e) in
-      (h .0, h .1, call .1 .0 ∙ h .2, call .1 .1 ∙ h .3)
-
-  -- ---- 4. Writing what was read gives the bytes.
-
-  -- and any call of encode_as_path
-  module _ (κs′ : _) (given′ : _) (answer′ : _) (exit′ : _) (call′ : «encode_as_path».Learnt κs′ given′ answer′ exit′) where
-    abbrev pairsLent : List ℕ
-    pairsLent = now (given′ .0)
-
-    abbrev numbersLent : List ℕ
-    numbersLent = now (given′ .1 .0)
-
-    abbrev widthLent : AsnLength
-    widthLent = given′ .1 .1 .0
-
-    abbrev out : List ℕ
-    out = now (given′ .1 .1 .1 .0)
-
-    abbrev written : List ℕ
-    written = now (exit′ .1 .1 .1 .0)
-
-    pub written-back : (m n : ℕ) → answer ≡ Path m n → widthLent ≡ widthRead → pairsLent ≡ take (2 * m) pairsStored → numbersLent ≡ take n numbersStored
-        → Bytes bytesRead → length bytesRead ≤ length out → (answer′ ≡ W.Bytes (length bytesRead)) × (written ≡ laid out 0 bytesRead)
-    written-back m n e same p q b room =
-        let h = general.read-written knownType Known known (widthOf widthRead) bytesRead b pairsBefore numbersBefore m n (sym (call .0) ∙ e) out room in
-        let p′ = p ∙ ap (take (2 * m)) (call .1 .0) in
-        let q′ = q ∙ ap (take n) (call .1 .1) in (
-          call′ .0
-              ∙ ap (λ (v : AsnLength). encodeAnswer knownType (widthOf v) pairsLent numbersLent (length out)) same
-              ∙ ap₂ (λ (x y : List ℕ). encodeAnswer knownType (widthOf widthRead) x y (length out)) p′ q′
-              ∙ h .0,
-          call′ .1
-              ∙ ap (λ (v : AsnLength). encodeLeft knownType (widthOf v) pairsLent numbersLent out) same
-              ∙ ap₂ (λ (x y : List ℕ). encodeLeft knownType (widthOf widthRead) x y out) p′ q′
-              ∙ h .1,
-        )
+module _ (κs : _) (given : _) (answer : _) (exit : _) (call : «parse_as_path».Learnt κs given answer exit)
+    (κs′ : _) (given′ : _) (answer′ : _) (exit′ : _) (call′ : «encode_as_path».Learnt κs′ given′ answer′ exit′) where
+  pub written-back : (m n : ℕ) → answer ≡ Path m n → width given ≡ widthAsked given′
+      → pairsLent given′ ≡ take (2 * m) (pairs exit) → numbersLent given′ ≡ take n (numbers exit) → Bytes (bytes given) → length (bytes given) ≤ length (output given′)
+      → (answer′ ≡ W.Bytes (length (bytes given))) × (output exit′ ≡ laid (output given′) 0 (bytes given))
+  written-back m n said alike back after each room =
+      let r = Laws.read-written knownType Known known (widthOf (width given)) (bytes given) each (pairs given) (numbers given) m n (sym (call .0) ∙ said) (output given′) room in
+      let p = back ∙ ap (take (2 * m)) (call .1 .0) in
+      let q = after ∙ ap (take n) (call .1 .1) in (
+        call′ .0
+            ∙ ap (λ (v : AsnLength). encodeAnswer knownType (widthOf v) (pairsLent given′) (numbersLent given′) (length (output given′))) (sym alike)
+            ∙ ap₂ (λ (x y : List ℕ). encodeAnswer knownType (widthOf (width given)) x y (length (output given′))) p q
+            ∙ r .0,
+        call′ .1
+            ∙ ap (λ (v : AsnLength). encodeLeft knownType (widthOf v) (pairsLent given′) (numbersLent given′) (output given′)) (sym alike)
+            ∙ ap₂ (λ (x y : List ℕ). encodeLeft knownType (widthOf (width given)) x y (output given′)) p q
+            ∙ r .1,
+      )
 
 -- ---- 5. Two paths that the writer accepts and whose bytes are the same are equal.
 
--- any two calls of encode_as_path
 module _ (κs : _) (given : _) (answer : _) (exit : _) (call : «encode_as_path».Learnt κs given answer exit)
     (κs′ : _) (given′ : _) (answer′ : _) (exit′ : _) (call′ : «encode_as_path».Learnt κs′ given′ answer′ exit′) where
-  abbrev pairsWritten : List ℕ
-  pairsWritten = now (given .0)
-
-  abbrev numbersWritten : List ℕ
-  numbersWritten = now (given .1 .0)
-
-  abbrev widthWritten : AsnLength
-  widthWritten = given .1 .1 .0
-
-  abbrev bytesWritten : List ℕ
-  bytesWritten = now (exit .1 .1 .1 .0)
-
-  abbrev pairsWritten′ : List ℕ
-  pairsWritten′ = now (given′ .0)
-
-  abbrev numbersWritten′ : List ℕ
-  numbersWritten′ = now (given′ .1 .0)
-
-  abbrev widthWritten′ : AsnLength
-  widthWritten′ = given′ .1 .1 .0
-
-  abbrev bytesWritten′ : List ℕ
-  bytesWritten′ = now (exit′ .1 .1 .1 .0)
-
-  pub paths-equal : widthWritten ≡ widthWritten′ → (n n′ : ℕ) → answer ≡ W.Bytes n → answer′ ≡ W.Bytes n′ → take n bytesWritten ≡ take n′ bytesWritten′
-      → (pairsWritten ≡ pairsWritten′) × (numbersWritten ≡ numbersWritten′)
-  paths-equal same n n′ e e′ bytes-same =
-      let room = now (given .1 .1 .1 .0) in
-      let room′ = now (given′ .1 .1 .1 .0) in
-      let answer-in = ap (λ (v : AsnLength). encodeAnswer knownType (widthOf v) pairsWritten′ numbersWritten′ (length room′)) same in
-      let left-in = ap (λ (v : AsnLength). encodeLeft knownType (widthOf v) pairsWritten′ numbersWritten′ room′) same in
-      general.written-once knownType Known known (widthOf widthWritten) pairsWritten numbersWritten room n pairsWritten′ numbersWritten′ room′ n′
-      (sym (call .0) ∙ e) (answer-in ∙ sym (call′ .0) ∙ e′) (sym (ap (take n) (call .1)) ∙ bytes-same ∙ ap (take n′) (call′ .1 ∙ sym left-in))
+  pub paths-equal : widthAsked given ≡ widthAsked given′ → (n n′ : ℕ) → answer ≡ W.Bytes n → answer′ ≡ W.Bytes n′ → take n (output exit) ≡ take n′ (output exit′)
+      → (pairsLent given ≡ pairsLent given′) × (numbersLent given ≡ numbersLent given′)
+  paths-equal alike n n′ said said′ same =
+      Laws.written-once knownType Known known (widthOf (widthAsked given)) (pairsLent given) (numbersLent given) (output given) n (pairsLent given′) (numbersLent given′) (output given′) n′
+      (sym (call .0) ∙ said)
+      (ap (λ (v : AsnLength). encodeAnswer knownType (widthOf v) (pairsLent given′) (numbersLent given′) (length (output given′))) alike ∙ sym (call′ .0) ∙ said′)
+      (ap (take n) (sym (call .1))
+      ∙ same
+      ∙ ap (take n′) (call′ .1 ∙ ap (λ (v : AsnLength). encodeLeft knownType (widthOf v) (pairsLent given′) (numbersLent given′) (output given′)) (sym alike)))

@@ -8,7 +8,7 @@ use native.Mathlib.Nat.{not-suc-le-zero}
 use native.Mathlib.Omega.{arith}
 use lib.ListN.{length, getD, take, drop, length-append, length-drop}
 use lib.Seq.{take-add, take-append-le, drop-append-le, length-take-le}
-use Rattle.wire.specs.Number.{be, padded, beAt}
+use Rattle.wire.specs.Number.{be, beAt}
 use Rattle.wire.proofs.NumberLaws.{padded-take}
 use Rattle.wire.specs.Walk.{took, flat}
 use Rattle.wire.specs.Cutting.{Each, none, one}

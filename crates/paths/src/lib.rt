@@ -1,8 +1,7 @@
 // AS_PATH (RFC 4271 section 4.3, RFC 5065 section 3, RFC 6793 section 4.1): reading a path and counting it. The reading of
 // attr_02_17_as_path.rs.
 ghost use mathlib.Core.Path.{_≡_};
-ghost use Prim.Native.Nat.{_+_, _≤_, _<_};
-ghost use mathlib.Core.Bool.{true};
+ghost use Prim.Native.Nat.{_+_, _≤_};
 ghost use mathlib.Core.List.{[], _∷_};
 ghost use lib.ListN.{length, drop};
 ghost use Rattle.wire.specs.Store.{laid, PutAhead};

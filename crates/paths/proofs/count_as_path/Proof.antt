@@ -3,7 +3,6 @@ use borrow.Author.Needs.{needs}
 use native.Mathlib.Omega.{arith}
 use Prim.Native.Nat.{_+_, _-_, _≤_}
 use lib.ListN.{length}
-use Rattle.wire.specs.Walk.{took}
 use Rattle.asns.specs.Asn.{widthOf}
 use Rattle.paths.specs.Segment.{knownType}
 use Rattle.asns.proofs.AsnLaws.{width-pos}
