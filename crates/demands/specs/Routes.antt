@@ -1,5 +1,5 @@
 -- What reading and writing routes are, of the calls themselves: whatever they are given, answer and leave. For each family, and for each form: Plain is
--- read with Add-Path and the guess off, Tagged with Add-Path on.
+-- read with Add-Path and the guess off, Tagged with Add-Path on (`fixed` is the setting of a form).
 -- Assumes nothing.
 use Prim.Native.Nat.{ℕ, _*_, _/_, _≤_}
 use mathlib.Core.Path.{_≡_, sym, ap, ap₂, _∙_}
@@ -34,7 +34,9 @@ use Rattle.route_writer.proofs.RouteTheorems as Laws
 
 -- ---- the words of the statements
 
--- a reading call is given bytes, a family, an Add-Path setting and, unless it counts, a store, which holds something else at exit
+-- A call is given what stands at these places among its arguments; of what it is lent, `store exit` and `output exit` are what that holds at exit.
+
+-- a reading call: the bytes, the family, the Add-Path setting and, unless it counts, the store
 abbrev pub bytes : {R : Type 0} → RefT (List ℕ) × R → List ℕ
 bytes given = now (given .0)
 
@@ -47,7 +49,7 @@ setting given = given .1 .1 .0
 abbrev pub store : {A B C R : Type 0} → A × (B × (C × (RefT (List ℕ) × R))) → List ℕ
 store given = now (given .1 .1 .1 .0)
 
--- the writing call is given rows, a family, a form and an output
+-- the writing call: the rows, the family, the form and the output
 abbrev pub rows : {R : Type 0} → RefT (List ℕ) × R → List ℕ
 rows given = now (given .0)
 

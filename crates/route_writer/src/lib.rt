@@ -22,7 +22,7 @@ pub enum ListsAnswer {
     Refused(u8),
 }
 
-// The four bytes of a word of the store, at a place of the output.
+// The four bytes of a word of the store, at a place of the output: just those four are lent, so that no test of room is left when it is compiled.
 fn put_word(rows: &[u32], i: usize, out: &mut [u8], to: usize)
     requires { ⌜ (i < length (now rows)) × (to + 4 ≤ length (now out)) ⌝ }
     ensures { λ _. ⌜ now (out .exit) ≡ laid (now (out .entry)) to (toBe 4 (getD (now (rows .entry)) i 0)) ⌝ }
