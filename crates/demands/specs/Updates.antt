@@ -9,7 +9,7 @@ use Rattle.wire.specs.Refusal.{truncated, prefixLength, oneByteSection, bodyLim
 use Rattle.routes.specs.Promises.{verdictIn}
 use Rattle.routes.specs.declared.ListAnswer.{ListAnswer}
 use Rattle.families.specs.declared.AddPath.{AddPath}
-use Rattle.updates.specs.Body.{lengthSize, partsOf, withdrawnOf, attributesOf, announcedOf}
+use Rattle.updates.specs.Body.{lengthSize, partsOf}
 use Rattle.updates.specs.Update.{countUpdate}
 use Rattle.updates.specs.declared.PartsAnswer.the-variants.{Parts}
 use Rattle.updates.specs.declared.UpdateAnswer.the-variants.{Update}

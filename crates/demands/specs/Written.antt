@@ -1,5 +1,5 @@
--- Written and read again, of the calls themselves: what a writer wrote is read as what it was given, whatever follows it in the bytes that are
--- read; and what keeps the limits is written, given room, so that no writer refuses too much.
+-- Written and read again, of the calls themselves: what a writer wrote is read as what it was given, a message whatever follows it; and what keeps
+-- the limits is written, given room, so that no writer refuses too much.
 use Prim.Native.Nat.{ℕ, _+_, _/_, _^_, _≤_, _<_}
 use mathlib.Core.Path.{_≡_, sym, ap, ap₂, _∙_}
 use mathlib.Core.List.{List, _++_}
@@ -266,7 +266,7 @@ module _ (κs : _) (given : _) (answer : _) (exit : _) (call : encode_aggregator
       same ∙ ap (take n) (call .1) ∙ written-front (aggregatorWritten asn identifier width (length outAggregator)) n (aggregatorBytes width asn identifier) outAggregator e size in
       read ∙ ap (λ (s : List ℕ). aggregatorOf s (given′ .1 .0)) bytes ∙ Aggregators.written-read asn identifier width (given′ .1 .0) (fit .0) small
 
--- ---- lists of routes, and paths: what keeps the limits is written (that it is read again is in Routes and Paths)
+-- ---- lists of routes, and paths: what keeps the limits is written; Routes and Paths have the rest
 
 -- any call that writes a list
 module _ (κs : _) (given : _) (answer : _) (exit : _) (call : encode_nlri_prefixes.Learnt κs given answer exit) where

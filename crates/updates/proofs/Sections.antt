@@ -1,4 +1,5 @@
--- The sections of an UPDATE body: with their length bytes they are the whole of it, and a malformed one has one of three numbers.
+-- The sections of an UPDATE body: with their length bytes they are the whole of it, a malformed one has one of three numbers, and what is read is
+-- what is counted.
 -- Assumes nothing.
 use Prim.Native.Nat.{ℕ, zero, suc, _+_, _≤_}
 use mathlib.Core.Path.{_≡_, refl, sym, ap, subst, _∙_}
