@@ -1,6 +1,7 @@
--- The fields of every answer of the module path are of 16 bits.
+-- The fields of every answer of the module path are of 16 bits; and what reading one told.
 -- Assumes nothing.
 use Prim.Native.Nat.{ℕ, _/_, _≤_, _<_}
+use mathlib.Core.Path.{_≡_}
 use mathlib.Core.List.{List}
 use native.Mathlib.Omega.{arith}
 use lib.ListN.{length}
@@ -24,7 +25,7 @@ use Rattle.paths.specs.declared.PathAnswer.{PathAnswer}
 use Rattle.paths.specs.declared.PathAnswer.the-variants as P
 use Rattle.path_writer.specs.Promises.{encodeAnswer}
 use Rattle.path_writer.specs.Write.{addsUp, lentPath}
-use Rattle.words.specs.Word.{inFields, Narrow}
+use Rattle.words.specs.Word.{inFields, wordOf, Narrow}
 use Rattle.words.proofs.WordLaws.{refused-narrow}
 use Rattle.firmware.proofs.Bounds.{tally-few, answer-any, limited-narrow}
 
@@ -66,6 +67,16 @@ module _ (s : List ℕ) (width : AsnLength) where
           (pick-any Fine (leb n q) (P.Path m n) (P.Refused noRoom) h (refused-narrow noRoom))
           (refused-narrow noRoom)
       by (P.Refused n) h = refused-narrow n
+
+-- what reading into two stores told, by the width of a flag
+pub read-told : (s : List ℕ) (width width′ : AsnLength) (pairs numbers pairs′ numbers′ : List ℕ) (a : PathAnswer) (r : ℕ)
+    → width ≡ width′ → r ≡ wordOf (inFields (pathMeaning a)) → a ≡ paths.readAnswer s (pathOf knownType (widthOf width) s) (length pairs) (length numbers)
+    → pairs′ ≡ paths.pairsAfter s (pathOf knownType (widthOf width) s) pairs (length numbers)
+    → numbers′ ≡ paths.numbersAfter s (pathOf knownType (widthOf width) s) (length pairs) numbers
+    → let path = pathOf knownType (widthOf width′) s in
+    (r ≡ wordOf (inFields (pathMeaning (paths.readAnswer s path (length pairs) (length numbers)))))
+    × ((pairs′ ≡ paths.pairsAfter s path pairs (length numbers)) × (numbers′ ≡ paths.numbersAfter s path (length pairs) numbers))
+read-told s width width′ pairs numbers pairs′ numbers′ a r m e f g h = rw (← m, ← f) (e, (g, h))
 
 -- ---- what is written
 

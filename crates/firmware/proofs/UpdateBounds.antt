@@ -1,12 +1,14 @@
--- The fields of every answer of the module update are of 16 bits.
+-- The fields of every answer of the module update are of 16 bits; and what reading and writing one told.
 -- Assumes nothing.
 use Prim.Native.Nat.{ℕ, _+_, _≤_}
 use mathlib.Core.Path.{_≡_, sym, _∙_}
 use mathlib.Core.List.{List}
 use native.Mathlib.Omega.{arith}
-use Rattle.wire.specs.Answer.{writeMeaning}
+use lib.ListN.{length}
+use Rattle.wire.specs.Answer.{filled, writeMeaning}
 use Rattle.wire.specs.Extent.{Extent}
 use Rattle.wire.specs.Refusal.{noRoom}
+use Rattle.wire.specs.declared.WriteAnswer.{WriteAnswer}
 use Rattle.wire.proofs.ChoiceLaws.{pick-any}
 use Rattle.families.specs.Family.{maxOf}
 use Rattle.route_reader.specs.Pair.{readPairBy, readPair}
@@ -18,15 +20,15 @@ use Rattle.routes.specs.declared.ListAnswer.{ListAnswer}
 use Rattle.route_reader.specs.declared.PairAnswer.{PairAnswer}
 use Rattle.route_reader.specs.declared.PairAnswer.the-variants as Q
 use Rattle.updates.specs.Body.{partsOf, withdrawnOf, announcedOf}
-use Rattle.updates.specs.Update.{ifParts, asUpdate, counted, countUpdate, readUpdate}
+use Rattle.updates.specs.Update.{ifParts, asUpdate, counted, countUpdate, readUpdate, withdrawnAfter, announcedAfter}
 use Rattle.updates.specs.declared.PartsAnswer.{PartsAnswer}
 use Rattle.updates.specs.declared.PartsAnswer.the-variants as S
 use Rattle.updates.specs.declared.UpdateAnswer.{UpdateAnswer}
 use Rattle.updates.specs.declared.UpdateAnswer.the-variants as U
 use Rattle.updates.proofs.BodyLaws.{parts-add-up}
-use Rattle.update_writer.specs.Body.{bodyAnswer}
+use Rattle.update_writer.specs.Body.{bodyBytes, bodyAnswer}
 use Rattle.update_writer.proofs.RoundTrip.{body-cases}
-use Rattle.words.specs.Word.{inFields, Narrow}
+use Rattle.words.specs.Word.{inFields, wordOf, Narrow}
 use Rattle.words.proofs.WordLaws.{refused-narrow, number-narrow}
 use Rattle.firmware.specs.Fields.{partFields, updateFields}
 use Rattle.firmware.proofs.ListBounds.{section-modest, Small, count-small}
@@ -73,6 +75,14 @@ module _ (b : List ℕ) (mode : AddPath) where
   unfolding readUpdate readPair
   read-update-narrow places places′ = if-narrow (partsOf b) _ (pair-narrow _ _ places places′ (both-small .0) (both-small .1))
 
+-- what reading into two stores told, by the setting of a settings byte
+pub read-told : (b : List ℕ) (mode mode′ : AddPath) (withdrawn announced withdrawn′ announced′ : List ℕ) (u : UpdateAnswer) (r : ℕ)
+    → mode ≡ mode′ → r ≡ wordOf (updateFields u) → u ≡ readUpdate b mode (length withdrawn) (length announced)
+    → withdrawn′ ≡ withdrawnAfter u b mode withdrawn → announced′ ≡ announcedAfter u b mode announced
+    → let told = readUpdate b mode′ (length withdrawn) (length announced) in
+    (r ≡ wordOf (updateFields told)) × ((withdrawn′ ≡ withdrawnAfter told b mode′ withdrawn) × (announced′ ≡ announcedAfter told b mode′ announced))
+read-told b mode mode′ withdrawn announced withdrawn′ announced′ u r m e f g h = rw (← m, ← f) (e, (g, h))
+
 -- ---- what is written
 
 pub write-update-narrow : (withdrawn attributes announced : List ℕ) (form : Form) (places : ℕ)
@@ -80,3 +90,10 @@ pub write-update-narrow : (withdrawn attributes announced : List ℕ) (form : Fo
 write-update-narrow withdrawn attributes announced form places =
     body-cases withdrawn attributes announced form places (λ a. Narrow (inFields (writeMeaning a))) refused-narrow
     (λ n fit. number-narrow n (omega (arith, fit .size, fit .sizes .whole)))
+
+pub write-told : (withdrawn attributes announced : List ℕ) (form form′ : Form) (out out′ : List ℕ) (a : WriteAnswer) (r : ℕ)
+    → form ≡ form′ → r ≡ wordOf (inFields (writeMeaning a)) → a ≡ bodyAnswer withdrawn attributes announced form (length out)
+    → out′ ≡ filled (writeMeaning a) (bodyBytes withdrawn attributes announced form) out
+    → let told = writeMeaning (bodyAnswer withdrawn attributes announced form′ (length out)) in
+    (r ≡ wordOf (inFields told)) × (out′ ≡ filled told (bodyBytes withdrawn attributes announced form′) out)
+write-told withdrawn attributes announced form form′ out out′ a r m e f g = rw (← m, ← f) (e, g)

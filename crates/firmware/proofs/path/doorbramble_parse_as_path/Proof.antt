@@ -1,6 +1,5 @@
-use Rattle.words.proofs.WordLaws.{told-in}
-use Rattle.paths.specs.Promises.{pathMeaning}
-use Rattle.firmware.proofs.PathBounds.{read-path-narrow}
+use Rattle.words.specs.Settings.{asnLengthOf}
+use Rattle.firmware.proofs.PathBounds.{read-path-narrow, read-told}
 use borrow.Author.Needs.{needs}
 use Rattle.firmware.proofs.path.doorbramble_parse_as_path.Statement.{statement}
 use Rattle.firmware.proofs.path.doorbramble_parse_as_path.Tie as tie
@@ -22,8 +21,12 @@ same-length-2 c = search needs
 
 returns : tie.Need-returns
 returns c =
-    let e = rw (c .before .before .before .before .before .before .before .before .asn-length-of .ensures) at (c .before .before .before .before .before .parse-as-path .ensures) in
-    (told-in pathMeaning (c .path-word .ensures) (e .0), (e .1 .0, e .1 .1))
+    let p = c .before .before .before .before .before in
+    let m = p .before .before .before in
+    let a = m .before .before .before .before .args in
+    let e = p .parse-as-path .ensures in
+    read-told (a .value .now) (m .asn-length-of .result) (asnLengthOf (a .four-bytes)) (a .pairs .now) (a .numbers .now) _ _ (p .parse-as-path .result) (c .path-word .result)
+    (m .asn-length-of .ensures) (c .path-word .ensures) (e .0) (e .1 .0) (e .1 .1)
 
 pub doorbramble-parse-as-path-spec : {M : Type 1} → statement M
 doorbramble-parse-as-path-spec =

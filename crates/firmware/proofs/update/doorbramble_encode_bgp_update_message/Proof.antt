@@ -1,6 +1,5 @@
-use Rattle.words.proofs.WordLaws.{told-in}
-use Rattle.wire.specs.Answer.{writeMeaning}
-use Rattle.firmware.proofs.UpdateBounds.{write-update-narrow}
+use Rattle.words.specs.Settings.{formOf}
+use Rattle.firmware.proofs.UpdateBounds.{write-update-narrow, write-told}
 use borrow.Author.Needs.{needs}
 use Rattle.firmware.proofs.update.doorbramble_encode_bgp_update_message.Statement.{statement}
 use Rattle.firmware.proofs.update.doorbramble_encode_bgp_update_message.Tie as tie
@@ -19,8 +18,12 @@ same-length c = search needs
 
 returns : tie.Need-returns
 returns c =
-    let e = rw (c .before .before .before .before .before .form-of .ensures) at (c .before .before .before .encode-bgp-update-message .ensures) in
-    (told-in writeMeaning (c .write-word .ensures) (e .0), rw (e .0) at (e .1))
+    let p = c .before .before .before in
+    let m = p .before .before in
+    let a = m .before .before .before .before .before .args in
+    let e = p .encode-bgp-update-message .ensures in
+    write-told (a .withdrawn .now) (a .attributes .now) (a .announced .now) (m .form-of .result) (formOf (a .add-path)) (a .out .now) _ (p .encode-bgp-update-message .result) (c .write-word .result)
+    (m .form-of .ensures) (c .write-word .ensures) (e .0) (e .1)
 
 pub doorbramble-encode-bgp-update-message-spec : {M : Type 1} → statement M
 doorbramble-encode-bgp-update-message-spec =

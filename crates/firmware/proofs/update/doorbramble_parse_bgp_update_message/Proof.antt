@@ -1,6 +1,5 @@
-use Rattle.words.proofs.WordLaws.{told}
-use Rattle.firmware.specs.Fields.{updateFields}
-use Rattle.firmware.proofs.UpdateBounds.{read-update-narrow}
+use Rattle.families.specs.Family.{modeOf}
+use Rattle.firmware.proofs.UpdateBounds.{read-update-narrow, read-told}
 use borrow.Author.Needs.{needs}
 use Rattle.firmware.proofs.update.doorbramble_parse_bgp_update_message.Statement.{statement}
 use Rattle.firmware.proofs.update.doorbramble_parse_bgp_update_message.Tie as tie
@@ -22,8 +21,12 @@ same-length-2 c = search needs
 
 returns : tie.Need-returns
 returns c =
-    let e = rw (c .before .before .before .before .before .before .before .before .mode-of .ensures) at (c .before .before .before .before .before .parse-bgp-update-message .ensures) in
-    (told updateFields (c .update-word .ensures) (e .0), rw (e .0) at (e .1))
+    let p = c .before .before .before .before .before in
+    let m = p .before .before .before in
+    let a = m .before .before .before .before .args in
+    let e = p .parse-bgp-update-message .ensures in
+    read-told (a .body .now) (m .mode-of .result) (modeOf (a .settings)) (a .withdrawn .now) (a .announced .now) _ _ (p .parse-bgp-update-message .result) (c .update-word .result)
+    (m .mode-of .ensures) (c .update-word .ensures) (e .0) (e .1 .0) (e .1 .1)
 
 pub doorbramble-parse-bgp-update-message-spec : {M : Type 1} → statement M
 doorbramble-parse-bgp-update-message-spec =
