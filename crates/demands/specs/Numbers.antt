@@ -5,7 +5,7 @@ use Prim.Native.Nat.{ℕ, _-_}
 use mathlib.Core.Path.{_≡_, refl}
 use mathlib.Core.List.{List, [], _∷_, _++_}
 use mathlib.Core.Bool.{Bool, true, false, _&&_}
-use lib.ListN.{replicate}
+use lib.ListN.{length, replicate}
 use lib.Dec.{eqb}
 use Rattle.wire.specs.Answer.{numberIn, writeMeaning, limited}
 use Rattle.wire.specs.Number.{beAt, toBe}
@@ -473,3 +473,15 @@ table = refusalNumbers ++ (headers ++ (bodies ++ (lists ++ (pathsAndAggregators 
 pub numbers : agree table ≡ true
 unfolding agree zeros beAt readAll walk flat modeOf wordAt rowOf itemRow prefixOf inForm guessForm stepOf listOf sectionOf routes.countAnswer routes.readAnswer fourWords rowBytes allZero writable frontRow writeStep writing bytesOf measured routeWriter.writeAnswer limited span aggregatorOf aggregatorBytes aggregatorWritten typeFault numbersOf segmentAt segmentOf pathOf paths.countAnswer paths.readAnswer segmentBytes addsUp allFit writeFault lentOf lentPath pathBytes pathWriter.lentBytes pathWriter.encodeAnswer leastLength mostLength crateLimit isOutside isUnknown allFF messageOf strictWithin messageWriter.writeMessage partsOf bodySized bodyAnswer wordOf familyOf formOf asnLengthOf
 numbers = refl
+
+-- the limit of a list and of a path to write is of their bytes, whatever they are
+pub list-limit : (rows : List ℕ) (max : ℕ) (form : Form) (places : ℕ) → writing rows max form .verdict ≡ 0
+    → routeWriter.writeAnswer rows max form places ≡ limited refusals.listLimit (length (bytesOf rows max form)) places
+unfolding routeWriter.writeAnswer
+list-limit rows max form places e = rw e
+
+pub path-limit : (width : AsnLength) (pairs numbers : List ℕ) (places : ℕ) → addsUp pairs (length numbers) ≡ true → lentPath knownType (widthOf width) pairs numbers .verdict ≡ 0
+    → pathWriter.encodeAnswer knownType (widthOf width) pairs numbers places
+    ≡ limited refusals.listLimit (length (pathWriter.lentBytes knownType (widthOf width) pairs numbers)) places
+unfolding pathWriter.encodeAnswer
+path-limit width pairs numbers places adds e = rw (adds, e)

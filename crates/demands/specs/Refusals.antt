@@ -6,29 +6,31 @@ use mathlib.Core.Path.{_≡_, refl, sym, ap, _∙_}
 use mathlib.Core.List.{List, [], _∷_}
 use native.Mathlib.Omega.{arith}
 use denote.Ref.{now}
-use lib.ListN.{length, take, drop}
-use lib.Seq.{length-take-le}
+use lib.ListN.{length, drop}
+use lib.Dec.{ltb}
 use Rattle.wire.specs.Answer.{Answer, given, refusal, valueIn, filled, writeMeaning}
 use Rattle.wire.specs.Number.{toBe}
-use Rattle.wire.specs.Store.{laid, placed}
+use Rattle.wire.specs.Store.{laid}
 use Rattle.wire.specs.Walk.{Reading, flat}
 use Rattle.wire.specs.declared.WriteAnswer.{WriteAnswer}
 use Rattle.wire.specs.declared.WriteAnswer.the-variants as W
+use Rattle.wire.proofs.ChoiceLaws.{pick-unless}
 use Rattle.wire.proofs.StoreLaws.{drop-laid-front, drop-laid-past, length-laid, placed-not}
 use Rattle.outputs.proofs.put_u16.Reads as put_u16
 use Rattle.outputs.proofs.put_u32.Reads as put_u32
 use Rattle.copies.proofs.copy_at.Reads as copy_at
 use Rattle.families.specs.Family.{maxOf, modeOf}
 use Rattle.families.specs.declared.Afi.the-variants.{Ipv4}
+use Rattle.families.specs.declared.AddPath.{AddPath}
 use Rattle.families.specs.declared.Form.{Form}
-use Rattle.routes.specs.List.{listOf, sectionOf}
+use Rattle.routes.specs.List.{sectionOf}
 use Rattle.routes.specs.Prefix.{words}
 use Rattle.routes.specs.Promises.{listMeaning, rowsIn, countAnswer, readAnswer, storeAfter}
 use Rattle.routes.specs.declared.Row.{Row}
 use Rattle.routes.specs.declared.ListAnswer.{ListAnswer}
 use Rattle.routes.specs.declared.ListAnswer.the-variants as L
 use Rattle.routes.proofs.ListLaws.{counted-places, read-places, store-by}
-use Rattle.route_reader.specs.Pair.{firstMeaning, secondMeaning, readPairBy, readPair}
+use Rattle.route_reader.specs.Pair.{firstMeaning, secondMeaning, readPair, readPairFirst, readPairSecond}
 use Rattle.route_reader.specs.declared.PairAnswer.{PairAnswer}
 use Rattle.route_reader.specs.declared.PairAnswer.the-variants as P
 use Rattle.route_reader.proofs.PairLaws.{pair-counted}
@@ -45,13 +47,12 @@ use Rattle.route_writer.proofs.PromiseLaws.{written-bytes}
 use Rattle.route_bytes.proofs.PromiseLaws.{measured-bytes}
 use Rattle.route_writer.proofs.encode_nlri_prefixes.Reads as encode_nlri_prefixes
 use Rattle.route_writer.proofs.encode_nlri_pair.Reads as encode_nlri_pair
-use Rattle.asns.specs.Asn.{widthOf}
-use Rattle.asns.specs.Aggregator.{aggregatorBytes, aggregatorWritten, aggregatorLeft}
+use Rattle.asns.specs.Aggregator.{aggregatorMeaning, aggregatorOf, aggregatorBytes, aggregatorWritten, aggregatorLeft}
 use Rattle.asns.specs.declared.AsnLength.{AsnLength}
 use Rattle.asns.proofs.AggregatorLaws.{bytes-length}
 use Rattle.asns.proofs.RoundTrip as Aggregators
 use Rattle.asns.proofs.encode_aggregator.Reads as encode_aggregator
-use Rattle.paths.specs.Segment.{Segment, Rule, knownType, pathOf, pairOf, asnsOf}
+use Rattle.paths.specs.Segment.{Segment, Rule, pairOf, asnsOf}
 use Rattle.paths.specs.Promises as Paths
 use Rattle.paths.specs.Promises.{pathMeaning, pairsAfter, numbersAfter}
 use Rattle.paths.specs.declared.PathAnswer.{PathAnswer}
@@ -66,7 +67,7 @@ use Rattle.messages.specs.Written.{messageBytes, writeMessage, messageAfter}
 use Rattle.messages.proofs.WrittenLaws.{message-length, out-by}
 use Rattle.messages.proofs.encode_bgp_message.Reads as encode_bgp_message
 use Rattle.updates.specs.Body.{withdrawnOf, announcedOf}
-use Rattle.updates.specs.Update.{withdrawnMeaning, announcedMeaning, readUpdate}
+use Rattle.updates.specs.Update.{withdrawnMeaning, announcedMeaning, readUpdate, withdrawnAfter, announcedAfter}
 use Rattle.updates.specs.declared.UpdateAnswer.{UpdateAnswer}
 use Rattle.updates.specs.declared.UpdateAnswer.the-variants as U
 use Rattle.updates.proofs.Sections.{counted-sections, read-is-count}
@@ -74,6 +75,18 @@ use Rattle.updates.proofs.parse_bgp_update_message.Reads as parse_bgp_update_me
 use Rattle.update_writer.specs.Body.{bodyBytes, bodyAnswer}
 use Rattle.update_writer.proofs.RoundTrip as Bodies
 use Rattle.update_writer.proofs.encode_bgp_update_message.Reads as encode_bgp_update_message
+use Rattle.words.specs.Settings.{asnLengthOf}
+use Rattle.words.specs.Word.{inFields, wordOf}
+use Rattle.firmware.specs.Fields.{updateFields, aggregatorSize, aggregatorStored, aggregatorWords}
+use Rattle.firmware.proofs.list.doorbramble_parse_nlri_list.Reads as c_parse_nlri_list
+use Rattle.firmware.proofs.list.doorbramble_encode_nlri_prefixes.Reads as c_encode_nlri_prefixes
+use Rattle.firmware.proofs.path.doorbramble_parse_as_path.Reads as «c_parse_as_path»
+use Rattle.firmware.proofs.path.doorbramble_encode_as_path.Reads as «c_encode_as_path»
+use Rattle.firmware.proofs.aggregator.doorbramble_parse_aggregator.Reads as c_parse_aggregator
+use Rattle.firmware.proofs.aggregator.doorbramble_encode_aggregator.Reads as c_encode_aggregator
+use Rattle.firmware.proofs.message.doorbramble_encode_bgp_message.Reads as c_encode_bgp_message
+use Rattle.firmware.proofs.update.doorbramble_parse_bgp_update_message.Reads as c_parse_bgp_update_message
+use Rattle.firmware.proofs.update.doorbramble_encode_bgp_update_message.Reads as c_encode_bgp_update_message
 
 -- ---- what a call leaves of a lent list, by its answer as document 01 has it and the places that it counts
 
@@ -213,39 +226,35 @@ module _ (κs : _) (lent : _) (answer : _) (exit : _) (call : encode_nlri_pair.L
 
 -- ---- readers into two stores
 
+-- a path in its stores, by its definitions: two places a segment, and a place a number
+path-lengths : (value : List ℕ) (path : Reading Segment) (places places′ : ℕ) (a : PathAnswer) (fields : List ℕ) → Paths.readAnswer value path places places′ ≡ a → pathMeaning a ≡ given fields
+    → (length (flat pairOf (path .rows)) ≡ 2 * valueIn 0 (pathMeaning a)) × (length (flat asnsOf (path .rows)) ≡ valueIn 1 (pathMeaning a))
+path-lengths value path places places′ (T.Path m n) fields e f =
+    let h = read-path value path m n places places′ e in
+    (pairs-length (path .rows) ∙ ap (λ (k : ℕ). 2 * k) (h .2), h .3)
+path-lengths value path places places′ (T.Refused m) fields e f = let z : _≡_ {A = ℕ} 0 1 = cc in absurd (omega arith)
+
+module _ (value : List ℕ) (path : Reading Segment) (pairs numbers : List ℕ) (a : PathAnswer) (e : a ≡ Paths.readAnswer value path (length pairs) (length numbers)) (after : List ℕ) where
+  pairs-kept : after ≡ pairsAfter value path pairs (length numbers) → Kept (pathMeaning a) (2 * valueIn 0 (pathMeaning a)) pairs after
+  unfolding pairsAfter
+  pairs-kept f =
+      kept (pathMeaning a) (λ x. 2 * valueIn 0 x) (flat pairOf (path .rows)) pairs after (λ n. refl)
+      (λ fields g. path-lengths value path (length pairs) (length numbers) a fields (sym e) g .0)
+      (f ∙ ap (λ (x : PathAnswer). filled (pathMeaning x) (flat pairOf (path .rows)) pairs) (sym e))
+
+  numbers-kept : after ≡ numbersAfter value path (length pairs) numbers → Kept (pathMeaning a) (valueIn 1 (pathMeaning a)) numbers after
+  unfolding numbersAfter
+  numbers-kept f =
+      kept (pathMeaning a) (valueIn 1) (flat asnsOf (path .rows)) numbers after (λ n. refl)
+      (λ fields g. path-lengths value path (length pairs) (length numbers) a fields (sym e) g .1)
+      (f ∙ ap (λ (x : PathAnswer). filled (pathMeaning x) (flat asnsOf (path .rows)) numbers) (sym e))
+
 module _ (κs : _) (lent : _) (answer : _) (exit : _) (call : «parse_as_path».Learnt κs lent answer exit) where
-  abbrev value : List ℕ
-  value = now (lent .0)
+  pub parse-as-path-pairs-kept : Kept (pathMeaning answer) (2 * valueIn 0 (pathMeaning answer)) (now (lent .1 .1 .0)) (now (exit .1 .1 .0))
+  parse-as-path-pairs-kept = pairs-kept _ _ (now (lent .1 .1 .0)) (now (lent .1 .1 .1 .0)) answer (call .0) _ (call .1 .0)
 
-  abbrev pairs : List ℕ
-  pairs = now (lent .1 .1 .0)
-
-  abbrev numbers : List ℕ
-  numbers = now (lent .1 .1 .1 .0)
-
-  path : Reading Segment
-  path = pathOf knownType (widthOf (lent .1 .0)) value
-
-  lengths : (a : PathAnswer) (fields : List ℕ) → Paths.readAnswer value path (length pairs) (length numbers) ≡ a → pathMeaning a ≡ given fields
-      → (length (flat pairOf (path .rows)) ≡ 2 * valueIn 0 (pathMeaning a)) × (length (flat asnsOf (path .rows)) ≡ valueIn 1 (pathMeaning a))
-  lengths (T.Path m n) fields e f =
-      let h = read-path value path m n (length pairs) (length numbers) e in
-      (pairs-length (path .rows) ∙ ap (λ (k : ℕ). 2 * k) (h .2), h .3)
-  lengths (T.Refused m) fields e f = let z : _≡_ {A = ℕ} 0 1 = cc in absurd (omega arith)
-
-  -- two places a segment
-  pub parse-as-path-pairs-kept : Kept (pathMeaning answer) (2 * valueIn 0 (pathMeaning answer)) pairs (now (exit .1 .1 .0))
-  unfolding pairsAfter path
-  parse-as-path-pairs-kept =
-      kept (pathMeaning answer) (λ a. 2 * valueIn 0 a) (flat pairOf (path .rows)) pairs _ (λ n. refl) (λ fields e. lengths answer fields (sym (call .0)) e .0)
-      (call .1 .0 ∙ ap (λ (x : PathAnswer). filled (pathMeaning x) (flat pairOf (path .rows)) pairs) (sym (call .0)))
-
-  -- a place a number
-  pub parse-as-path-numbers-kept : Kept (pathMeaning answer) (valueIn 1 (pathMeaning answer)) numbers (now (exit .1 .1 .1 .0))
-  unfolding numbersAfter path
-  parse-as-path-numbers-kept =
-      kept (pathMeaning answer) (valueIn 1) (flat asnsOf (path .rows)) numbers _ (λ n. refl) (λ fields e. lengths answer fields (sym (call .0)) e .1)
-      (call .1 .1 ∙ ap (λ (x : PathAnswer). filled (pathMeaning x) (flat asnsOf (path .rows)) numbers) (sym (call .0)))
+  pub parse-as-path-numbers-kept : Kept (pathMeaning answer) (valueIn 1 (pathMeaning answer)) (now (lent .1 .1 .1 .0)) (now (exit .1 .1 .1 .0))
+  parse-as-path-numbers-kept = numbers-kept _ _ (now (lent .1 .1 .0)) (now (lent .1 .1 .1 .0)) answer (call .0) _ (call .1 .1)
 
 -- a section that was counted, in a store
 section-kept : (s : List ℕ) (r : Reading Row) (a : ListAnswer) (before after : List ℕ) → countAnswer s r ≡ a → after ≡ filled (listMeaning a) (flat words (r .rows)) before
@@ -257,62 +266,118 @@ section-kept s r a before after e f =
 refusal-kept : (n : ℕ) (before after : List ℕ) → after ≡ before → Kept (refusal n) 0 before after
 refusal-kept n before after e = record { refused = λ m f. (refl, e); past = e }
 
+-- the sections of an UPDATE in their stores, by its definitions
+module _ (body : List ℕ) (mode : AddPath) (places places′ : ℕ) (before after : List ℕ) where
+  withdrawn-kept : (u : UpdateAnswer) → u ≡ readUpdate body mode places places′ → after ≡ withdrawnAfter u body mode before
+      → Kept (withdrawnMeaning u) (6 * valueIn 0 (withdrawnMeaning u)) before after
+  withdrawn-kept (U.Update first second) e f =
+      section-kept (withdrawnOf body) (sectionOf (withdrawnOf body) (maxOf Ipv4) mode) first before after
+      (counted-sections body mode first second (read-is-count body mode places places′ first second (sym e)) .0) f
+  withdrawn-kept (U.Refused n) e f = refusal-kept n before after f
+
+  announced-kept : (u : UpdateAnswer) → u ≡ readUpdate body mode places places′ → after ≡ announcedAfter u body mode before
+      → Kept (announcedMeaning u) (6 * valueIn 0 (announcedMeaning u)) before after
+  announced-kept (U.Update first second) e f =
+      section-kept (announcedOf body) (sectionOf (announcedOf body) (maxOf Ipv4) mode) second before after
+      (counted-sections body mode first second (read-is-count body mode places places′ first second (sym e)) .1) f
+  announced-kept (U.Refused n) e f = refusal-kept n before after f
+
+-- each section by itself: a malformed one leaves its own store as it was, and a refusal of the UPDATE both
 module _ (κs : _) (lent : _) (answer : _) (exit : _) (call : parse_bgp_update_message.Learnt κs lent answer exit) where
-  abbrev body : List ℕ
-  body = now (lent .0)
-
-  counted-both : (first second : ListAnswer) → answer ≡ U.Update first second
-      → (countAnswer (withdrawnOf body) (sectionOf (withdrawnOf body) (maxOf Ipv4) (lent .1 .0)) ≡ first)
-      × (countAnswer (announcedOf body) (sectionOf (announcedOf body) (maxOf Ipv4) (lent .1 .0)) ≡ second)
-  counted-both first second e = counted-sections body (lent .1 .0) first second (read-is-count body (lent .1 .0) _ _ first second (sym (call .0) ∙ e))
-
-  -- each section by itself: a malformed one leaves its own store as it was, and a refusal of the UPDATE both
   pub update-withdrawn-kept : Kept (withdrawnMeaning answer) (6 * valueIn 0 (withdrawnMeaning answer)) (now (lent .1 .1 .0)) (now (exit .1 .1 .0))
-  update-withdrawn-kept = by answer refl (call .1 .0)
-    where
-      by : (u : UpdateAnswer) → answer ≡ u
-          → now (exit .1 .1 .0) ≡ filled (withdrawnMeaning u) (flat words (sectionOf (withdrawnOf body) (maxOf Ipv4) (lent .1 .0) .rows)) (now (lent .1 .1 .0))
-          → Kept (withdrawnMeaning u) (6 * valueIn 0 (withdrawnMeaning u)) (now (lent .1 .1 .0)) (now (exit .1 .1 .0))
-      by (U.Update first second) e f =
-          section-kept (withdrawnOf body) (sectionOf (withdrawnOf body) (maxOf Ipv4) (lent .1 .0)) first (now (lent .1 .1 .0)) (now (exit .1 .1 .0)) (counted-both first second e .0) f
-      by (U.Refused n) e f = refusal-kept n (now (lent .1 .1 .0)) (now (exit .1 .1 .0)) f
+  update-withdrawn-kept = withdrawn-kept _ _ _ _ _ _ answer (call .0) (call .1 .0)
 
   pub update-announced-kept : Kept (announcedMeaning answer) (6 * valueIn 0 (announcedMeaning answer)) (now (lent .1 .1 .1 .0)) (now (exit .1 .1 .1 .0))
-  update-announced-kept = by answer refl (call .1 .1)
-    where
-      by : (u : UpdateAnswer) → answer ≡ u
-          → now (exit .1 .1 .1 .0) ≡ filled (announcedMeaning u) (flat words (sectionOf (announcedOf body) (maxOf Ipv4) (lent .1 .0) .rows)) (now (lent .1 .1 .1 .0))
-          → Kept (announcedMeaning u) (6 * valueIn 0 (announcedMeaning u)) (now (lent .1 .1 .1 .0)) (now (exit .1 .1 .1 .0))
-      by (U.Update first second) e f =
-          section-kept (announcedOf body) (sectionOf (announcedOf body) (maxOf Ipv4) (lent .1 .0)) second (now (lent .1 .1 .1 .0)) (now (exit .1 .1 .1 .0)) (counted-both first second e .1) f
-      by (U.Refused n) e f = refusal-kept n (now (lent .1 .1 .1 .0)) (now (exit .1 .1 .1 .0)) f
+  update-announced-kept = announced-kept _ _ _ _ _ _ answer (call .0) (call .1 .1)
+
+-- the same of two sections of any bytes and family
+module _ (s t : List ℕ) (max : ℕ) (mode : AddPath) (places places′ : ℕ) (before after : List ℕ) where
+  first-kept : (p : PairAnswer) → p ≡ readPair s t max mode places places′ → after ≡ readPairFirst p (sectionOf s max mode) before
+      → Kept (firstMeaning p) (6 * valueIn 0 (firstMeaning p)) before after
+  unfolding readPair
+  first-kept (P.Sections first second) e f =
+      section-kept s (sectionOf s max mode) first before after (pair-counted _ _ places places′ first second (sym e) .0) f
+  first-kept (P.Refused n) e f = refusal-kept n before after f
+
+  second-kept : (p : PairAnswer) → p ≡ readPair s t max mode places places′ → after ≡ readPairSecond p (sectionOf t max mode) before
+      → Kept (secondMeaning p) (6 * valueIn 0 (secondMeaning p)) before after
+  unfolding readPair
+  second-kept (P.Sections first second) e f =
+      section-kept t (sectionOf t max mode) second before after (pair-counted _ _ places places′ first second (sym e) .1) f
+  second-kept (P.Refused n) e f = refusal-kept n before after f
 
 module _ (κs : _) (lent : _) (answer : _) (exit : _) (call : read_nlri_pair.Learnt κs lent answer exit) where
-  counted-pair : (first second : ListAnswer) → answer ≡ P.Sections first second
-      → (countAnswer (now (lent .0)) (sectionOf (now (lent .0)) (maxOf (lent .1 .1 .0)) (lent .1 .1 .1 .0)) ≡ first)
-      × (countAnswer (now (lent .1 .0)) (sectionOf (now (lent .1 .0)) (maxOf (lent .1 .1 .0)) (lent .1 .1 .1 .0)) ≡ second)
-  unfolding readPair
-  counted-pair first second e = pair-counted _ _ _ _ first second (sym (call .0) ∙ e)
-
   pub read-nlri-pair-first-kept : Kept (firstMeaning answer) (6 * valueIn 0 (firstMeaning answer)) (now (lent .1 .1 .1 .1 .0)) (now (exit .1 .1 .1 .1 .0))
-  read-nlri-pair-first-kept = by answer refl (call .1 .0)
-    where
-      by : (p : PairAnswer) → answer ≡ p
-          → now (exit .1 .1 .1 .1 .0) ≡ filled (firstMeaning p) (flat words (sectionOf (now (lent .0)) (maxOf (lent .1 .1 .0)) (lent .1 .1 .1 .0) .rows)) (now (lent .1 .1 .1 .1 .0))
-          → Kept (firstMeaning p) (6 * valueIn 0 (firstMeaning p)) (now (lent .1 .1 .1 .1 .0)) (now (exit .1 .1 .1 .1 .0))
-      by (P.Sections first second) e f =
-          section-kept (now (lent .0)) (sectionOf (now (lent .0)) (maxOf (lent .1 .1 .0)) (lent .1 .1 .1 .0)) first (now (lent .1 .1 .1 .1 .0)) (now (exit .1 .1 .1 .1 .0)) (counted-pair first second e .0) f
-      by (P.Refused n) e f = refusal-kept n (now (lent .1 .1 .1 .1 .0)) (now (exit .1 .1 .1 .1 .0)) f
+  read-nlri-pair-first-kept = first-kept _ _ _ _ _ _ _ _ answer (call .0) (call .1 .0)
 
   pub read-nlri-pair-second-kept : Kept (secondMeaning answer) (6 * valueIn 0 (secondMeaning answer)) (now (lent .1 .1 .1 .1 .1 .0)) (now (exit .1 .1 .1 .1 .1 .0))
-  read-nlri-pair-second-kept = by answer refl (call .1 .1)
-    where
-      by : (p : PairAnswer) → answer ≡ p
-          → now (exit .1 .1 .1 .1 .1 .0) ≡ filled (secondMeaning p) (flat words (sectionOf (now (lent .1 .0)) (maxOf (lent .1 .1 .0)) (lent .1 .1 .1 .0) .rows)) (now (lent .1 .1 .1 .1 .1 .0))
-          → Kept (secondMeaning p) (6 * valueIn 0 (secondMeaning p)) (now (lent .1 .1 .1 .1 .1 .0)) (now (exit .1 .1 .1 .1 .1 .0))
-      by (P.Sections first second) e f =
-          section-kept (now (lent .1 .0)) (sectionOf (now (lent .1 .0)) (maxOf (lent .1 .1 .0)) (lent .1 .1 .1 .0)) second (now (lent .1 .1 .1 .1 .1 .0)) (now (exit .1 .1 .1 .1 .1 .0)) (counted-pair first second e .1) f
-      by (P.Refused n) e f = refusal-kept n (now (lent .1 .1 .1 .1 .1 .0)) (now (exit .1 .1 .1 .1 .1 .0)) f
+  read-nlri-pair-second-kept = second-kept _ _ _ _ _ _ _ _ answer (call .0) (call .1 .1)
+
+-- ---- the calls for C: the word is that of an answer of document 01, and what was lent is kept by that answer
+
+pub record WordKept (word : ℕ) (counted : Answer → ℕ) (before after : List ℕ) : Type 0 where
+  pub answer : Answer
+  pub is : word ≡ wordOf (inFields answer)
+  pub keeps : Kept answer (counted answer) before after
+
+word-kept : (word : ℕ) (a : Answer) (counted : Answer → ℕ) (before after : List ℕ) → word ≡ wordOf (inFields a) → Kept a (counted a) before after → WordKept word counted before after
+word-kept word a counted before after e k = record { answer = a; is = e; keeps = k }
+
+module _ (κs : _) (lent : _) (word : _) (exit : _) where
+  pub c-parse-nlri-list-kept : c_parse_nlri_list.Learnt κs lent word exit → WordKept word (λ a. 6 * valueIn 0 a) (now (lent .1 .1 .1 .0)) (now (exit .1 .1 .1 .0))
+  c-parse-nlri-list-kept call = word-kept word _ (λ a. 6 * valueIn 0 a) _ _ (call .0) (list-kept _ _ _ _ _ refl (call .1))
+
+module _ (κs : _) (lent : _) (word : _) (exit : _) where
+  pub c-encode-nlri-prefixes-kept : c_encode_nlri_prefixes.Learnt κs lent word exit → WordKept word (valueIn 0) (now (lent .1 .1 .1 .0)) (now (exit .1 .1 .1 .0))
+  c-encode-nlri-prefixes-kept call = word-kept word _ (valueIn 0) _ _ (call .0) (list-written _ _ _ _ _ _ refl (call .1))
+
+module _ (κs : _) (lent : _) (word : _) (exit : _) (call : «c_parse_as_path».Learnt κs lent word exit) where
+  pub c-parse-as-path-pairs-kept : WordKept word (λ a. 2 * valueIn 0 a) (now (lent .1 .1 .0)) (now (exit .1 .1 .0))
+  c-parse-as-path-pairs-kept = word-kept word _ (λ a. 2 * valueIn 0 a) _ _ (call .0) (pairs-kept _ _ (now (lent .1 .1 .0)) (now (lent .1 .1 .1 .0)) _ refl _ (call .1 .0))
+
+  pub c-parse-as-path-numbers-kept : WordKept word (valueIn 1) (now (lent .1 .1 .1 .0)) (now (exit .1 .1 .1 .0))
+  c-parse-as-path-numbers-kept = word-kept word _ (valueIn 1) _ _ (call .0) (numbers-kept _ _ (now (lent .1 .1 .0)) (now (lent .1 .1 .1 .0)) _ refl _ (call .1 .1))
+
+module _ (κs : _) (lent : _) (word : _) (exit : _) where
+  pub c-encode-as-path-kept : «c_encode_as_path».Learnt κs lent word exit → WordKept word (valueIn 0) (now (lent .1 .1 .1 .0)) (now (exit .1 .1 .1 .0))
+  c-encode-as-path-kept call = word-kept word _ (valueIn 0) _ _ (call .0) (path-written _ _ _ _ _ _ _ refl (call .1))
+
+module _ (κs : _) (lent : _) (word : _) (exit : _) where
+  pub c-encode-aggregator-kept : c_encode_aggregator.Learnt κs lent word exit → WordKept word (valueIn 0) (now (lent .1 .1 .1 .0)) (now (exit .1 .1 .1 .0))
+  c-encode-aggregator-kept call = word-kept word _ (valueIn 0) _ _ (call .0) (aggregator-written _ _ _ _ _ _ refl (call .1))
+
+-- an AGGREGATOR read is two words
+aggregator-stored : (m : Answer) (before after : List ℕ) → after ≡ filled (aggregatorStored m (length before)) (aggregatorWords m) before
+    → Kept (aggregatorStored m (length before)) (valueIn 0 (aggregatorStored m (length before))) before after
+aggregator-stored m before after e =
+    kept (aggregatorStored m (length before)) (valueIn 0) (aggregatorWords m) before after (λ n. refl) (two m (length before)) e
+  where
+    two : (x : Answer) (places : ℕ) (fields : List ℕ) → aggregatorStored x places ≡ given fields → 2 ≡ valueIn 0 (aggregatorStored x places)
+    two (given values) places fields =
+        pick-unless (λ (a : Answer). a ≡ given fields → 2 ≡ valueIn 0 a) (ltb places aggregatorSize) _ _
+        (λ f. let z : _≡_ {A = ℕ} 0 1 = cc in absurd (omega arith)) (λ _ f. refl)
+    two (refusal n) places fields = λ f. let z : _≡_ {A = ℕ} 0 1 = cc in absurd (omega arith)
+
+module _ (κs : _) (lent : _) (word : _) (exit : _) where
+  pub c-parse-aggregator-kept : c_parse_aggregator.Learnt κs lent word exit → WordKept word (valueIn 0) (now (lent .1 .1 .0)) (now (exit .1 .1 .0))
+  c-parse-aggregator-kept call = word-kept word _ (valueIn 0) _ _ (call .0) (aggregator-stored (aggregatorMeaning (aggregatorOf (now (lent .0)) (asnLengthOf (lent .1 .0)))) (now (lent .1 .1 .0)) _ (call .1))
+
+module _ (κs : _) (lent : _) (word : _) (exit : _) where
+  pub c-encode-bgp-message-kept : c_encode_bgp_message.Learnt κs lent word exit → WordKept word (valueIn 0) (now (lent .1 .1 .0)) (now (exit .1 .1 .0))
+  c-encode-bgp-message-kept call = word-kept word _ (valueIn 0) _ _ (call .0) (message-written _ _ _ _ _ refl (call .1))
+
+module _ (κs : _) (lent : _) (word : _) (exit : _) where
+  pub c-encode-bgp-update-message-kept : c_encode_bgp_update_message.Learnt κs lent word exit → WordKept word (valueIn 0) (now (lent .1 .1 .1 .1 .0)) (now (exit .1 .1 .1 .1 .0))
+  c-encode-bgp-update-message-kept call = word-kept word _ (valueIn 0) _ _ (call .0) (update-written _ _ _ _ _ _ _ refl (call .1))
+
+-- an UPDATE's word is that of an answer, and each store is kept by the answer of its section
+module _ (κs : _) (lent : _) (word : _) (exit : _) (call : c_parse_bgp_update_message.Learnt κs lent word exit) where
+  pub c-update-kept : (u : UpdateAnswer) × (word ≡ wordOf (updateFields u))
+      × Kept (withdrawnMeaning u) (6 * valueIn 0 (withdrawnMeaning u)) (now (lent .1 .1 .0)) (now (exit .1 .1 .0))
+      × Kept (announcedMeaning u) (6 * valueIn 0 (announcedMeaning u)) (now (lent .1 .1 .1 .0)) (now (exit .1 .1 .1 .0))
+  c-update-kept =
+      let u : UpdateAnswer = readUpdate (now (lent .0)) (modeOf (lent .1 .0)) (length (now (lent .1 .1 .0))) (length (now (lent .1 .1 .1 .0))) in
+      (u, call .0, withdrawn-kept _ _ _ _ _ _ _ refl (call .1 .0), announced-kept _ _ _ _ _ _ _ refl (call .1 .1))
 
 -- ---- numbers and bytes put at a place: there is no refusal number, and where there is no room nothing is put
 
