@@ -28,7 +28,6 @@ use Rattle.routes.specs.Prefix.{words}
 use Rattle.routes.specs.Promises.{listMeaning, rowsIn, countAnswer, readAnswer, storeAfter}
 use Rattle.routes.specs.declared.Row.{Row}
 use Rattle.routes.specs.declared.ListAnswer.{ListAnswer}
-use Rattle.routes.specs.declared.ListAnswer.the-variants as L
 use Rattle.routes.proofs.ListLaws.{counted-places, read-places, store-by}
 use Rattle.route_reader.specs.Pair.{firstMeaning, secondMeaning, readPair, readPairFirst, readPairSecond}
 use Rattle.route_reader.specs.declared.PairAnswer.{PairAnswer}

@@ -1,7 +1,7 @@
 -- The bytes of a row, the rows that have bytes, and a store of rows written row by row.
 -- RFC 4271 section 4.3: a length octet, and that many bits of address in whole octets. RFC 7911 section 3: where Add-Path is in
 -- use, four octets of path identifier before it.
-use Prim.Native.Nat.{ℕ, _-_, _^_, _<_}
+use Prim.Native.Nat.{ℕ, _-_}
 use mathlib.Core.List.{List, [], _∷_, _++_}
 use mathlib.Core.Bool.{Bool, true, _&&_}
 use lib.ListN.{length, getD, take, drop}

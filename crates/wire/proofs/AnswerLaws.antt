@@ -1,14 +1,14 @@
 -- Laws of answers.
 -- Assumes nothing.
-use Prim.Native.Nat.{ℕ, zero, suc, _+_, _-_, _≤_, _<_}
-use mathlib.Core.Path.{_≡_, refl, sym, ap, _∙_}
+use Prim.Native.Nat.{ℕ, zero, suc, _-_, _≤_, _<_}
+use mathlib.Core.Path.{_≡_, refl}
 use mathlib.Core.List.{List}
 use native.Mathlib.Nat.{not-suc-le-zero}
 use native.Mathlib.Omega.{arith}
 use borrow.Author.Tests.{le-leb, lt-leb}
 use lib.ListN.{length, take}
 use lib.Seq.{take-at}
-use Rattle.wire.specs.Answer.{Answer, given, refusal, numberIn, filled, answerBy, unpacked, writeMeaning, limited}
+use Rattle.wire.specs.Answer.{filled, answerBy, unpacked, writeMeaning, limited}
 use Rattle.wire.specs.Refusal.{tooLong, noRoom, pastAll}
 use Rattle.wire.specs.declared.WriteAnswer.{WriteAnswer}
 use Rattle.wire.specs.declared.WriteAnswer.the-variants.{Bytes, Refused}

@@ -1,11 +1,11 @@
 -- What holds of any step that decides an idea of a well-formed item: bytes are read to their end exactly if they can be cut, there is one
 -- cutting, and what is read are its items. And of values that stand for items: what is written is read again, and the other way.
 -- Assumes nothing.
-use Prim.Native.Nat.{ℕ, _+_, _≤_, _<_}
-use mathlib.Core.Path.{_≡_, refl, sym, ap, ap₂, subst, _∙_}
+use Prim.Native.Nat.{ℕ, _+_, _<_}
+use mathlib.Core.Path.{_≡_, refl, sym, ap, ap₂, _∙_}
 use mathlib.Core.List.{List, [], _∷_, _++_, map}
 use native.Mathlib.Omega.{arith}
-use lib.ListN.{length, take, drop, length-append, take-append-drop}
+use lib.ListN.{length, take, length-append, take-append-drop}
 use lib.Seq.{take-append-seam, drop-append-seam}
 use Rattle.wire.specs.Number.{Bytes}
 use Rattle.wire.specs.Walk.{Step, took, Reading, more, readAll, pieces, flat}

@@ -8,7 +8,6 @@ use native.Mathlib.Omega.{arith}
 use borrow.Author.Tests.{le-leb, lt-leb}
 use lib.ListN.{length, take, drop, set, length-append, length-drop, drop-of-length-le, take-append-drop}
 use lib.Seq.{sets, sets-eq, take-at, drop-at, take-append-le, drop-append-le, take-take, length-take-le, drop-drop, paste, take-length, take-all}
-use lib.Dec.{leb}
 use Rattle.wire.proofs.ChoiceLaws.{pick-leb}
 use Rattle.wire.proofs.NumberLaws.{off, off-add}
 use Rattle.wire.proofs.Parts.{drop-take, take-append}
