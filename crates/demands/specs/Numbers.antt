@@ -7,7 +7,7 @@ use mathlib.Core.List.{List, [], _∷_, _++_}
 use mathlib.Core.Bool.{Bool, true, false, _&&_}
 use lib.ListN.{length, replicate}
 use lib.Dec.{eqb}
-use Rattle.wire.specs.Answer.{numberIn, writeMeaning, limited}
+use Rattle.wire.specs.Answer.{given, refusal, numberIn, writeMeaning, limited}
 use Rattle.wire.specs.Number.{beAt, toBe}
 use Rattle.wire.specs.Refusal as refusals
 use Rattle.wire.specs.Walk.{readAll, walk, flat}
@@ -39,9 +39,11 @@ use Rattle.messages.specs.Written as messageWriter
 use Rattle.updates.specs.Body.{partsMeaning, partsOf}
 use Rattle.update_writer.specs.Body.{bodySized, bodyAnswer}
 use Rattle.slots.specs.Slot.{markFirst, markSecond, recordSize, settingsLimit}
-use Rattle.words.specs.Word.{fields, wordOf}
-use Rattle.firmware.specs.Fields.{messageFields}
+use Rattle.words.specs.Word.{fields, inFields, wordOf}
+use Rattle.firmware.specs.Fields.{messageFields, updateFields}
 use Rattle.messages.specs.declared.MessageAnswer.the-variants.{Message}
+use Rattle.routes.specs.declared.ListAnswer.the-variants as L
+use Rattle.updates.specs.declared.UpdateAnswer.the-variants.{Update}
 use Rattle.words.specs.Settings.{familyOf, formOf, asnLengthOf}
 
 -- ---- a table of numbers
@@ -464,6 +466,12 @@ settings =
     ∷ line (wordOf (messageFields (Message 2 0 0 true false false))) 0x10200000000
     ∷ line (wordOf (messageFields (Message 2 0 0 false true false))) 0x20200000000
     ∷ line (wordOf (messageFields (Message 2 0 0 false false true))) 0x40200000000
+    -- an UPDATE: the rows of both sections, and the verdict of the announced one above that of the withdrawn one
+    ∷ line (wordOf (updateFields (Update (L.Rows 3) (L.Refused 7)))) 0x70000000003
+    ∷ line (wordOf (updateFields (Update (L.Refused 2) (L.Rows 3)))) 0x200030000
+    -- other answers: their values in order
+    ∷ line (wordOf (inFields (given (1 ∷ 2 ∷ 3 ∷ [])))) 0x300020001
+    ∷ line (wordOf (inFields (refusal 11))) 0xB000000000000
     ∷ []
 
 abbrev pub table : List Line
