@@ -4,20 +4,23 @@
 use Prim.Native.Nat.{ℕ, _+_, _*_, _≤_, _<_}
 use mathlib.Core.Path.{_≡_, refl, sym, ap, _∙_}
 use mathlib.Core.List.{List, [], _∷_}
+use mathlib.Core.Bool.{false}
 use native.Mathlib.Omega.{arith}
 use denote.Ref.{now}
-use lib.ListN.{length, drop}
+use lib.ListN.{length, take, drop}
 use lib.Dec.{ltb}
 use Rattle.wire.specs.Answer.{Answer, given, refusal, valueIn, filled, writeMeaning}
 use Rattle.wire.specs.Number.{toBe}
-use Rattle.wire.specs.Store.{laid}
+use Rattle.wire.specs.Store.{laid, placed}
 use Rattle.wire.specs.Walk.{Reading, flat}
 use Rattle.wire.specs.declared.WriteAnswer.{WriteAnswer}
 use Rattle.wire.specs.declared.WriteAnswer.the-variants as W
-use Rattle.wire.proofs.ChoiceLaws.{pick-unless}
+use Rattle.wire.proofs.ChoiceLaws.{pick-any, pick-unless}
+use Rattle.wire.proofs.NumberLaws.{length-toBe}
 use Rattle.wire.proofs.StoreLaws.{drop-laid-front, drop-laid-past, length-laid, placed-not}
 use Rattle.outputs.proofs.put_u16.Reads as put_u16
 use Rattle.outputs.proofs.put_u32.Reads as put_u32
+use Rattle.outputs.proofs.put_octets.Reads as put_octets
 use Rattle.copies.proofs.copy_at.Reads as copy_at
 use Rattle.families.specs.Family.{maxOf, modeOf}
 use Rattle.families.specs.declared.Afi.the-variants.{Ipv4}
@@ -46,11 +49,13 @@ use Rattle.route_writer.proofs.PromiseLaws.{written-bytes}
 use Rattle.route_bytes.proofs.PromiseLaws.{measured-bytes}
 use Rattle.route_writer.proofs.encode_nlri_prefixes.Reads as encode_nlri_prefixes
 use Rattle.route_writer.proofs.encode_nlri_pair.Reads as encode_nlri_pair
+use Rattle.asns.specs.Asn.{widthOf, fitsWidth, withNumber}
 use Rattle.asns.specs.Aggregator.{aggregatorMeaning, aggregatorOf, aggregatorBytes, aggregatorWritten, aggregatorLeft}
 use Rattle.asns.specs.declared.AsnLength.{AsnLength}
 use Rattle.asns.proofs.AggregatorLaws.{bytes-length}
 use Rattle.asns.proofs.RoundTrip as Aggregators
 use Rattle.asns.proofs.encode_aggregator.Reads as encode_aggregator
+use Rattle.asns.proofs.put_number.Reads as put_number
 use Rattle.paths.specs.Segment.{Segment, Rule, pairOf, asnsOf}
 use Rattle.paths.specs.Promises as Paths
 use Rattle.paths.specs.Promises.{pathMeaning, pairsAfter, numbersAfter}
@@ -387,6 +392,25 @@ module _ (κs : _) (lent : _) (answer : _) (exit : _) where
 module _ (κs : _) (lent : _) (answer : _) (exit : _) where
   pub put-u32-no-room : put_u32.Learnt κs lent answer exit → length (now (lent .0)) < lent .1 .0 + 4 → now (exit .0) ≡ now (lent .0)
   put-u32-no-room call h = call ∙ placed-not (now (lent .0)) (lent .1 .0) (toBe 4 (lent .1 .1 .0)) h
+
+module _ (κs : _) (lent : _) (answer : _) (exit : _) where
+  pub put-octets-no-room : put_octets.Learnt κs lent answer exit → length (now (lent .0)) < lent .1 .0 + length (take (lent .1 .1 .1 .0) (toBe 4 (lent .1 .1 .0)))
+      → now (exit .0) ≡ now (lent .0)
+  put-octets-no-room call h = call ∙ placed-not (now (lent .0)) (lent .1 .0) (take (lent .1 .1 .1 .0) (toBe 4 (lent .1 .1 .0))) h
+
+-- an AS number is not put either where the width does not hold it
+module _ (κs : _) (lent : _) (answer : _) (exit : _) (call : put_number.Learnt κs lent answer exit) where
+  pub put-number-no-room : length (now (lent .0)) < lent .1 .0 + widthOf (lent .1 .1 .1 .0) → now (exit .0) ≡ now (lent .0)
+  unfolding withNumber
+  put-number-no-room h =
+      let digits : List ℕ = toBe (widthOf (lent .1 .1 .1 .0)) (lent .1 .1 .0) in
+      let size : length digits ≡ widthOf (lent .1 .1 .1 .0) = length-toBe (widthOf (lent .1 .1 .1 .0)) (lent .1 .1 .0) in
+      let full : placed (now (lent .0)) (lent .1 .0) digits ≡ now (lent .0) = placed-not (now (lent .0)) (lent .1 .0) digits (omega (arith, size, h)) in
+      call ∙ pick-any (λ (l : List ℕ). l ≡ now (lent .0)) (fitsWidth (lent .1 .1 .0) (lent .1 .1 .1 .0)) _ _ full refl
+
+  pub put-number-too-wide : fitsWidth (lent .1 .1 .0) (lent .1 .1 .1 .0) ≡ false → now (exit .0) ≡ now (lent .0)
+  unfolding withNumber
+  put-number-too-wide wide = call ∙ rw wide
 
 module _ (κs : _) (lent : _) (answer : _) (exit : _) where
   pub copy-at-no-room : copy_at.Learnt κs lent answer exit → length (now (lent .0)) < lent .1 .0 + length (now (lent .1 .1 .0)) → now (exit .0) ≡ now (lent .0)

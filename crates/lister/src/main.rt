@@ -1,4 +1,4 @@
-// Prints the table of the slot records on standard input: it moves bytes in and out, and the crate slots says what they mean.
+// Prints the table of the slot records on standard input: it moves bytes in and out, and the crates slots and slot_table say what they mean.
 ghost use mathlib.Core.Path.{_≡_};
 ghost use Prim.Native.Nat.{_+_, _≤_};
 ghost use lib.ListN.{length};

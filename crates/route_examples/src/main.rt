@@ -1,4 +1,4 @@
-// Runs the route examples of document 01 through the calls of routes and prints what they answer.
+// Runs the route examples of document 01 through the calls of routes, route_reader and route_writer, and prints what they answer.
 use families::AddPath;
 use families::Afi;
 use families::Form;
