@@ -9,10 +9,11 @@ use native.Mathlib.Nat.{add-assoc, add-zero, zero-add, sub-zero}
 use native.Mathlib.Omega.{arith}
 use borrow.Author.Tests.{lt-ltb, le-ltb}
 use lib.ListN.{length, take, drop, length-append, length-drop, drop-of-length-le}
-use lib.Seq.{drop-drop, drop-append-le, take-append-le}
+use lib.Seq.{drop-drop, drop-append-le, take-append-le, take-at}
 use lib.Dec.{ltb}
 use Rattle.wire.specs.Choice.{pick}
 use Rattle.wire.specs.Walk.{Reading, flat}
+use Rattle.wire.proofs.ChoiceLaws.{pick-any}
 use Rattle.wire.specs.Store.{laid}
 use Rattle.wire.proofs.WalkLaws.{all-nil, all-took}
 use Rattle.wire.proofs.StoreLaws.{laid-nil}
@@ -150,3 +151,120 @@ module _ (block : List ℕ) (last : Bool) (first : ℕ) (d₀ : List ℕ) where
 -- nothing more is put
 pub put-nothing : (d : List ℕ) (put : ℕ) → put ≤ length d → Grown d put [] d put
 put-nothing d put h = record { grown = sym (laid-nil d put); after = sym (add-zero put); room = h }
+
+-- ---- blocks, one after another
+
+pub lines-none : (nth : ℕ) → linesOf nth [] ≡ []
+unfolding linesOf flat
+lines-none nth = ap (λ (r : Reading (List ℕ)). flat (λ line. line) (r .rows)) (all-nil _ nth)
+
+pub lines-slot : (nth : ℕ) (s : List ℕ) (kept : ℕ) (mode : AddPath) → slotOf s true ≡ S.Slot kept mode
+    → linesOf nth s ≡ lineOf nth (keptBytes kept s) mode ++ linesOf (next nth) (drop (recordSize + kept) s)
+unfolding linesOf flat
+lines-slot nth s kept mode e =
+    let fits = slot-fits s true kept mode e in
+    ap (λ (r : Reading (List ℕ)). flat (λ line. line) (r .rows))
+    (all-took (λ n t. rowBy (slotOf t true) n t) nth (next nth) s (recordSize + kept) (lineOf nth (keptBytes kept s) mode) (omega arith) (omega arith)
+    (ap (λ (a : SlotAnswer). rowBy a nth s) e))
+
+pub lines-stop : (nth : ℕ) (s : List ℕ) → slotOf s true ≡ S.Stop → linesOf nth s ≡ stopText nth
+unfolding linesOf flat
+lines-stop nth s e =
+    let some = stop-some s true e in
+    let all : length s ≤ length s = omega arith in
+    ap (λ (r : Reading (List ℕ)). flat (λ line. line) (r .rows))
+    (all-took (λ n t. rowBy (slotOf t true) n t) nth nth s (length s) (stopText nth) some some (ap (λ (a : SlotAnswer). rowBy a nth s) e))
+    ∙ ap (λ (l : List ℕ). stopText nth ++ l) (ap (linesOf nth) (drop-of-length-le s all) ∙ lines-none nth)
+    ∙ append-nil (stopText nth)
+
+-- what follows in the table after a listing: nothing where it ended
+abbrev pub onwards : Then → List ℕ → List ℕ
+onwards Write more = more
+onwards Read more = more
+onwards Whole more = []
+onwards Stop more = []
+
+-- what a block decides stays so with what follows it, where nothing follows the last
+still : (s rest : List ℕ) (last : Bool) (a : SlotAnswer) → (last ≡ true → rest ≡ []) → slotOf s last ≡ a → Decided a → slotOf (s ++ rest) true ≡ a
+still s rest true a over e there = ap (λ (t : List ℕ). slotOf (s ++ t) true) (over refl) ∙ ap (λ (t : List ℕ). slotOf t true) (append-nil s) ∙ e
+still s rest false a over e there = decided s rest true (subst Decided (sym e) there) ∙ e
+
+parted-by : (a : SlotAnswer) (last : Bool) (nth : ℕ) (s rest : List ℕ) (go : List ℕ → List ℕ → Listing) → (last ≡ true → rest ≡ []) → slotOf s last ≡ a
+    → ((line t : List ℕ) → linesOf (next nth) (t ++ rest) ≡ go line t .lines ++ onwards (go line t .then) (linesOf (go line t .nth) (drop (go line t .used) t ++ rest))) →
+    let l = listingBy a nth s go in
+    linesOf nth (s ++ rest) ≡ l .lines ++ onwards (l .then) (linesOf (l .nth) (drop (l .used) s ++ rest))
+parted-by (S.Slot kept mode) last nth s rest go over e next-is =
+    let size : ℕ = recordSize + kept in
+    let fits : size ≤ length s = slot-fits s last kept mode e in
+    let line : List ℕ = lineOf nth (keptBytes kept s) mode in
+    let l : Listing = go line (drop size s) in
+    let same : keptBytes kept (s ++ rest) ≡ keptBytes kept s =
+    ap (take kept) (drop-append-le recordSize s rest (omega arith)) ∙ take-append-le kept (drop recordSize s) rest (omega (arith, length-drop recordSize s)) in
+    lines-slot nth (s ++ rest) kept mode (still s rest last (S.Slot kept mode) over e tt)
+    ∙ ap₂ (λ (k t : List ℕ). lineOf nth k mode ++ linesOf (next nth) t) same (drop-append-le size s rest fits)
+    ∙ ap (λ (t : List ℕ). line ++ t) (next-is line (drop size s))
+    ∙ ap (λ (t : List ℕ). line ++ (l .lines ++ onwards (l .then) (linesOf (l .nth) (t ++ rest)))) (drop-drop (l .used) size s)
+    ∙ sym (append-assoc line (l .lines) _)
+parted-by S.More last nth s rest go over e next-is = refl
+parted-by S.Stop last nth s rest go over e next-is = lines-stop nth (s ++ rest) (still s rest last S.Stop over e tt) ∙ sym (append-nil (stopText nth))
+parted-by S.End last nth s rest go over e next-is =
+    let none = end-none s last e in
+    ap₂ (λ (t u : List ℕ). linesOf nth (t ++ u)) (none-nil s (none .0)) (over (none .1)) ∙ lines-none nth
+  where
+    none-nil : (t : List ℕ) → length t ≡ 0 → t ≡ []
+    none-nil [] h = refl
+    none-nil (b ∷ t) h = absurd (omega arith)
+
+-- the lines of a whole input are those that are listed of its first bytes, and those of the rest
+parted : (f : ℕ) (last : Bool) (nth room : ℕ) (s rest : List ℕ) → (last ≡ true → rest ≡ []) →
+    let l = listingFrom f last nth room s in
+    linesOf nth (s ++ rest) ≡ l .lines ++ onwards (l .then) (linesOf (l .nth) (drop (l .used) s ++ rest))
+unfolding listingFrom
+parted zero last nth room s rest over = refl
+parted (suc f) last nth room s rest over =
+    pick-any (λ (l : Listing). linesOf nth (s ++ rest) ≡ l .lines ++ onwards (l .then) (linesOf (l .nth) (drop (l .used) s ++ rest)))
+    (ltb room lineRoom) (ended [] nth Write) _ refl
+    (parted-by (slotOf s last) last nth s rest (λ line t. listingFrom f last (next nth) (room - length line) t) over refl
+    (λ line t. parted f last (next nth) (room - length line) t rest over))
+
+pub listing-parts : (last : Bool) (nth room : ℕ) (s rest : List ℕ) → (last ≡ true → rest ≡ []) →
+    let l = listing last nth room s in
+    linesOf nth (s ++ rest) ≡ l .lines ++ onwards (l .then) (linesOf (l .nth) (drop (l .used) s ++ rest))
+listing-parts last nth room s rest over = parted (suc (length s)) last nth room s rest over
+
+-- ---- how far a call comes
+
+-- what it used lies in the block
+within-by : (a : SlotAnswer) (last : Bool) (nth : ℕ) (s : List ℕ) (go : List ℕ → List ℕ → Listing) → slotOf s last ≡ a
+    → ((line t : List ℕ) → go line t .used ≤ length t) → listingBy a nth s go .used ≤ length s
+within-by (S.Slot kept mode) last nth s go e less =
+    let fits = slot-fits s last kept mode e in
+    omega (arith, less (lineOf nth (keptBytes kept s) mode) (drop (recordSize + kept) s), length-drop (recordSize + kept) s)
+within-by S.More last nth s go e less = omega arith
+within-by S.Stop last nth s go e less = omega arith
+within-by S.End last nth s go e less = omega arith
+
+within : (f : ℕ) (last : Bool) (nth room : ℕ) (s : List ℕ) → listingFrom f last nth room s .used ≤ length s
+unfolding listingFrom
+within zero last nth room s = omega arith
+within (suc f) last nth room s =
+    pick-any (λ (l : Listing). l .used ≤ length s) (ltb room lineRoom) (ended [] nth Write) _ (omega arith)
+    (within-by (slotOf s last) last nth s _ refl (λ line t. within f last (next nth) (room - length line) t))
+
+pub listing-within : (last : Bool) (nth room : ℕ) (s : List ℕ) → listing last nth room s .used ≤ length s
+listing-within last nth room s = within (suc (length s)) last nth room s
+
+-- with room for a line, one that asks to be called again has used a record
+goes-by : (a : SlotAnswer) (nth : ℕ) (s : List ℕ) (go : List ℕ → List ℕ → Listing) → listingBy a nth s go .then ≡ Write → 0 < listingBy a nth s go .used
+goes-by (S.Slot kept mode) nth s go e = omega arith
+goes-by S.More nth s go e = let z : _≡_ {A = ℕ} 0 1 = cc in absurd (omega arith)
+goes-by S.Stop nth s go e = let z : _≡_ {A = ℕ} 0 1 = cc in absurd (omega arith)
+goes-by S.End nth s go e = let z : _≡_ {A = ℕ} 0 1 = cc in absurd (omega arith)
+
+pub listing-goes : (last : Bool) (nth room : ℕ) (s : List ℕ) → lineRoom ≤ room → listing last nth room s .then ≡ Write → 0 < listing last nth room s .used
+listing-goes last nth room s h = subst (λ (l : Listing). l .then ≡ Write → 0 < l .used) (sym (by-front last nth room s h)) (goes-by (slotOf s last) nth s _)
+
+-- ---- lines at the front of an output
+
+pub front-lines : (lines d : List ℕ) → take (length lines) (laid d 0 lines) ≡ lines
+front-lines lines d = take-at lines (drop (0 + length lines) d) (length lines) refl
