@@ -254,6 +254,9 @@ within (suc f) last nth room s =
 pub listing-within : (last : Bool) (nth room : ℕ) (s : List ℕ) → listing last nth room s .used ≤ length s
 listing-within last nth room s = within (suc (length s)) last nth room s
 
+pub used-within : (a : Listed) (last : Bool) (nth room : ℕ) (s : List ℕ) → a ≡ listedOf (listing last nth room s) → a .used ≤ length s
+used-within a last nth room s e = omega (arith, ap (λ (l : Listed). l .used) e, listing-within last nth room s)
+
 -- with room for a line, one that asks to be called again has used a record
 goes-by : (a : SlotAnswer) (nth : ℕ) (s : List ℕ) (go : List ℕ → List ℕ → Listing) → listingBy a nth s go .then ≡ Write → 0 < listingBy a nth s go .used
 goes-by (S.Slot kept mode) nth s go e = omega arith
