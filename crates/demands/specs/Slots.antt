@@ -1,10 +1,11 @@
 -- What slot records and the lines of their table mean, of the calls themselves: a record is found again, however the input is cut into
--- blocks; and a line is put whole or not at all.
+-- blocks; a line is put whole or not at all; and however the input is cut into blocks and the output into writes, what is put in all is the table of
+-- the whole input.
 -- Assumes nothing.
 use Prim.Native.Nat.{ℕ, _+_, _^_, _≤_, _<_}
-use mathlib.Core.Path.{_≡_, sym, ap, ap₂, _∙_, subst}
+use mathlib.Core.Path.{_≡_, refl, sym, ap, ap₂, _∙_, subst}
 use mathlib.Core.List.{List, [], _++_}
-use mathlib.Core.Bool.{Bool, false}
+use mathlib.Core.Bool.{Bool, true, false}
 use denote.Ref.{now}
 use lib.ListN.{length, take, drop}
 use Rattle.families.specs.Family.{modeOf}
@@ -15,10 +16,18 @@ use Rattle.slots.proofs.SlotLaws.{slot-fits}
 use Rattle.slots.proofs.next_slot.Reads as next_slot
 use Rattle.slot_table.specs.Line.{number, numeral, lineOf, stopText, headingText, lineRoom, putCount, putOut}
 use Rattle.slot_table.proofs.LineLaws.{line-few, stop-few, heading-few, put-not, put-past}
+use Rattle.slot_table.proofs.TableLaws.{ending-few}
 use Rattle.slot_table.proofs.NumeralLaws.{number-value}
 use Rattle.slot_table.proofs.put_line.Reads as put_line
 use Rattle.slot_table.proofs.put_stop.Reads as put_stop
 use Rattle.slot_table.proofs.put_heading.Reads as put_heading
+use Rattle.slot_table.specs.Table.{endingText, Listing, linesOf, tableOf, listing, listedOf}
+use Rattle.slot_table.specs.declared.Then.{Then}
+use Rattle.slot_table.specs.declared.Then.the-variants.{Write, Read, Whole, Stop}
+use Rattle.slot_table.specs.declared.Listed.{Listed}
+use Rattle.slot_table.proofs.TableLaws.{onwards, listing-parts, listing-within, listing-goes, front-lines}
+use Rattle.slot_table.proofs.put_records.Reads as put_records
+use Rattle.slot_table.proofs.put_ending.Reads as put_ending
 
 -- ---- records
 
@@ -93,6 +102,26 @@ module _ (κs : _) (given : _) (answer : _) (exit : _) (call : put_heading.Learn
   pub heading-past : PastKept answer (now (given .0)) (now (exit .0))
   heading-past = past-kept headingText _ _ answer (call .0) (call .1) heading-few
 
+module _ (κs : _) (given : _) (answer : _) (exit : _) (call : put_ending.Learnt κs given answer exit) where
+  pub ending-not-put : length (now (given .1 .0)) < lineRoom → NotPut answer (now (given .1 .0)) (now (exit .1 .0))
+  ending-not-put = not-put (endingText (given .0)) _ _ answer (call .0) (call .1)
+
+  pub ending-past : PastKept answer (now (given .1 .0)) (now (exit .1 .0))
+  ending-past = past-kept (endingText (given .0)) _ _ answer (call .0) (call .1) (ending-few (given .0))
+
 -- the digits of a number in a line stand for it, so that no two numbers have the same
 pub number-told : (n : ℕ) → n < 2 ^ 64 → numeral 0 (number n []) ≡ n
 number-told = number-value
+
+-- ---- the whole table
+
+-- a call of put_records on a block, which answered so and put those bytes
+pub record Put (last : Bool) (nth : ℕ) (block written : List ℕ) (answer : Listed) : Type 1 where
+  pub κs : _
+  pub given : _
+  pub exit : _
+  pub call : put_records.Learnt κs given answer exit
+  pub of-block : now (given .0) ≡ block
+  pub of-last : given .1 .0 ≡ last
+  pub of-nth : given .1 .1 .0 ≡ nth
+  pub is-written : written ≡ take (answer .put) (now (exit .1 .1 .1 .0))
