@@ -113,20 +113,6 @@ fn stop(state: State, out: &mut [u8]) -> State {
     finish(state, end, out)
 }
 
-// Moves the bytes from start to have to the front.
-fn move_to_front(input: &mut [u8], start: usize, have: usize) {
-    if input.len() < have {
-        return;
-    }
-    let mut to: usize = 0;
-    let mut from = start;
-    while from < have {
-        input[to] = input[from];
-        to = to + 1;
-        from = from + 1;
-    }
-}
-
 // One read: the bytes that came.
 fn read_some(space: &mut [u8]) -> usize {
     let got = libc::read(0, space);
@@ -143,7 +129,7 @@ fn read_from(input: &mut [u8], at: usize) -> usize {
 // Writes the output that waits, and reads more behind the bytes in hand.
 fn refill(state: State, input: &mut [u8], out: &[u8]) -> State {
     let written = flush(out, state.at);
-    move_to_front(input, state.start, state.have);
+    copies::to_front(input, state.start, state.have);
     let kept = request::minus(state.have, state.start);
     let came = read_from(input, kept);
     State {

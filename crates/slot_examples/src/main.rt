@@ -1,6 +1,9 @@
 // Runs inputs through the calls of slots and slot_table, and prints what they answer: each way to stop, to end and to wait, and lines for outputs of
 // other sizes. The records of document 01 and the lines of every kind are in the input of the lister.
 use families::AddPath;
+use slot_table::Ending;
+use slot_table::Listed;
+use slot_table::Then;
 use slots::SlotAnswer;
 
 fn text(s: &[u8]) {
@@ -66,6 +69,70 @@ fn lines(out: &mut [u8]) {
     shown(out, stop);
 }
 
+// How far a call came.
+fn came(listed: Listed) {
+    text(b"used ");
+    number(listed.used);
+    text(b", next ");
+    io::print_decimal(1, listed.nth);
+    let then = listed.then;
+    match then {
+        Then::Write => text(b", write\n"),
+        Then::Read => text(b", read\n"),
+        Then::Whole => text(b", whole\n"),
+        Then::Stop => text(b", stop\n"),
+    }
+}
+
+// The lines of a block, whose first record has the largest number, where more may come and where it is the last of the input.
+fn block(name: &[u8], s: &[u8], out: &mut [u8]) {
+    text(name);
+    text(b"\n");
+    let more = slot_table::put_records(s, false, 18446744073709551615, out);
+    shown(out, more.put);
+    came(more);
+    let last = slot_table::put_records(s, true, 18446744073709551615, out);
+    shown(out, last.put);
+    came(last);
+}
+
+// Blocks of records that keep nothing.
+fn blocks(out: &mut [u8]) {
+    text(b"places ");
+    number(out.len());
+    text(b"\n");
+    block(b"nothing in hand", b"", out);
+    block(
+        b"two records",
+        b"\xC5\x3A\x00\x00\x00\xC5\x3A\x00\x00\x00",
+        out,
+    );
+    block(
+        b"a record and half of one",
+        b"\xC5\x3A\x00\x00\x00\xC5\x3A",
+        out,
+    );
+    block(b"a record and none", b"\xC5\x3A\x00\x00\x00\xC5\x3B", out);
+}
+
+// How a table ended, in an output of any size.
+fn ending(how: Ending, out: &mut [u8]) {
+    let told = slot_table::put_ending(how, out);
+    shown(out, told);
+}
+
+fn endings(out: &mut [u8]) {
+    ending(Ending::Whole, out);
+    ending(Ending::Stop { nth: 1, byte: 0 }, out);
+    ending(
+        Ending::Unread {
+            byte: 18446744073709551615,
+        },
+        out,
+    );
+    ending(Ending::Unwritten, out);
+}
+
 // Records that are not all there.
 fn short_records() {
     front(b"nothing", b"");
@@ -94,12 +161,23 @@ fn whole_records() {
     front(b"a record and more", b"\xC5\x3A\x00\x01\x00\xFF\x00");
 }
 
+// What is put into outputs with too few places, with places for one line, and for several.
+fn all_sizes() {
+    let mut small = [0u8; 191];
+    lines(&mut small);
+    blocks(&mut small);
+    endings(&mut small);
+    let mut enough = [0u8; 192];
+    lines(&mut enough);
+    blocks(&mut enough);
+    endings(&mut enough);
+    let mut more = [0u8; 400];
+    blocks(&mut more);
+}
+
 fn main() {
     short_records();
     strange_records();
     whole_records();
-    let mut small = [0u8; 191];
-    lines(&mut small);
-    let mut enough = [0u8; 192];
-    lines(&mut enough);
+    all_sizes();
 }

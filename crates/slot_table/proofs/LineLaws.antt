@@ -12,7 +12,7 @@ use lib.Seq.{drop-cons, drop-set-lt, getD-set-same, take-at}
 use lib.Dec.{ltb, leb}
 use Rattle.wire.specs.Choice.{pick}
 use Rattle.wire.specs.Store.{laid}
-use Rattle.wire.proofs.ChoiceLaws.{pick-any, pick-leb}
+use Rattle.wire.proofs.ChoiceLaws.{pick-any}
 use Rattle.wire.proofs.StoreLaws.{drop-laid-past}
 use Rattle.families.specs.declared.AddPath.{AddPath}
 use Rattle.routes.specs.declared.ListAnswer.{ListAnswer}
@@ -123,14 +123,6 @@ put-not line d h = rw (lt-leb lineRoom (length d) h) (refl, refl)
 pub put-front : (line d : List ℕ) → lineRoom ≤ length d → take (putCount line (length d)) (putOut line d) ≡ line
 unfolding putCount putOut
 put-front line d h = rw (le-leb lineRoom (length d) h) (take-at line (drop (0 + length line) d) (length line) refl)
-
--- what is put lies within the output
-pub put-within : (line : List ℕ) (places : ℕ) → length line ≤ lineRoom → putCount line places ≤ places
-unfolding putCount
-put-within line places few = by-leb
-  where
-    by-leb : pick (leb lineRoom places) (length line) 0 ≤ places
-    by-leb = pick-leb (λ (n : ℕ). n ≤ places) lineRoom places (length line) 0 (λ h. omega arith) (λ h. omega arith)
 
 -- what lies past it is as it was
 pub put-past : (line d : List ℕ) → length line ≤ lineRoom → drop (putCount line (length d)) (putOut line d) ≡ drop (putCount line (length d)) d
