@@ -18,7 +18,7 @@ use Rattle.families.specs.declared.Form.{Form}
 use Rattle.families.specs.declared.Form.the-variants.{Plain, Tagged}
 use Rattle.families.specs.declared.AddPath.{AddPath}
 use Rattle.families.specs.declared.AddPath.the-variants.{On, Off, Guess}
-use Rattle.routes.specs.Prefix.{wordAt, rowOf, itemRow, prefixMeaning, prefixOf}
+use Rattle.routes.specs.Prefix.{words, wordAt, rowOf, itemRow, prefixMeaning, prefixOf}
 use Rattle.routes.specs.List.{inForm, guessForm, stepOf, listOf, sectionOf}
 use Rattle.routes.specs.Promises as routes
 use Rattle.routes.specs.Promises.{listMeaning}
@@ -29,7 +29,7 @@ use Rattle.asns.specs.Asn.{widthOf, span}
 use Rattle.asns.specs.Aggregator.{aggregatorMeaning, aggregatorOf, aggregatorBytes, aggregatorWritten}
 use Rattle.asns.specs.declared.AsnLength.{AsnLength}
 use Rattle.asns.specs.declared.AsnLength.the-variants.{Bits16, Bits32}
-use Rattle.paths.specs.Segment.{knownType, typeFault, numbersOf, segmentAt, segmentOf, pathOf}
+use Rattle.paths.specs.Segment.{knownType, typeFault, numbersOf, pairOf, segmentAt, segmentOf, pathOf}
 use Rattle.paths.specs.Promises as paths
 use Rattle.paths.specs.Promises.{pathMeaning}
 use Rattle.path_writer.specs.Write.{mostNumbers, segmentBytes, addsUp, allFit, writeFault, lentOf, lentPath, pathBytes}
@@ -41,7 +41,7 @@ use Rattle.update_writer.specs.Body.{bodySized, bodyAnswer}
 use Rattle.slots.specs.Slot.{markFirst, markSecond, recordSize, settingsLimit}
 use Rattle.slots.specs.declared.SlotAnswer.the-variants.{Slot, More, Stop, End}
 use Rattle.words.specs.Word.{fields, inFields, wordOf}
-use Rattle.firmware.specs.Fields.{messageFields, updateFields, slotFields, versionFields}
+use Rattle.firmware.specs.Fields.{messageFields, updateFields, slotFields, versionFields, aggregatorSize, rowWords, pairWords, keptLimit, bodyRows}
 use Rattle.messages.specs.declared.MessageAnswer.the-variants.{Message}
 use Rattle.routes.specs.declared.ListAnswer.the-variants as L
 use Rattle.updates.specs.declared.UpdateAnswer.the-variants.{Update}
@@ -475,6 +475,14 @@ settings =
     ∷ line (wordOf (slotFields More)) 0x100000000
     ∷ line (wordOf (slotFields Stop)) 0x200000000
     ∷ line (wordOf (slotFields End)) 0x300000000
+    -- the words of a row, of a segment's pair and of an AGGREGATOR; the most bytes kept, and rows of a body
+    ∷ line rowWords 6
+    ∷ line (length (words (frontRow []))) 6
+    ∷ line pairWords 2
+    ∷ line (length (pairOf (segmentAt 2 []))) 2
+    ∷ line aggregatorSize 2
+    ∷ line keptLimit 65535
+    ∷ line bodyRows 65512
     -- version 1.0 of the calls for C
     ∷ line (wordOf versionFields) 0x1
     -- other answers: their values in order

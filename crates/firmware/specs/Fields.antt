@@ -75,6 +75,21 @@ slotFields More = fields 0 0 slotMore 0
 slotFields Stop = fields 0 0 slotStop 0
 slotFields End = fields 0 0 slotEnd 0
 
+-- ---- sizes that a caller needs: the words of a row and of a segment's pair; the most bytes that a record keeps; the most rows of an UPDATE body,
+-- of both sections together
+
+abbrev pub rowWords : ℕ
+rowWords = 6
+
+abbrev pub pairWords : ℕ
+pairWords = 2
+
+abbrev pub keptLimit : ℕ
+keptLimit = 65535
+
+abbrev pub bodyRows : ℕ
+bodyRows = 65512
+
 -- ---- the version
 
 abbrev pub versionMajor : ℕ
