@@ -14,7 +14,7 @@ use Rattle.families.specs.declared.AddPath.{AddPath}
 use Rattle.families.specs.declared.AddPath.the-variants.{On, Off, Guess}
 use Rattle.slots.specs.Slot.{markFirst, markSecond, recordSize, differs, overSettings, keptOf, short, slotOf}
 use Rattle.slots.specs.declared.SlotAnswer.{SlotAnswer}
-use Rattle.slots.specs.declared.SlotAnswer.the-variants.{Slot, More, Stop, End}
+use Rattle.slots.specs.declared.SlotAnswer.the-variants.{More, Stop, End}
 use Rattle.slots.proofs.SlotLaws.{slot-cases}
 use Rattle.words.specs.Settings.{settingsOf}
 use Rattle.words.specs.Word.{fieldSize, Narrow}
