@@ -1,4 +1,4 @@
-/* Doorbramble for C: BGP messages, UPDATE bodies, route lists, AS_PATH and AGGREGATOR, read and written.
+/* Doorbramble for C: slot records read; BGP messages, UPDATE bodies, route lists, AS_PATH and AGGREGATOR read and written.
  *
  * The functions are those of the static library that `rt staticlib firmware` writes, target/staticlib/libfirmware.a. Each is proved to
  * give the answer that its contract in crates/firmware/src names, for every input, and to end. None keeps a pointer, allocates, or
@@ -9,14 +9,31 @@
  *   - that no slice without `const` overlaps another slice of the same call.
  * A slice of length 0 may have any pointer, NULL too: it is not followed.
  *
- * Flags. A flag of type uint8_t is 0 for no, and any other number for yes.
+ * Flags. `last`, `ipv6`, `add_path` and `four_bytes` are flags: 0 is no, and any other number is yes. `settings` is no flag but a slot's
+ * settings byte, DOORBRAMBLE_ADD_PATH or DOORBRAMBLE_GUESS or 0. One given as `add_path` would mean path ids wherever it is not 0.
  *
  * Answers. Every call answers with one number of 64 bits: three fields of 16 bits, and above them a refusal number, which is 0 where the
  * call did its work. The functions at the end of this file take an answer apart. With a refusal the fields are 0 and every slice is as it
  * was. Without one, elements of a written slice past those that the answer counts are as they were.
  *
  * Rows. A route is six words: its length in bits, plus DOORBRAMBLE_ROW_HAS_ID where it has a path id; the id, or 0; four address words, the
- * first byte highest, of which IPv4 uses the first and leaves 0 in the others. */
+ * first byte highest, of which IPv4 uses the first and leaves 0 in the others. Bits past the length in the last octet of the prefix are kept
+ * as they were sent; what is past that octet is 0. A row takes a byte at least, and one with a path id five. So a list has at most 65,535
+ * rows, or 13,107 where each has an id; a body has at most DOORBRAMBLE_BODY_ROWS, in one section or both together, or 13,102.
+ *
+ * Rows to write. Refusal 14 is given exactly where
+ *   - the length of a store of rows is not a multiple of DOORBRAMBLE_ROW_WORDS;
+ *   - the first word of a row is not a length up to 32 for IPv4 or 128 for IPv6, plus DOORBRAMBLE_ROW_HAS_ID where add_path is set;
+ *   - the id is not 0, and add_path is not set;
+ *   - an octet of the address words past those of the prefix, its length rounded up to whole octets, is not 0: for IPv4 any octet of the
+ *     last three words.
+ * Bits past the length in the last octet are written as they are. Rows that were read with DOORBRAMBLE_GUESS may have ids in some and none
+ * in others: 14 for such a list, whatever add_path is.
+ *
+ * The machine. x86-64, by the calling convention of Linux. No call uses more stack than DOORBRAMBLE_STACK_LIMIT; none is recursive, calls
+ * anything outside the library, or keeps data. They use the red zone, the 128 bytes below the stack pointer, and SSE registers, with no
+ * instruction past SSE2. So whatever interrupts a call on its own stack must leave those 128 bytes alone; and a kernel or an interrupt
+ * handler that makes a call must have SSE on, and keep the SSE registers of what it interrupted. */
 #ifndef DOORBRAMBLE_H
 #define DOORBRAMBLE_H
 
@@ -26,6 +43,13 @@
 #ifdef __cplusplus
 extern "C" {
 #endif
+
+/* ---- version */
+
+/* of this header: the major number rises when a caller that was compiled before would break, the minor one when calls are added.
+ * doorbramble_version() is that of the library. */
+#define DOORBRAMBLE_VERSION_MAJOR 1
+#define DOORBRAMBLE_VERSION_MINOR 0
 
 /* ---- refusal numbers */
 
@@ -55,11 +79,18 @@ extern "C" {
 #define DOORBRAMBLE_LONG_SEGMENT 12
 /* an AS number to write is over 65,535, and the width is two bytes */
 #define DOORBRAMBLE_WIDE_NUMBER 13
-/* a row, or a path, cannot be written */
+/* a row, or a path, cannot be written: see "Rows to write" and doorbramble_encode_as_path */
 #define DOORBRAMBLE_NOT_WRITABLE 14
 
 /* ---- message types, settings, sizes */
 
+/* The lengths that a message may have, its header of 19 bytes in it:
+ *                  parse_bgp_message   parse_bgp_message_strict   encode_bgp_message
+ *   OPEN           19 to 4,096         29 to 4,096                29 to 4,096
+ *   UPDATE         19 to 65,535        23 to 4,096                23 to 65,535
+ *   NOTIFICATION   19 to 65,535        21 to 4,096                21 to 65,535
+ *   KEEPALIVE      19 to 4,096         19                         19
+ *   ROUTE-REFRESH  19 to 65,535        23 to 4,096                23 to 65,535 */
 #define DOORBRAMBLE_OPEN 1
 #define DOORBRAMBLE_UPDATE 2
 #define DOORBRAMBLE_NOTIFICATION 3
@@ -71,8 +102,15 @@ extern "C" {
 #define DOORBRAMBLE_ADD_PATH 1
 #define DOORBRAMBLE_GUESS 2
 
+/* the bytes of a slot record before those it keeps, and the most that it keeps */
+#define DOORBRAMBLE_RECORD_SIZE 5
+#define DOORBRAMBLE_KEPT_LIMIT 65535
 /* the bytes of a message's header: its body starts there */
 #define DOORBRAMBLE_HEADER_SIZE 19
+/* the most bytes of a list or of an attribute's value, and of an UPDATE body; the most rows of a body, in both sections together */
+#define DOORBRAMBLE_LIST_LIMIT 65535
+#define DOORBRAMBLE_BODY_LIMIT 65516
+#define DOORBRAMBLE_BODY_ROWS 65512
 /* the words of a row, and what a path id adds to the first of them */
 #define DOORBRAMBLE_ROW_WORDS 6
 #define DOORBRAMBLE_ROW_HAS_ID 256
@@ -80,15 +118,44 @@ extern "C" {
 #define DOORBRAMBLE_PAIR_WORDS 2
 #define DOORBRAMBLE_AGGREGATOR_WORDS 2
 
+/* the most bytes of stack that a call uses, its return address included; tools/stack-use measures 264 in the library of the kit that README.md
+ * names */
+#define DOORBRAMBLE_STACK_LIMIT 512
+
+/* ---- the version of the library */
+
+/* Answer: version_major, version_minor. */
+uint64_t doorbramble_version(void);
+
+/* ---- slots */
+
+/* a record, with all that it keeps */
+#define DOORBRAMBLE_SLOT_RECORD 0
+/* a part of a record, or nothing: more bytes are needed */
+#define DOORBRAMBLE_SLOT_MORE 1
+/* what is no record, nor becomes one */
+#define DOORBRAMBLE_SLOT_STOP 2
+/* nothing, and no more bytes follow */
+#define DOORBRAMBLE_SLOT_END 3
+
+/* What stands at the front of s, a drive's input or as much of it as is at hand; the flag last says that no bytes follow. A record is the
+ * bytes C5 3A, the number of kept bytes in two bytes, a settings byte up to 3, and the kept bytes, from DOORBRAMBLE_RECORD_SIZE on; the next
+ * record follows them. Answer: slot_state, one of the four above; for a record also slot_kept and slot_settings, which other calls take as
+ * `settings`: 0, DOORBRAMBLE_GUESS, or DOORBRAMBLE_ADD_PATH for the settings bytes 1 and 3. No refusal is given.
+ * Without last, a record and a stop stay so whatever bytes follow, and more bytes are asked for of fewer than DOORBRAMBLE_RECORD_SIZE +
+ * DOORBRAMBLE_KEPT_LIMIT alone. With last, none are asked for: a record that is not all there is a stop. */
+uint64_t doorbramble_next_slot(const uint8_t *s, size_t s_len, uint8_t last);
+
 /* ---- messages */
 
 /* The header at the front of s, as the crate reads it: a message may be cut short, or followed by other bytes, and may have any marker.
- * Answer: claimed, taken, kind, and the flags marker, cut and trailing. The body is the bytes of s from DOORBRAMBLE_HEADER_SIZE up to
- * taken. Refusals: 2, 3, 4. */
+ * Answer: claimed, taken, kind, and the flags bad_marker, cut and trailing. The body is the bytes of s from DOORBRAMBLE_HEADER_SIZE up to
+ * taken. Refusals: 2 under 19 bytes; 3 where under 19 are claimed; 4; 3 where the type may not claim so many. */
 uint64_t doorbramble_parse_bgp_message(const uint8_t *s, size_t s_len);
 
 /* The header at the front of s by RFC 4271: the marker is all FF, the length is right for the type, and the message is all there.
- * Answer: as above; marker and cut are never set, and trailing says that bytes of a next message follow. Refusals: 2, 3, 4, 6. */
+ * Answer: as above; bad_marker and cut are never set, and trailing says that bytes of a next message follow. Refusals: 2 under 19 bytes; 6; 3
+ * where under 19 or over 4,096 are claimed; 4; 3 where the type may not claim so many; 2 where they are not all there. */
 uint64_t doorbramble_parse_bgp_message_strict(const uint8_t *s, size_t s_len);
 
 /* A message of a type and a body, with an all-FF marker, at the front of out. Answer: bytes. Refusals: 4, 3, then 11. */
@@ -110,8 +177,8 @@ uint64_t doorbramble_count_bgp_update_message(const uint8_t *body, size_t body_l
 uint64_t doorbramble_parse_bgp_update_message(const uint8_t *body, size_t body_len, uint8_t settings, uint32_t *withdrawn,
                                               size_t withdrawn_len, uint32_t *announced, size_t announced_len);
 
-/* A body of rows to withdraw, attribute bytes and rows to announce, both lists with path ids or both without, at the front of out.
- * Answer: bytes. Refusals: 14, 1, then 11. */
+/* A body of rows to withdraw, attribute bytes and rows to announce, all IPv4, both lists with path ids or both without, at the front of out.
+ * Answer: bytes. Refusals: 14 of either list, 1, then 11. */
 uint64_t doorbramble_encode_bgp_update_message(const uint32_t *withdrawn, size_t withdrawn_len, const uint8_t *attributes,
                                                size_t attributes_len, const uint32_t *announced, size_t announced_len,
                                                uint8_t add_path, uint8_t *out, size_t out_len);
@@ -166,12 +233,22 @@ static inline unsigned doorbramble_field_b(uint64_t answer) { return (unsigned)(
 static inline unsigned doorbramble_field_c_low(uint64_t answer) { return (unsigned)(answer >> 32 & 0xFF); }
 static inline unsigned doorbramble_field_c_high(uint64_t answer) { return (unsigned)(answer >> 40 & 0xFF); }
 
+/* of the library's version */
+static inline unsigned doorbramble_version_major(uint64_t answer) { return doorbramble_field_a(answer); }
+static inline unsigned doorbramble_version_minor(uint64_t answer) { return doorbramble_field_b(answer); }
+
+/* of a slot: what stands there; the bytes that a record keeps and its settings, 0 where there is none */
+static inline unsigned doorbramble_slot_state(uint64_t answer) { return doorbramble_field_c_low(answer); }
+static inline unsigned doorbramble_slot_kept(uint64_t answer) { return doorbramble_field_a(answer); }
+static inline uint8_t doorbramble_slot_settings(uint64_t answer) { return (uint8_t)doorbramble_field_b(answer); }
+
 /* of a message: the length that its header claims, the bytes of it that are there, its type; whether its marker is not all FF, it claims
- * more bytes than there are, or fewer */
+ * more bytes than there are, or fewer. doorbramble_marker is the old name of doorbramble_bad_marker. */
 static inline unsigned doorbramble_claimed(uint64_t answer) { return doorbramble_field_a(answer); }
 static inline unsigned doorbramble_taken(uint64_t answer) { return doorbramble_field_b(answer); }
 static inline unsigned doorbramble_kind(uint64_t answer) { return doorbramble_field_c_low(answer); }
-static inline int doorbramble_marker(uint64_t answer) { return (doorbramble_field_c_high(answer) & 1) != 0; }
+static inline int doorbramble_bad_marker(uint64_t answer) { return (doorbramble_field_c_high(answer) & 1) != 0; }
+static inline int doorbramble_marker(uint64_t answer) { return doorbramble_bad_marker(answer); }
 static inline int doorbramble_cut(uint64_t answer) { return (doorbramble_field_c_high(answer) & 2) != 0; }
 static inline int doorbramble_trailing(uint64_t answer) { return (doorbramble_field_c_high(answer) & 4) != 0; }
 

@@ -1,27 +1,31 @@
 /* Reads the slot records of a file and prints the routes of each UPDATE in them.
  *
- * usage: list_slot FILE
+ * usage: list_slot FILE     `-` is standard input
  *
- * A record is the bytes C5 3A, the number of kept bytes in two bytes, a settings byte (DOORBRAMBLE_ADD_PATH, DOORBRAMBLE_GUESS), and the
- * kept bytes. Exit status: 0 where every message and section was read, 1 where one was refused, 2 where the file cannot be read to its end
- * as records. */
+ * Exit status: 0 where every message and section was read; 1 where one was refused; 2 where the input cannot be read to its end as records,
+ * or the output cannot be written, with a sentence on standard error. */
+#include <errno.h>
 #include <stdio.h>
+#include <string.h>
 
 #include "doorbramble.h"
 
-enum {
-    RECORD_SIZE = 5,
-    MARK_FIRST = 0xC5,
-    MARK_SECOND = 0x3A,
-    SETTINGS_LIMIT = 3,
-    KEPT_LIMIT = 65535,
-    /* a route is one byte at least, so no body has more */
-    ROWS_LIMIT = KEPT_LIMIT
-};
+/* room for the longest record, so that a full buffer never needs more bytes */
+enum { BUFFER_SIZE = DOORBRAMBLE_RECORD_SIZE + DOORBRAMBLE_KEPT_LIMIT };
 
-static uint8_t kept[KEPT_LIMIT];
-static uint32_t withdrawn[ROWS_LIMIT * DOORBRAMBLE_ROW_WORDS];
-static uint32_t announced[ROWS_LIMIT * DOORBRAMBLE_ROW_WORDS];
+static uint8_t buffer[BUFFER_SIZE];
+static uint32_t withdrawn[DOORBRAMBLE_BODY_ROWS * DOORBRAMBLE_ROW_WORDS];
+static uint32_t announced[DOORBRAMBLE_BODY_ROWS * DOORBRAMBLE_ROW_WORDS];
+
+/* An input: its bytes in the buffer that are not read yet, how many stood before them, and whether none follow. */
+struct input {
+    const char *name;
+    FILE *file;
+    const uint8_t *front;
+    size_t size;
+    unsigned long long before;
+    uint8_t last;
+};
 
 static const char *const KINDS[] = {"?", "OPEN", "UPDATE", "NOTIFICATION", "KEEPALIVE", "ROUTE-REFRESH"};
 
@@ -87,62 +91,78 @@ static int print_slot(unsigned long number, const uint8_t *s, size_t size, uint8
     }
     printf("slot %lu: %s, %u of %u bytes%s%s%s\n", number, KINDS[doorbramble_kind(found)], doorbramble_taken(found),
            doorbramble_claimed(found), doorbramble_cut(found) ? ", cut" : "", doorbramble_trailing(found) ? ", other bytes follow" : "",
-           doorbramble_marker(found) ? ", marker not all FF" : "");
+           doorbramble_bad_marker(found) ? ", marker not all FF" : "");
     if (doorbramble_kind(found) != DOORBRAMBLE_UPDATE)
         return 1;
     return print_update(s + DOORBRAMBLE_HEADER_SIZE, doorbramble_taken(found) - DOORBRAMBLE_HEADER_SIZE, settings);
 }
 
-/* The next record's kept bytes. Answers why there is none, "" at a plain end, and NULL where there is one. */
-static const char *next_record(FILE *in, size_t *size, uint8_t *settings) {
-    uint8_t head[RECORD_SIZE];
-    size_t got = fread(head, 1, sizeof head, in);
-    if (got == 0 && !ferror(in))
-        return "";
-    if (got < sizeof head)
-        return ferror(in) ? "the file cannot be read" : "the file ends in a record";
-    if (head[0] != MARK_FIRST || head[1] != MARK_SECOND)
-        return "no mark C5 3A";
-    if (head[4] > SETTINGS_LIMIT)
-        return "a settings byte over 3";
-    *size = (size_t)head[2] * 256 + head[3];
-    *settings = head[4];
-    if (fread(kept, 1, *size, in) < *size)
-        return ferror(in) ? "the file cannot be read" : "the file ends in a record";
+static void skip(struct input *in, size_t bytes) {
+    in->front += bytes;
+    in->size -= bytes;
+    in->before += bytes;
+}
+
+/* As many more bytes as the buffer has room for. Answers whether they could be read. */
+static int read_more(struct input *in) {
+    size_t room = BUFFER_SIZE - in->size, got;
+    memmove(buffer, in->front, in->size);
+    got = fread(buffer + in->size, 1, room, in->file);
+    in->front = buffer;
+    in->size += got;
+    in->last = got < room;
+    return !ferror(in->file);
+}
+
+/* Every slot of an input, with the refused ones counted, while the output can be written. Answers why the input ends before its end, and
+ * NULL where it does not. */
+static const char *print_slots(struct input *in, unsigned long *refused) {
+    unsigned long number = 1;
+    while (!ferror(stdout)) {
+        uint64_t found = doorbramble_next_slot(in->front, in->size, in->last);
+        switch (doorbramble_slot_state(found)) {
+        case DOORBRAMBLE_SLOT_RECORD:
+            if (!print_slot(number++, in->front + DOORBRAMBLE_RECORD_SIZE, doorbramble_slot_kept(found), doorbramble_slot_settings(found)))
+                ++*refused;
+            skip(in, DOORBRAMBLE_RECORD_SIZE + doorbramble_slot_kept(found));
+            break;
+        case DOORBRAMBLE_SLOT_MORE:
+            if (!read_more(in))
+                return strerror(errno);
+            break;
+        case DOORBRAMBLE_SLOT_END:
+            return NULL;
+        default:
+            found = doorbramble_next_slot(in->front, in->size, 0);
+            return doorbramble_slot_state(found) == DOORBRAMBLE_SLOT_MORE ? "the input ends within a record" : "no slot record";
+        }
+    }
     return NULL;
 }
 
 int main(int argc, char **argv) {
-    FILE *in;
-    unsigned long number = 1;
-    int good = 1;
+    struct input in = {NULL, stdin, buffer, 0, 0, 0};
+    unsigned long refused = 0;
+    const char *trouble;
+    int from_stdin;
     if (argc != 2) {
-        fprintf(stderr, "usage: %s FILE\n", argc > 0 ? argv[0] : "list_slot");
+        fprintf(stderr, "usage: list_slot FILE\n");
         return 2;
     }
-    in = fopen(argv[1], "rb");
-    if (in == NULL) {
-        perror(argv[1]);
+    from_stdin = strcmp(argv[1], "-") == 0;
+    in.name = from_stdin ? "standard input" : argv[1];
+    if (!from_stdin && (in.file = fopen(argv[1], "rb")) == NULL) {
+        fprintf(stderr, "list_slot: %s: %s\n", in.name, strerror(errno));
         return 2;
     }
-    for (;; number++) {
-        size_t size;
-        uint8_t settings;
-        const char *end = next_record(in, &size, &settings);
-        if (end != NULL) {
-            fclose(in);
-            if (end[0] != '\0') {
-                fflush(stdout);
-                fprintf(stderr, "%s: slot %lu: %s\n", argv[1], number, end);
-                return 2;
-            }
-            break;
-        }
-        good = print_slot(number, kept, size, settings) && good;
-    }
-    if (fflush(stdout) != 0) {
-        perror("standard output");
+    trouble = print_slots(&in, &refused);
+    if (fflush(stdout) != 0 || ferror(stdout)) {
+        fprintf(stderr, "list_slot: the output cannot be written: %s\n", strerror(errno));
         return 2;
     }
-    return good ? 0 : 1;
+    if (trouble != NULL) {
+        fprintf(stderr, "list_slot: %s: byte %llu: %s\n", in.name, in.before, trouble);
+        return 2;
+    }
+    return refused == 0 ? 0 : 1;
 }

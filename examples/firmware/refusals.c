@@ -91,7 +91,8 @@ static void messages(void) {
     check_answer("parse_bgp_message: cut, another marker", answer, accepted(65307, 19, 2 + 256 + 512));
     expect("the fields of a message", doorbramble_refusal(answer) == 0 && doorbramble_claimed(answer) == 65307 &&
                                           doorbramble_taken(answer) == 19 && doorbramble_kind(answer) == DOORBRAMBLE_UPDATE &&
-                                          doorbramble_marker(answer) && doorbramble_cut(answer) && !doorbramble_trailing(answer));
+                                          doorbramble_bad_marker(answer) && doorbramble_marker(answer) && doorbramble_cut(answer) &&
+                                          !doorbramble_trailing(answer));
 
     check_answer("parse_bgp_message_strict: a KEEPALIVE", doorbramble_parse_bgp_message_strict(two_of_them, 20),
                  accepted(19, 19, 4 + 1024));
@@ -104,6 +105,39 @@ static void messages(void) {
                  refused(DOORBRAMBLE_MESSAGE_LENGTH));
     check_answer("encode_bgp_message: 11", doorbramble_encode_bgp_message(DOORBRAMBLE_KEEPALIVE, NULL, 0, out, 18),
                  refused(DOORBRAMBLE_NO_ROOM));
+}
+
+/* The header's table of lengths: the least and the most that the crate's reading, the strict one and the writer take of each type. */
+static void lengths(void) {
+    static const struct {
+        uint8_t kind;
+        unsigned least[3], most[3];
+    } types[] = {{DOORBRAMBLE_OPEN, {19, 29, 29}, {4096, 4096, 4096}},
+                 {DOORBRAMBLE_UPDATE, {19, 23, 23}, {65535, 4096, 65535}},
+                 {DOORBRAMBLE_NOTIFICATION, {19, 21, 21}, {65535, 4096, 65535}},
+                 {DOORBRAMBLE_KEEPALIVE, {19, 19, 19}, {4096, 19, 19}},
+                 {DOORBRAMBLE_ROUTE_REFRESH, {19, 23, 23}, {65535, 4096, 65535}}};
+    static uint8_t message[65536] = {MARKER}, written[65536];
+    size_t i, n;
+    for (i = 0; i < sizeof types / sizeof types[0]; i++) {
+        unsigned wrong[3] = {0, 0, 0};
+        for (n = 0; n <= 65536; n++) {
+            uint64_t found[3];
+            message[16] = (uint8_t)(n >> 8);
+            message[17] = (uint8_t)n;
+            message[18] = types[i].kind;
+            found[0] = doorbramble_parse_bgp_message(message, 19);
+            found[1] = doorbramble_parse_bgp_message_strict(message, 65535);
+            found[2] = n < 19 ? refused(DOORBRAMBLE_MESSAGE_LENGTH)
+                              : doorbramble_encode_bgp_message(types[i].kind, message, n - 19, written, sizeof written);
+            wrong[0] += n < 65536 && (doorbramble_refusal(found[0]) == 0) != (types[i].least[0] <= n && n <= types[i].most[0]);
+            wrong[1] += n < 65536 && (doorbramble_refusal(found[1]) == 0) != (types[i].least[1] <= n && n <= types[i].most[1]);
+            wrong[2] += (doorbramble_refusal(found[2]) == 0) != (types[i].least[2] <= n && n <= types[i].most[2]);
+        }
+        expect("the lengths of a type: parse_bgp_message", wrong[0] == 0);
+        expect("the lengths of a type: parse_bgp_message_strict", wrong[1] == 0);
+        expect("the lengths of a type: encode_bgp_message", wrong[2] == 0);
+    }
 }
 
 static void updates(void) {
@@ -243,9 +277,90 @@ static void aggregators(void) {
     check_answer("encode_aggregator: 11", doorbramble_encode_aggregator(65001, 0x0A000001, 0, out, 5), refused(DOORBRAMBLE_NO_ROOM));
 }
 
-/* the limits of 65,535 and 65,516 bytes, and a segment of 256 numbers */
+/* rows that the header says cannot be written, and one with bits past its length, which can */
+static void rows(void) {
+    static const uint32_t seven[] = {8 + DOORBRAMBLE_ROW_HAS_ID, 7, 0x0A000000, 0, 0, 0};
+    static const uint32_t host_bits[] = {4, 0, 0xFF000000, 0, 0, 0};
+    static const uint32_t past_octets[] = {8, 0, 0x0A010000, 0, 0, 0};
+    static const uint32_t second_word[] = {32, 0, 0x0A000001, 1, 0, 0};
+    static const uint32_t long_prefix[] = {33, 0, 0, 0, 0, 0};
+    static const uint32_t long_tagged[] = {33 + DOORBRAMBLE_ROW_HAS_ID, 0, 0, 0, 0, 0};
+    static const uint32_t longer_prefix[] = {129, 0, 0, 0, 0, 0};
+    static const uint32_t unmarked_id[] = {8, 7, 0x0A000000, 0, 0, 0};
+    static const uint32_t mixed[] = {8 + DOORBRAMBLE_ROW_HAS_ID, 0, 0x0A000000, 0, 0, 0, 8, 0, 0x0B000000, 0, 0, 0};
+    static const uint8_t four_bits[] = {4, 0xFF};
+    static const uint8_t wide[] = {33, 0, 0, 0, 0, 0};
+    const uint64_t not_writable = refused(DOORBRAMBLE_NOT_WRITABLE);
+
+    check_out("rows: host bits are written", doorbramble_encode_nlri_prefixes(host_bits, 6, 0, 0, out, 2), accepted(2, 0, 0), four_bits, 2);
+    check_store("rows: host bits are read", doorbramble_parse_nlri_list(four_bits, 2, 0, 0, one, 6), accepted(1, 0, 0), host_bits, 6);
+    check_answer("rows: 14, a part of a row", doorbramble_encode_nlri_prefixes(host_bits, 5, 0, 0, out, PLACES), not_writable);
+    check_answer("rows: 14, past the octets", doorbramble_encode_nlri_prefixes(past_octets, 6, 0, 0, out, PLACES), not_writable);
+    check_answer("rows: 14, a second word", doorbramble_encode_nlri_prefixes(second_word, 6, 0, 0, out, PLACES), not_writable);
+    check_answer("rows: 14, 33 bits", doorbramble_encode_nlri_prefixes(long_prefix, 6, 0, 0, out, PLACES), not_writable);
+    check_answer("rows: 14, 33 bits and an id", doorbramble_encode_nlri_prefixes(long_tagged, 6, 0, 1, out, PLACES), not_writable);
+    check_out("rows: 33 bits of IPv6", doorbramble_encode_nlri_prefixes(long_prefix, 6, 1, 0, out, PLACES), accepted(6, 0, 0), wide, 6);
+    check_answer("rows: 14, 129 bits", doorbramble_encode_nlri_prefixes(longer_prefix, 6, 1, 0, out, PLACES), not_writable);
+    check_answer("rows: 14, an id with no mark", doorbramble_encode_nlri_prefixes(unmarked_id, 6, 0, 0, out, PLACES), not_writable);
+    check_answer("rows: 14, no mark with add_path", doorbramble_encode_nlri_prefixes(host_bits, 6, 0, 1, out, PLACES), not_writable);
+    check_answer("rows: 14, a mark without", doorbramble_encode_nlri_prefixes(seven, 6, 0, 0, out, PLACES), not_writable);
+    check_answer("rows: 14, mixed forms", doorbramble_encode_nlri_prefixes(mixed, 12, 0, 0, out, PLACES), not_writable);
+    check_answer("rows: 14, mixed forms, add_path", doorbramble_encode_nlri_prefixes(mixed, 12, 0, 1, out, PLACES), not_writable);
+    check_answer("rows: DOORBRAMBLE_GUESS as add_path is a yes",
+                 doorbramble_encode_nlri_prefixes(host_bits, 6, 0, DOORBRAMBLE_GUESS, out, 2), not_writable);
+}
+
+static void slots(void) {
+    static uint8_t longest[DOORBRAMBLE_RECORD_SIZE + DOORBRAMBLE_KEPT_LIMIT + 1] = {0xC5, 0x3A, 0xFF, 0xFF, 2};
+    static const uint8_t settings[] = {0, DOORBRAMBLE_ADD_PATH, DOORBRAMBLE_GUESS, DOORBRAMBLE_ADD_PATH};
+    static const uint8_t states[] = {DOORBRAMBLE_SLOT_MORE, DOORBRAMBLE_SLOT_STOP};
+    const uint64_t more = accepted(0, 0, DOORBRAMBLE_SLOT_MORE), stop = accepted(0, 0, DOORBRAMBLE_SLOT_STOP);
+    uint8_t record[] = {0xC5, 0x3A, 0, 2, 0, 7, 8, 0xC5};
+    uint64_t answer;
+    uint8_t i, last;
+
+    check_answer("next_slot: nothing yet", doorbramble_next_slot(NULL, 0, 0), more);
+    check_answer("next_slot: the end", doorbramble_next_slot(NULL, 0, 1), accepted(0, 0, DOORBRAMBLE_SLOT_END));
+    check_answer("next_slot: the end, by any flag", doorbramble_next_slot(record, 0, 200), accepted(0, 0, DOORBRAMBLE_SLOT_END));
+    for (last = 0; last < 2; last++) {
+        for (i = 1; i < 7; i++)
+            check_answer("next_slot: a part of a record", doorbramble_next_slot(record, i, last), accepted(0, 0, states[last]));
+        for (i = 0; i < 4; i++) {
+            record[4] = i;
+            check_answer("next_slot: a record", doorbramble_next_slot(record, 7, last), accepted(2, settings[i], DOORBRAMBLE_SLOT_RECORD));
+            check_answer("next_slot: and the next", doorbramble_next_slot(record, 8, last),
+                         accepted(2, settings[i], DOORBRAMBLE_SLOT_RECORD));
+        }
+        record[4] = 4;
+        check_answer("next_slot: settings over 3", doorbramble_next_slot(record, 7, last), stop);
+        check_answer("next_slot: settings over 3, at once", doorbramble_next_slot(record, 5, last), stop);
+        record[4] = 0;
+        check_answer("next_slot: no mark", doorbramble_next_slot(record + 1, 1, last), stop);
+        check_answer("next_slot: half a mark", doorbramble_next_slot(record + 7, 1, last), accepted(0, 0, states[last]));
+    }
+    record[3] = 0;
+    check_answer("next_slot: nothing kept", doorbramble_next_slot(record, 5, 0), accepted(0, 0, DOORBRAMBLE_SLOT_RECORD));
+    record[1] = 0xC5;
+    check_answer("next_slot: another second byte", doorbramble_next_slot(record, 2, 0), stop);
+    check_answer("next_slot: a byte less than the longest", doorbramble_next_slot(longest, sizeof longest - 2, 0), more);
+    answer = doorbramble_next_slot(longest, sizeof longest - 1, 0);
+    check_answer("next_slot: the longest record", answer, accepted(65535, 2, DOORBRAMBLE_SLOT_RECORD));
+    expect("the fields of a slot", doorbramble_refusal(answer) == 0 && doorbramble_slot_state(answer) == DOORBRAMBLE_SLOT_RECORD &&
+                                       doorbramble_slot_kept(answer) == DOORBRAMBLE_KEPT_LIMIT &&
+                                       doorbramble_slot_settings(answer) == DOORBRAMBLE_GUESS);
+}
+
+static void version(void) {
+    uint64_t answer = doorbramble_version();
+    check_answer("version", answer, accepted(1, 0, 0));
+    expect("the version of the header", doorbramble_version_major(answer) == DOORBRAMBLE_VERSION_MAJOR &&
+                                            doorbramble_version_minor(answer) == DOORBRAMBLE_VERSION_MINOR);
+}
+
+/* the limits of 65,535 and 65,516 bytes, a body of the most rows, and a segment of 256 numbers */
 static void limits(void) {
     static uint8_t zeros[65536];
+    static uint8_t most_rows[DOORBRAMBLE_BODY_LIMIT] = {DOORBRAMBLE_BODY_ROWS >> 8, DOORBRAMBLE_BODY_ROWS & 0xFF};
     static uint32_t numbers[256];
     static const uint32_t pair[] = {2, 256};
 
@@ -254,6 +369,10 @@ static void limits(void) {
     check_answer("announced_part: 65,512 bytes", doorbramble_announced_part(zeros, 65516), accepted(4, 65512, 0));
     check_answer("announced_part: 1", doorbramble_announced_part(zeros, 65517), refused(DOORBRAMBLE_TOO_LONG));
     check_answer("count_bgp_update_message: 1", doorbramble_count_bgp_update_message(zeros, 65517, 0), refused(DOORBRAMBLE_TOO_LONG));
+    check_answer("count_bgp_update_message: the most rows withdrawn", doorbramble_count_bgp_update_message(most_rows, sizeof most_rows, 0),
+                 accepted(DOORBRAMBLE_BODY_ROWS, 0, 0));
+    check_answer("count_bgp_update_message: the most rows announced", doorbramble_count_bgp_update_message(zeros, sizeof most_rows, 0),
+                 accepted(0, DOORBRAMBLE_BODY_ROWS, 0));
     check_answer("parse_aggregator: 1", doorbramble_parse_aggregator(zeros, 65536, 0, one, PLACES), refused(DOORBRAMBLE_TOO_LONG));
     check_answer("count_as_path: 1", doorbramble_count_as_path(zeros, 65536, 0), refused(DOORBRAMBLE_TOO_LONG));
     check_answer("encode_bgp_update_message: 1", doorbramble_encode_bgp_update_message(NULL, 0, zeros, 65513, NULL, 0, 0, out, PLACES),
@@ -265,10 +384,14 @@ static void limits(void) {
 int main(void) {
     clear();
     messages();
+    lengths();
     updates();
     lists();
+    rows();
     paths();
     aggregators();
+    slots();
+    version();
     limits();
     printf("%u checks, %u failed\n", checks, failures);
     return failures == 0 ? 0 : 1;

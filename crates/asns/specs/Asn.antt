@@ -19,9 +19,13 @@ unfoldable pub span : ℕ → ℕ → ℕ
 span w zero = 0
 span w (suc n) = w + span w n
 
--- whether eight numbers may go for n: no more are asked for, eight are there, and so are the bytes of eight
+-- how many numbers go at once
+abbrev pub atOnce : ℕ
+atOnce = 8
+
+-- whether so many may go for n: no more are asked for, so many are there, and so are their bytes
 unfoldable pub eightFor : ℕ → ℕ → ℕ → ℕ → Bool
-eightFor w n numbers bytes = leb n 8 && (leb 8 numbers && leb (span w 8) bytes)
+eightFor w n numbers bytes = leb n atOnce && (leb atOnce numbers && leb (span w atOnce) bytes)
 
 -- the width's bytes hold the number
 abbrev pub fitsWidth : ℕ → AsnLength → Bool

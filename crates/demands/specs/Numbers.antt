@@ -18,7 +18,7 @@ use Rattle.families.specs.declared.Form.{Form}
 use Rattle.families.specs.declared.Form.the-variants.{Plain, Tagged}
 use Rattle.families.specs.declared.AddPath.{AddPath}
 use Rattle.families.specs.declared.AddPath.the-variants.{On, Off, Guess}
-use Rattle.routes.specs.Prefix.{wordAt, rowOf, itemRow, prefixMeaning, prefixOf}
+use Rattle.routes.specs.Prefix.{words, wordAt, rowOf, itemRow, prefixMeaning, prefixOf}
 use Rattle.routes.specs.List.{inForm, guessForm, stepOf, listOf, sectionOf}
 use Rattle.routes.specs.Promises as routes
 use Rattle.routes.specs.Promises.{listMeaning}
@@ -29,7 +29,7 @@ use Rattle.asns.specs.Asn.{widthOf, span}
 use Rattle.asns.specs.Aggregator.{aggregatorMeaning, aggregatorOf, aggregatorBytes, aggregatorWritten}
 use Rattle.asns.specs.declared.AsnLength.{AsnLength}
 use Rattle.asns.specs.declared.AsnLength.the-variants.{Bits16, Bits32}
-use Rattle.paths.specs.Segment.{knownType, typeFault, numbersOf, segmentAt, segmentOf, pathOf}
+use Rattle.paths.specs.Segment.{knownType, typeFault, numbersOf, pairOf, segmentAt, segmentOf, pathOf}
 use Rattle.paths.specs.Promises as paths
 use Rattle.paths.specs.Promises.{pathMeaning}
 use Rattle.path_writer.specs.Write.{mostNumbers, segmentBytes, addsUp, allFit, writeFault, lentOf, lentPath, pathBytes}
@@ -39,12 +39,13 @@ use Rattle.messages.specs.Written as messageWriter
 use Rattle.updates.specs.Body.{partsMeaning, partsOf}
 use Rattle.update_writer.specs.Body.{bodySized, bodyAnswer}
 use Rattle.slots.specs.Slot.{markFirst, markSecond, recordSize, settingsLimit}
+use Rattle.slots.specs.declared.SlotAnswer.the-variants.{Slot, More, Stop, End}
 use Rattle.words.specs.Word.{fields, inFields, wordOf}
-use Rattle.firmware.specs.Fields.{messageFields, updateFields}
+use Rattle.firmware.specs.Fields.{messageFields, updateFields, slotFields, versionFields, aggregatorSize, rowWords, pairWords, keptLimit, bodyRows}
 use Rattle.messages.specs.declared.MessageAnswer.the-variants.{Message}
 use Rattle.routes.specs.declared.ListAnswer.the-variants as L
 use Rattle.updates.specs.declared.UpdateAnswer.the-variants.{Update}
-use Rattle.words.specs.Settings.{familyOf, formOf, asnLengthOf}
+use Rattle.words.specs.Settings.{familyOf, formOf, asnLengthOf, settingsOf}
 
 -- ---- a table of numbers
 
@@ -427,20 +428,18 @@ limits =
 
 -- ---- the settings of a slot and of a C call, and C's words
 
--- a family, a form, a setting and a width as numbers that tell them apart
-abbrev pub modeNumber : AddPath → ℕ
-modeNumber Off = 0
-modeNumber On = 1
-modeNumber Guess = 2
-
 abbrev pub settings : List Line
 settings =
-    line (modeNumber (modeOf 0)) 0
-    ∷ line (modeNumber (modeOf 1)) 1
-    ∷ line (modeNumber (modeOf 2)) 2
-    ∷ line (modeNumber (modeOf 3)) 1
-    ∷ line (modeNumber (modeOf 4)) 0
-    ∷ line (modeNumber (modeOf 252)) 0
+    -- a setting as a settings byte, and settings bytes as they are read
+    line (settingsOf Off) 0
+    ∷ line (settingsOf On) 1
+    ∷ line (settingsOf Guess) 2
+    ∷ line (settingsOf (modeOf 0)) 0
+    ∷ line (settingsOf (modeOf 1)) 1
+    ∷ line (settingsOf (modeOf 2)) 2
+    ∷ line (settingsOf (modeOf 3)) 1
+    ∷ line (settingsOf (modeOf 4)) 0
+    ∷ line (settingsOf (modeOf 252)) 0
     -- 0 is IPv4, no ids, two bytes; any other number IPv6, ids, four bytes
     ∷ line (maxOf (familyOf 0)) 32
     ∷ line (maxOf (familyOf 1)) 128
@@ -469,6 +468,23 @@ settings =
     -- an UPDATE: the rows of both sections, and the verdict of the announced one above that of the withdrawn one
     ∷ line (wordOf (updateFields (Update (L.Rows 3) (L.Refused 7)))) 0x70000000003
     ∷ line (wordOf (updateFields (Update (L.Refused 2) (L.Rows 3)))) 0x200030000
+    -- a slot: the kept bytes and the settings of a record, 0; more bytes are needed, 1; no record, 2; the end, 3
+    ∷ line (wordOf (slotFields (Slot 65535 Off))) 0xFFFF
+    ∷ line (wordOf (slotFields (Slot 3 On))) 0x10003
+    ∷ line (wordOf (slotFields (Slot 3 Guess))) 0x20003
+    ∷ line (wordOf (slotFields More)) 0x100000000
+    ∷ line (wordOf (slotFields Stop)) 0x200000000
+    ∷ line (wordOf (slotFields End)) 0x300000000
+    -- the words of a row, of a segment's pair and of an AGGREGATOR; the most bytes kept, and rows of a body
+    ∷ line rowWords 6
+    ∷ line (length (words (frontRow []))) 6
+    ∷ line pairWords 2
+    ∷ line (length (pairOf (segmentAt 2 []))) 2
+    ∷ line aggregatorSize 2
+    ∷ line keptLimit 65535
+    ∷ line bodyRows 65512
+    -- version 1.0 of the calls for C
+    ∷ line (wordOf versionFields) 0x1
     -- other answers: their values in order
     ∷ line (wordOf (inFields (given (1 ∷ 2 ∷ 3 ∷ [])))) 0x300020001
     ∷ line (wordOf (inFields (refusal 11))) 0xB000000000000

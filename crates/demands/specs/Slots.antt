@@ -8,15 +8,23 @@ use mathlib.Core.List.{List, [], _++_, append-assoc, append-nil}
 use mathlib.Core.Bool.{Bool, true, false, false≢true}
 use denote.Ref.{now}
 use lib.ListN.{length, take, drop}
+use Rattle.wire.specs.Number.{Bytes}
 use Rattle.wire.specs.Store.{laid}
 use Rattle.families.specs.Family.{modeOf}
+use Rattle.families.specs.declared.AddPath.{AddPath}
 use Rattle.copies.proofs.Fronts.{front-kept}
 use Rattle.copies.proofs.to_front.Reads as to_front
 use Rattle.slots.specs.Slot.{recordSize, settingsLimit, slotOf, Decided, recordOf}
-use Rattle.slots.specs.declared.SlotAnswer.the-variants.{Slot}
+use Rattle.slots.specs.declared.SlotAnswer.the-variants.{Slot, More}
 use Rattle.slots.proofs.BlockLaws.{decided, record-read, record-kept, record-rest}
 use Rattle.slots.proofs.SlotLaws.{slot-fits}
 use Rattle.slots.proofs.next_slot.Reads as next_slot
+use Rattle.words.specs.Settings.{isYes, settingsOf}
+use Rattle.words.specs.Word.{fields, wordOf}
+use Rattle.words.proofs.SettingsLaws as SettingsLaws
+use Rattle.firmware.specs.Fields.{slotRecord, slotFields, keptLimit}
+use Rattle.firmware.proofs.SlotBounds.{more-short}
+use Rattle.firmware.proofs.slot.doorbramble_next_slot.Reads as c_next_slot
 use Rattle.slot_table.specs.Line.{number, numeral, lineOf, stopText, headingText, lineRoom, putCount, putOut}
 use Rattle.slot_table.proofs.LineLaws.{line-few, stop-few, heading-few, put-not, put-front, put-past}
 use Rattle.slot_table.proofs.TableLaws.{ending-few}
@@ -66,6 +74,22 @@ module _ (κs : _) (given : _) (answer : _) (exit : _) (call : next_slot.Learnt 
   -- the kept bytes of a record that is found are there
   pub found-whole : (kept : ℕ) (mode : _) → answer ≡ Slot kept mode → recordSize + kept ≤ length bytes
   found-whole kept mode e = slot-fits bytes last kept mode (sym call ∙ e)
+
+  -- more bytes are asked for of fewer than the longest record has, and of no more
+  pub more-of-few : Bytes bytes → answer ≡ More → length bytes < recordSize + keptLimit
+  more-of-few b e = more-short bytes last b (sym call ∙ e)
+
+-- the call for C tells a record at the front by its kept bytes and by a settings byte,
+module _ (κs : _) (given : _) (word : _) (exit : _) (call : c_next_slot.Learnt κs given word exit) where
+  pub c-record-found : (settings : ℕ) (kept rest : List ℕ) → settings ≤ settingsLimit → length kept ≤ 65535
+      → now (given .0) ≡ recordOf settings kept ++ rest → word ≡ wordOf (fields (length kept) (settingsOf (modeOf settings)) slotRecord 0)
+  c-record-found settings kept rest s k e =
+      call ∙ ap (λ (b : List ℕ). wordOf (slotFields (slotOf b (isYes (given .1 .0))))) e
+      ∙ ap (λ a. wordOf (slotFields a)) (record-read settings kept s k rest (isYes (given .1 .0)))
+
+-- which every call reads as the record's setting
+pub settings-read : (mode : AddPath) → modeOf (settingsOf mode) ≡ mode
+settings-read = SettingsLaws.settings-read
 
 -- ---- lines
 

@@ -6,7 +6,7 @@ use mathlib.Core.List.{List, _++_}
 use denote.Ref.{now}
 use lib.ListN.{length, take, drop}
 use Rattle.wire.specs.Refusal.{truncated, prefixLength, oneByteSection, bodyLimit}
-use Rattle.routes.specs.Promises.{verdictIn}
+use Rattle.routes.specs.Promises.{rowsIn, verdictIn}
 use Rattle.routes.specs.declared.ListAnswer.{ListAnswer}
 use Rattle.families.specs.declared.AddPath.{AddPath}
 use Rattle.updates.specs.Body.{lengthSize, partsOf}
@@ -22,6 +22,8 @@ use Rattle.updates.proofs.attribute_part.Reads as attribute_part
 use Rattle.updates.proofs.announced_part.Reads as announced_part
 use Rattle.updates.proofs.count_bgp_update_message.Reads as count_bgp_update_message
 use Rattle.updates.proofs.parse_bgp_update_message.Reads as parse_bgp_update_message
+use Rattle.firmware.specs.Fields.{bodyRows}
+use Rattle.firmware.proofs.UpdateBounds.{update-few}
 
 -- ---- the sections
 
@@ -85,6 +87,10 @@ module _ (κs : _) (given : _) (answer : _) (exit : _) (call : count_bgp_update_
   counted-verdicts first second accepted =
       let v = update-verdicts (now (given .0)) (given .1 .0) first second (sym call ∙ accepted) in
       (of-section (v .0), of-section (v .1))
+
+  -- both together have at most so many rows
+  pub counted-few : (first second : ListAnswer) → answer ≡ Update first second → rowsIn first + rowsIn second ≤ bodyRows
+  counted-few first second accepted = update-few (now (given .0)) (given .1 .0) first second (sym call ∙ accepted)
 
   -- and any call that reads the same body under the same setting, whatever its stores: what it accepts is as it is counted
   module _ (κs′ : _) (given′ : _) (answer′ : _) (exit′ : _) (call′ : parse_bgp_update_message.Learnt κs′ given′ answer′ exit′) where

@@ -4,4 +4,5 @@ pub mod ListBounds
 pub mod UpdateBounds
 pub mod PathBounds
 pub mod AggregatorBounds
+pub mod SlotBounds
 pub mod Tight

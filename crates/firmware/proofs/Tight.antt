@@ -18,6 +18,8 @@ use Rattle.firmware.proofs.path.doorbramble_parse_as_path.Reads as «pa
 use Rattle.firmware.proofs.path.doorbramble_encode_as_path.Reads as «encode_as_path»
 use Rattle.firmware.proofs.aggregator.doorbramble_parse_aggregator.Reads as parse_aggregator
 use Rattle.firmware.proofs.aggregator.doorbramble_encode_aggregator.Reads as encode_aggregator
+use Rattle.firmware.proofs.slot.doorbramble_next_slot.Reads as next_slot
+use Rattle.firmware.proofs.version.doorbramble_version.Reads as version
 
 pub tight-parse-bgp-message : (κs : _) (a : _) (z z′ : _) (e e′ : _) → parse_bgp_message.Learnt κs a z e → parse_bgp_message.Learnt κs a z′ e′ → z ≡ z′
 tight-parse-bgp-message κs a z z′ e e′ p q = p ∙ sym q
@@ -69,3 +71,9 @@ tight-parse-aggregator κs a z z′ e e′ p q = (p .0 ∙ sym (q .0), p .1 ∙ 
 
 pub tight-encode-aggregator : (κs : _) (a : _) (z z′ : _) (e e′ : _) → encode_aggregator.Learnt κs a z e → encode_aggregator.Learnt κs a z′ e′ → (z ≡ z′) × (now (e .1 .1 .1 .0) ≡ now (e′ .1 .1 .1 .0))
 tight-encode-aggregator κs a z z′ e e′ p q = (p .0 ∙ sym (q .0), p .1 ∙ sym (q .1))
+
+pub tight-next-slot : (κs : _) (a : _) (z z′ : _) (e e′ : _) → next_slot.Learnt κs a z e → next_slot.Learnt κs a z′ e′ → z ≡ z′
+tight-next-slot κs a z z′ e e′ p q = p ∙ sym q
+
+pub tight-version : (κs : _) (a : _) (z z′ : _) (e e′ : _) → version.Learnt κs a z e → version.Learnt κs a z′ e′ → z ≡ z′
+tight-version κs a z z′ e e′ p q = p ∙ sym q

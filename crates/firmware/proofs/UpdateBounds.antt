@@ -1,13 +1,15 @@
--- The fields of every answer of the module update are of 16 bits; and what reading and writing one told.
+-- The fields of every answer of the module update are of 16 bits; how many rows a body has at most; and what reading and writing one told.
 -- Assumes nothing.
 use Prim.Native.Nat.{ℕ, _+_, _≤_}
-use mathlib.Core.Path.{_≡_, sym, _∙_}
+use mathlib.Core.Path.{_≡_, refl, sym, _∙_}
 use mathlib.Core.List.{List}
 use native.Mathlib.Omega.{arith}
 use lib.ListN.{length}
+use lib.Dec.{leb}
 use Rattle.wire.specs.Answer.{filled, writeMeaning}
 use Rattle.wire.specs.Extent.{Extent}
-use Rattle.wire.specs.Refusal.{noRoom}
+use Rattle.wire.specs.Refusal.{tooLong, noRoom, listLimit}
+use Rattle.wire.specs.Walk.{Reading}
 use Rattle.wire.specs.declared.WriteAnswer.{WriteAnswer}
 use Rattle.wire.proofs.ChoiceLaws.{pick-any}
 use Rattle.families.specs.Family.{maxOf}
@@ -15,8 +17,11 @@ use Rattle.route_reader.specs.Pair.{readPairBy, readPair}
 use Rattle.families.specs.declared.AddPath.{AddPath}
 use Rattle.families.specs.declared.Form.{Form}
 use Rattle.families.specs.declared.Afi.the-variants.{Ipv4}
-use Rattle.routes.specs.Promises.{hasRoom}
+use Rattle.routes.specs.List.{sectionOf}
+use Rattle.routes.specs.Promises.{rowsIn, hasRoom, countAnswer}
+use Rattle.routes.specs.declared.Row.{Row}
 use Rattle.routes.specs.declared.ListAnswer.{ListAnswer}
+use Rattle.routes.specs.declared.ListAnswer.the-variants as L
 use Rattle.route_reader.specs.declared.PairAnswer.{PairAnswer}
 use Rattle.route_reader.specs.declared.PairAnswer.the-variants as Q
 use Rattle.updates.specs.Body.{partsOf, withdrawnOf, announcedOf}
@@ -26,11 +31,13 @@ use Rattle.updates.specs.declared.PartsAnswer.the-variants as S
 use Rattle.updates.specs.declared.UpdateAnswer.{UpdateAnswer}
 use Rattle.updates.specs.declared.UpdateAnswer.the-variants as U
 use Rattle.updates.proofs.BodyLaws.{parts-add-up}
+use Rattle.updates.proofs.Sections.{withdrawn-length, announced-length}
 use Rattle.update_writer.specs.Body.{bodyBytes, bodyAnswer}
 use Rattle.update_writer.proofs.RoundTrip.{body-cases}
 use Rattle.words.specs.Word.{inFields, wordOf, Narrow}
 use Rattle.words.proofs.WordLaws.{refused-narrow, number-narrow}
-use Rattle.firmware.specs.Fields.{partFields, updateFields}
+use Rattle.firmware.specs.Fields.{partFields, updateFields, bodyRows}
+use Rattle.firmware.proofs.Bounds.{answer-any}
 use Rattle.firmware.proofs.ListBounds.{section-modest, Small, count-small}
 
 -- ---- where the sections stand
@@ -74,6 +81,37 @@ module _ (b : List ℕ) (mode : AddPath) where
   pub read-update-narrow : (places places′ : ℕ) → Narrow (updateFields (readUpdate b mode places places′))
   unfolding readUpdate readPair
   read-update-narrow places places′ = if-narrow (partsOf b) _ (pair-narrow _ _ places places′ (both-small .0) (both-small .1))
+
+-- ---- how many rows a body has
+
+rows-few : (s : List ℕ) (mode : AddPath) → rowsIn (counted s mode) ≤ length s
+unfolding countAnswer
+rows-few s mode =
+    let Few : ListAnswer → Type 0 = λ a. rowsIn a ≤ length s in
+    let r : Reading Row = sectionOf s (maxOf Ipv4) mode in
+    pick-any Few (leb (length s) listLimit) _ (L.Refused tooLong)
+    (answer-any Few (r .verdict) (L.Rows (length (r .rows))) L.Refused (section-modest s (maxOf Ipv4) mode .few) (λ n. omega arith))
+    (omega arith)
+
+-- no more in both sections together than the bytes between its lengths
+pub update-few : (b : List ℕ) (mode : AddPath) (first second : ListAnswer) → countUpdate b mode ≡ U.Update first second → rowsIn first + rowsIn second ≤ bodyRows
+unfolding countUpdate
+update-few b mode first second = by (partsOf b) refl
+  where
+    by : (p : PartsAnswer) → partsOf b ≡ p → ifParts p (U.Update (counted (withdrawnOf b) mode) (counted (announcedOf b) mode)) ≡ U.Update first second
+        → rowsIn first + rowsIn second ≤ bodyRows
+    by (S.Parts w a n) found e =
+        let one : counted (withdrawnOf b) mode ≡ first = cc in
+        let two : counted (announcedOf b) mode ≡ second = cc in
+        let whole = parts-add-up b w a n found in
+        omega (
+          arith,
+          whole .0,
+          whole .1,
+          rw (one, withdrawn-length b w a n found) at (rows-few (withdrawnOf b) mode),
+          rw (two, announced-length b w a n found) at (rows-few (announcedOf b) mode),
+        )
+    by (S.Refused m) found e = let z : _≡_ {A = ℕ} 0 1 = cc in absurd (omega arith)
 
 -- what reading into two stores told, by the setting of a settings byte
 pub read-told : (b : List ℕ) (mode mode′ : AddPath) (withdrawn announced withdrawn′ announced′ : List ℕ) (u : UpdateAnswer) (r : ℕ)

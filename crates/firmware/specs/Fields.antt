@@ -13,6 +13,9 @@ use Rattle.updates.specs.Body.{partsMeaning}
 use Rattle.updates.specs.Update.{updateMeaning}
 use Rattle.updates.specs.declared.PartsAnswer.{PartsAnswer}
 use Rattle.updates.specs.declared.UpdateAnswer.{UpdateAnswer}
+use Rattle.slots.specs.declared.SlotAnswer.{SlotAnswer}
+use Rattle.slots.specs.declared.SlotAnswer.the-variants.{Slot, More, Stop, End}
+use Rattle.words.specs.Settings.{settingsOf}
 use Rattle.words.specs.Word.{Fields, fields}
 
 -- ---- messages
@@ -49,3 +52,51 @@ aggregatorWords a = valueIn 0 a ∷ valueIn 1 a ∷ []
 abbrev pub aggregatorStored : Answer → ℕ → Answer
 aggregatorStored (given values) places = pick (ltb places aggregatorSize) (refusal noRoom) (given (aggregatorSize ∷ valueIn 2 (given values) ∷ []))
 aggregatorStored (refusal n) places = refusal n
+
+-- ---- slots
+
+-- what stands at the front of the input: a record; too few bytes to tell, where more may come; no record; nothing, and no more will come
+abbrev pub slotRecord : ℕ
+slotRecord = 0
+
+abbrev pub slotMore : ℕ
+slotMore = 1
+
+abbrev pub slotStop : ℕ
+slotStop = 2
+
+abbrev pub slotEnd : ℕ
+slotEnd = 3
+
+-- the kept bytes of a record and its settings byte, and what stands there; none of them is a refusal
+abbrev pub slotFields : SlotAnswer → Fields
+slotFields (Slot kept mode) = fields kept (settingsOf mode) slotRecord 0
+slotFields More = fields 0 0 slotMore 0
+slotFields Stop = fields 0 0 slotStop 0
+slotFields End = fields 0 0 slotEnd 0
+
+-- ---- sizes that a caller needs: the words of a row and of a segment's pair; the most bytes that a record keeps; the most rows of an UPDATE body,
+-- of both sections together
+
+abbrev pub rowWords : ℕ
+rowWords = 6
+
+abbrev pub pairWords : ℕ
+pairWords = 2
+
+abbrev pub keptLimit : ℕ
+keptLimit = 65535
+
+abbrev pub bodyRows : ℕ
+bodyRows = 65512
+
+-- ---- the version
+
+abbrev pub versionMajor : ℕ
+versionMajor = 1
+
+abbrev pub versionMinor : ℕ
+versionMinor = 0
+
+abbrev pub versionFields : Fields
+versionFields = fields versionMajor versionMinor 0 0

@@ -10,7 +10,9 @@ pub mod aggregator;
 pub mod list;
 pub mod message;
 pub mod path;
+pub mod slot;
 pub mod update;
+pub mod version;
 
 // What was written, as a word: the bytes.
 fn write_word(a: WriteAnswer) -> u64

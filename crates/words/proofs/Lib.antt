@@ -1,3 +1,4 @@
 pub mod FlagLaws
+pub mod SettingsLaws
 pub mod WordLaws
 pub mod Tight

@@ -3,6 +3,7 @@ use mathlib.Core.Path.{_≡_, sym, _∙_}
 use Rattle.words.proofs.family_of.Reads as family_of
 use Rattle.words.proofs.form_of.Reads as form_of
 use Rattle.words.proofs.asn_length_of.Reads as asn_length_of
+use Rattle.words.proofs.settings_of.Reads as settings_of
 use Rattle.words.proofs.word.Reads as word
 
 pub tight-family-of : (κs : _) (a : _) (z z′ : _) (e e′ : _) → family_of.Learnt κs a z e → family_of.Learnt κs a z′ e′ → z ≡ z′
@@ -13,6 +14,9 @@ tight-form-of κs a z z′ e e′ p q = p ∙ sym q
 
 pub tight-asn-length-of : (κs : _) (a : _) (z z′ : _) (e e′ : _) → asn_length_of.Learnt κs a z e → asn_length_of.Learnt κs a z′ e′ → z ≡ z′
 tight-asn-length-of κs a z z′ e e′ p q = p ∙ sym q
+
+pub tight-settings-of : (κs : _) (a : _) (z z′ : _) (e e′ : _) → settings_of.Learnt κs a z e → settings_of.Learnt κs a z′ e′ → z ≡ z′
+tight-settings-of κs a z z′ e e′ p q = p ∙ sym q
 
 pub tight-word : (κs : _) (a : _) (z z′ : _) (e e′ : _) → word.Learnt κs a z e → word.Learnt κs a z′ e′ → z ≡ z′
 tight-word κs a z z′ e e′ p q = p ∙ sym q

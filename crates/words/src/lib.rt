@@ -1,8 +1,9 @@
 // What the calls for C share: an answer as one word of 64 bits, and the numbers of C that stand for a choice.
 ghost use mathlib.Core.Path.{_≡_};
-ghost use Rattle.words.specs.Settings.{familyOf, formOf, asnLengthOf};
+ghost use Rattle.words.specs.Settings.{familyOf, formOf, asnLengthOf, settingsOf};
 ghost use Rattle.words.specs.Word.{fields, wordOf};
 use asns::AsnLength;
+use families::AddPath;
 use families::Afi;
 use families::Form;
 
@@ -32,6 +33,17 @@ pub fn asn_length_of(four_bytes: u8) -> AsnLength
         AsnLength::Bits16
     } else {
         AsnLength::Bits32
+    }
+}
+
+// The settings byte of a setting: `mode_of` of families reads it as that setting.
+pub fn settings_of(mode: AddPath) -> u8
+    ensures { λ r. ⌜ r ≡ settingsOf mode ⌝ }
+{
+    match mode {
+        AddPath::Off => 0,
+        AddPath::On => 1,
+        AddPath::Guess => 2,
     }
 }
 
