@@ -35,3 +35,6 @@ find_captures() {
     CAPTURES=$(realpath -- "$captures")
     export CAPTURES
 }
+
+# Ends where standard output is closed: what is written to it would be lost, or go into some other file.
+needs_output() { (: >&1) 2>/dev/null || die 'standard output is closed'; }

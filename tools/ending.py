@@ -44,6 +44,8 @@ def run(me, main):
 
 
 def say(me, sentence):
-    """Says a sentence on standard error, if that is open."""
-    if sys.stderr is not None:
-        print(f"{me}: {sentence}", file=sys.stderr, flush=True)
+    """Says a sentence on standard error; where that cannot be written, there is nobody to tell."""
+    try:
+        os.write(2, f"{me}: {sentence}\n".encode(errors="surrogateescape"))
+    except OSError:
+        pass

@@ -26,13 +26,11 @@ find_runner() {
     [ -e /lib64/ld-linux-x86-64.so.2 ]
 }
 
-# PROGRAM ARGUMENT..: runs a program for x86-64, after find_runner.
-run_x86() {
-    if [ -n "$loader" ]; then
-        ${emulator:+"$emulator"} "$loader" --library-path "$tools/lib" "$@"
-    else
-        ${emulator:+"$emulator"} "$@"
-    fi
+# PROGRAM ARGUMENT..: after find_runner, a program for x86-64 in place of this shell.
+become_x86() {
+    [ -z "$loader" ] || set -- "$loader" --library-path "$tools/lib" "$@"
+    [ -z "$emulator" ] || set -- "$emulator" "$@"
+    exec "$@"
 }
 
 # NAME: the crates of the repository that NAME is built from, itself the last, one to a line.
@@ -51,7 +49,7 @@ crates_of() {
 
 # LOG NAME COMMAND..: runs a command of rt that proves NAME, says how far it is, line by line, and shows all that it said where it fails.
 prove() {
-    log=$1 all=$(crates_of "$2" | wc -l)
+    log=$1 wanted=$2 all=$(crates_of "$2" | wc -l)
     shift 2
     (: >"$log") 2>/dev/null || die "$log cannot be written"
     {
@@ -63,7 +61,8 @@ prove() {
         while IFS= read -r line; do
             case $line in
             '=ended '*) ended=${line#=ended } && continue ;;
-            'rt: '*' proved ('*) proved=$((proved + 1)) && line=${line#rt: } && say "proved ${line%% *}, $proved of $((all))" ;;
+            'rt: '*' proved ('*) proved=$((proved + 1)) && name=${line#rt: } && say "proved ${name%% *}, $proved of $((all))" ;;
+            'rt: target/staticlib/'*' has '*) say "proved $wanted, $((all)) of $((all))" ;;
             esac
             printf '%s\n' "$line" >>"$log"
         done
