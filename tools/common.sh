@@ -37,4 +37,7 @@ find_captures() {
 }
 
 # Ends where standard output is closed: what is written to it would be lost, or go into some other file.
-needs_output() { (: >&1) 2>/dev/null || die 'standard output is closed'; }
+needs_output() { (: 9>&1) 2>/dev/null || die 'standard output is closed'; }
+
+# Prints a line on standard output, or ends.
+tell() { printf '%s\n' "$*" 2>/dev/null || die 'standard output could not be written'; }

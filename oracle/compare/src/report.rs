@@ -79,7 +79,10 @@ impl Report {
 
     /// Prints the totals; whether there was no difference.
     pub fn finish(&self, out: &mut impl Write) -> io::Result<bool> {
-        writeln!(out, "op  requests  by crate  crate differs  by answers  answers differs | requests per refusal number")?;
+        writeln!(
+            out,
+            "op  requests  by crate  crate differs  by answers  answers differs | requests per refusal number"
+        )?;
         let mut all = OpTotals::default();
         for (op, totals) in self.ops.iter().enumerate().filter(|(_, totals)| totals.requests > 0) {
             print_totals(&op.to_string(), totals, out)?;

@@ -34,7 +34,8 @@ pub struct Capture {
 pub fn load(path: &Path) -> io::Result<Vec<Capture>> {
     let text = std::fs::read_to_string(path).map_err(|error| about(path.display(), error))?;
     let wrong = |number, why| io::Error::other(format!("{}, line {number}: {why}", path.display()));
-    let captures = (1..).zip(text.lines()).map(|(number, line)| Capture::from_line(line).map_err(|why| wrong(number, why)));
+    let captures =
+        (1..).zip(text.lines()).map(|(number, line)| Capture::from_line(line).map_err(|why| wrong(number, why)));
     let captures = captures.collect::<io::Result<Vec<_>>>()?;
     if captures.is_empty() {
         return Err(io::Error::other(format!("{} has no captured messages", path.display())));
