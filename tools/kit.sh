@@ -60,13 +60,12 @@ prove() {
         ended=2 proved=0
         while IFS= read -r line; do
             case $line in
-            '=ended '*) ended=${line#=ended } && continue ;;
+            '=ended '*) ended=${line#=ended } && break ;;
             'rt: '*' proved ('*) proved=$((proved + 1)) && name=${line#rt: } && say "proved ${name%% *}, $proved of $((all))" ;;
             'rt: target/staticlib/'*' has '*) say "proved $wanted, $((all)) of $((all))" ;;
             esac
             printf '%s\n' "$line" >>"$log"
         done
-        [ "$ended" -eq 0 ] || cat "$log" >&2
-        exit "$ended"
+        [ "$ended" -eq 0 ] || { cat "$log" >&2 && false; }
     }
 }
