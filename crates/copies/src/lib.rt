@@ -1,8 +1,9 @@
-// Bytes copied to a place of an output: nothing changes where there is no room.
+// Bytes copied to a place of an output, or moved to the front of where they stand: nothing changes where there is no room.
 ghost use mathlib.Core.Path.{_≡_};
 ghost use Prim.Native.Nat.{_+_, _≤_};
 ghost use lib.ListN.{length, take, drop};
 ghost use Rattle.wire.specs.Store.{laid, placed};
+ghost use Rattle.copies.specs.Front.{toFront};
 
 // How many bytes go at once.
 const BLOCK: usize = 8;
@@ -71,4 +72,22 @@ pub fn copy_at(out: &mut [u8], to: usize, src: &[u8])
         return;
     }
     copy_blocks(out, to, src);
+}
+
+// The bytes from a place up to an end, to the front. Nothing changes where they are not all there.
+pub fn to_front(bytes: &mut [u8], at: usize, end: usize)
+    ensures { λ _. ⌜ now (bytes .exit) ≡ toFront (now (bytes .entry)) at end ⌝ }
+{
+    if bytes.len() < end {
+        return;
+    }
+    if end < at {
+        return;
+    }
+    let count = end - at;
+    let mut i: usize = 0;
+    while i < count {
+        bytes[i] = bytes[at + i];
+        i = i + 1;
+    }
 }

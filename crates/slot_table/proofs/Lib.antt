@@ -1,4 +1,5 @@
 pub mod LineLaws
+pub mod TableLaws
 pub mod NumeralLaws
 pub mod Growth
 pub mod Tight

@@ -1,2 +1,3 @@
 pub mod Line
+pub mod Table
 pub mod Private

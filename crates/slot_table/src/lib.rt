@@ -1,14 +1,18 @@
-// The table that is printed of slot records: the line of a record, by the crate's reading of its message and its routes counted.
+// The table that is printed of slot records: the line of a record, by the crate's reading of its message and its routes counted; and the lines of all
+// records, block by block.
 ghost use mathlib.Core.Path.{_≡_};
 ghost use mathlib.Core.List.{[], _∷_, _++_};
 ghost use Prim.Native.Nat.{_+_, _≤_};
 ghost use lib.ListN.{length, drop};
+ghost use Rattle.wire.specs.Store.{laid};
 ghost use Rattle.updates.specs.Update.{countUpdate};
-ghost use Rattle.slot_table.specs.Line.{number, stateOf, space, lineEnd, refusedText, stateText, fieldsText, sectionText, updateEntry, entryOf, entryText, lineOf, headingText, stopText, putCount, putOut};
+ghost use Rattle.slot_table.specs.Line.{number, stateOf, space, lineEnd, refusedText, stateText, fieldsText, sectionText, updateEntry, entryOf, entryText, lineOf, headingText, stopText, lineRoom, putCount, putOut};
 ghost use Rattle.slot_table.specs.Private.{numberRoom, stateRoom, fieldsRoom, sectionRoom, entryRoom, Grown};
+ghost use Rattle.slot_table.specs.Table.{listing, listedOf, endingText};
 use families::AddPath;
 use messages::MessageAnswer;
 use routes::ListAnswer;
+use slots::SlotAnswer;
 use updates::UpdateAnswer;
 
 // The most bytes of a line: an output to put one into has this many places.
@@ -44,6 +48,32 @@ enum Entry {
         withdrawn: ListAnswer,
         announced: ListAnswer,
     },
+}
+
+// What is to be done next with a block: write what was put and go on with what is left, read more after what is left, or end. The table is
+// whole then, or its last line is the one that ends it early.
+pub enum Then {
+    Write,
+    Read,
+    Whole,
+    Stop,
+}
+
+// How far a call came: the bytes of the block that it used, the bytes that it put, the number of the next record, and what is to be done next.
+pub struct Listed {
+    pub used: usize,
+    pub put: usize,
+    pub nth: u64,
+    pub then: Then,
+}
+
+// How a table ended: whole; where a record of that number should stand and none does, at a byte of the input; where no more could be read
+// after so many bytes; or where it could not be written.
+pub enum Ending {
+    Whole,
+    Stop { nth: u64, byte: u64 },
+    Unread { byte: u64 },
+    Unwritten,
 }
 
 // Puts the digits of n before the last byte of text, and answers where they start. 48 is the digit 0.
@@ -220,6 +250,23 @@ fn put_entry(out: &mut [u8], at: usize, kept: usize, entry: Entry) -> usize
     }
 }
 
+// The line of a record, and below the line that ends a table early, at a place of the output.
+fn line_at(out: &mut [u8], at: usize, nth: u64, slot: &[u8], mode: AddPath) -> usize
+    requires { ⌜ at + lineRoom ≤ length (now out) ⌝ }
+    ensures { λ r. ⌜ Grown (now (out .entry)) at (lineOf nth (now (slot .entry)) mode) (now (out .exit)) r ⌝ }
+{
+    let to = put_number(out, at, nth, SPACE);
+    put_entry(out, to, slot.len(), entry_of(slot, mode))
+}
+
+fn stop_at(out: &mut [u8], at: usize, nth: u64) -> usize
+    requires { ⌜ at + lineRoom ≤ length (now out) ⌝ }
+    ensures { λ r. ⌜ Grown (now (out .entry)) at (stopText nth) (now (out .exit)) r ⌝ }
+{
+    let to = put_text(out, at, b"stop ");
+    put_number(out, to, nth, LINE_END)
+}
+
 // The line of a record, at the front of the output. Answers its length, and 0 where the output has fewer than LINE_ROOM places.
 pub fn put_line(nth: u64, slot: &[u8], mode: AddPath, out: &mut [u8]) -> usize
     ensures answer { λ r. ⌜ r ≡ putCount (lineOf nth (now (slot .entry)) mode) (length (now (out .entry))) ⌝ }
@@ -228,8 +275,7 @@ pub fn put_line(nth: u64, slot: &[u8], mode: AddPath, out: &mut [u8]) -> usize
     if out.len() < LINE_ROOM {
         return 0;
     }
-    let at = put_number(out, 0, nth, SPACE);
-    put_entry(out, at, slot.len(), entry_of(slot, mode))
+    line_at(out, 0, nth, slot, mode)
 }
 
 // The line that ends a table early, likewise.
@@ -240,8 +286,7 @@ pub fn put_stop(nth: u64, out: &mut [u8]) -> usize
     if out.len() < LINE_ROOM {
         return 0;
     }
-    let at = put_text(out, 0, b"stop ");
-    put_number(out, at, nth, LINE_END)
+    stop_at(out, 0, nth)
 }
 
 // The heading of a table, likewise.
@@ -253,4 +298,79 @@ pub fn put_heading(out: &mut [u8]) -> usize
         return 0;
     }
     put_text(out, 0, b"no type claimed kept state withdrawn announced\n")
+}
+
+// The word that tells how a table ended, likewise.
+pub fn put_ending(ending: Ending, out: &mut [u8]) -> usize
+    ensures answer { λ r. ⌜ r ≡ putCount (endingText ending) (length (now (out .entry))) ⌝ }
+    ensures output { λ _. ⌜ now (out .exit) ≡ putOut (endingText ending) (now (out .entry)) ⌝ }
+{
+    if out.len() < LINE_ROOM {
+        return 0;
+    }
+    match ending {
+        Ending::Whole => put_text(out, 0, b"whole\n"),
+        Ending::Stop { nth, byte } => {
+            let word = put_text(out, 0, b"stop ");
+            let record = put_number(out, word, nth, SPACE);
+            put_number(out, record, byte, LINE_END)
+        }
+        Ending::Unread { byte } => {
+            let word = put_text(out, 0, b"unread ");
+            put_number(out, word, byte, LINE_END)
+        }
+        Ending::Unwritten => put_text(out, 0, b"unwritten\n"),
+    }
+}
+
+// The lines of the records at the front of a block, the first of which has the number given, from the front of the output: as many as it has
+// LINE_ROOM places for. `last` says that no bytes follow the block.
+pub fn put_records(block: &[u8], last: bool, first: u64, out: &mut [u8]) -> Listed
+    ensures answer { λ r. ⌜ r ≡ listedOf (listing last first (length (now (out .entry))) (now (block .entry))) ⌝ }
+    ensures output { λ _. ⌜ now (out .exit) ≡ laid (now (out .entry)) 0 (listing last first (length (now (out .entry))) (now (block .entry)) .lines) ⌝ }
+{
+    let mut used: usize = 0;
+    let mut put: usize = 0;
+    let mut nth = first;
+    while LINE_ROOM <= out.len() - put {
+        match slots::next_slot(&block[used..], last) {
+            SlotAnswer::Slot { kept, mode } => {
+                let start = used + slots::RECORD_SIZE;
+                used = start + kept;
+                put = line_at(out, put, nth, &block[start..used], mode);
+                nth = std::num::wrapping_add_u64(nth, 1);
+            }
+            SlotAnswer::More => {
+                return Listed {
+                    used,
+                    put,
+                    nth,
+                    then: Then::Read,
+                };
+            }
+            SlotAnswer::Stop => {
+                put = stop_at(out, put, nth);
+                return Listed {
+                    used,
+                    put,
+                    nth,
+                    then: Then::Stop,
+                };
+            }
+            SlotAnswer::End => {
+                return Listed {
+                    used,
+                    put,
+                    nth,
+                    then: Then::Whole,
+                };
+            }
+        }
+    }
+    Listed {
+        used,
+        put,
+        nth,
+        then: Then::Write,
+    }
 }

@@ -9,7 +9,6 @@ use borrow.Author.Tests.{lt-leb, le-ltb, ltb-false, ne-eqb, eqb-false}
 use lib.ListN.{length, getD, take, drop, length-append, List·getD-append}
 use lib.Seq.{take-at, drop-at}
 use lib.Dec.{leb, ltb, eqb}
-use Rattle.wire.specs.Choice.{pick}
 use Rattle.wire.proofs.ChoiceLaws.{pick-any, pick-leb}
 use Rattle.wire.specs.Number.{be, beAt}
 use Rattle.wire.proofs.NumberLaws.{be-toBe, padded-cells}
@@ -17,13 +16,9 @@ use Rattle.families.specs.Family.{modeOf}
 use Rattle.slots.specs.Slot.{markFirst, markSecond, recordSize, settingsLimit, found, differs, overSettings, keptOf, slotOf, Decided, recordOf}
 use Rattle.slots.specs.declared.SlotAnswer.{SlotAnswer}
 use Rattle.slots.specs.declared.SlotAnswer.the-variants.{Slot}
+use Rattle.slots.proofs.SlotLaws.{pick-both}
 
 -- ---- blocks of input
-
--- by cases, with what the test says in each
-pick-both {ℓ} : {X : Type 0} (P : X → Type ℓ) (t : Bool) (x y : X) → (t ≡ true → P x) → (t ≡ false → P y) → P (pick t x y)
-pick-both P true x y f g = f refl
-pick-both P false x y f g = g refl
 
 found-there : (test : ℕ → Bool) (s : List ℕ) (at : ℕ) → found test s at ≡ true → at < length s
 unfolding found
