@@ -8,7 +8,7 @@ use native.Mathlib.Numerals.{add-one}
 use native.Mathlib.Omega.{arith}
 use borrow.Author.Tests.{le-leb, lt-leb}
 use lib.ListN.{length, take, drop, set, getD, length-drop}
-use lib.Seq.{paste, paste-suc, drop-paste, getD-drop, length-take-le}
+use lib.Seq.{paste, paste-suc, drop-paste, getD-drop, length-take-le, take-at}
 use Rattle.wire.specs.Store.{laid}
 use Rattle.copies.specs.Front.{toFront}
 
@@ -51,3 +51,11 @@ module _ (d : List ℕ) (at end : ℕ) where
   pub front-none : end ≤ length d → end < at → d ≡ toFront d at end
   unfolding toFront
   front-none high h = rw (le-leb end (length d) high, lt-leb at end h) refl
+
+  -- what was moved stands at the front
+  pub front-kept : at ≤ end → end ≤ length d → take (end - at) (toFront d at end) ≡ take (end - at) (drop at d)
+  unfolding toFront
+  front-kept low high =
+      let part : List ℕ = take (end - at) (drop at d) in
+      let n : length part ≡ end - at = length-take-le (end - at) (drop at d) (omega (arith, length-drop at d)) in
+      rw (le-leb end (length d) high, le-leb at end low) (take-at part (drop (0 + length part) d) (end - at) n)

@@ -7,14 +7,13 @@ use mathlib.Core.Bool.{Bool, true, false}
 use native.Mathlib.Nat.{pow-succ'}
 use native.Mathlib.Omega.{arith}
 use borrow.Author.Tests.{lt-ltb, le-ltb, le-leb, lt-leb, leb-true}
-use lib.ListN.{length, take, drop, set, length-append, length-drop, length-set}
-use lib.Seq.{drop-cons, drop-set-lt, getD-set-same}
+use lib.ListN.{length, take, drop, set, length-append, length-set}
+use lib.Seq.{drop-cons, drop-set-lt, getD-set-same, take-at}
 use lib.Dec.{ltb, leb}
 use Rattle.wire.specs.Choice.{pick}
 use Rattle.wire.specs.Store.{laid}
 use Rattle.wire.proofs.ChoiceLaws.{pick-any, pick-leb}
 use Rattle.wire.proofs.StoreLaws.{drop-laid-past}
-use Rattle.wire.proofs.Turn.{rest}
 use Rattle.families.specs.declared.AddPath.{AddPath}
 use Rattle.routes.specs.declared.ListAnswer.{ListAnswer}
 use Rattle.routes.specs.Promises.{rowsIn, verdictIn}
@@ -120,6 +119,11 @@ pub put-not : (line d : List ℕ) → length d < lineRoom → (0 ≡ putCount li
 unfolding putCount putOut
 put-not line d h = rw (lt-leb lineRoom (length d) h) (refl, refl)
 
+-- the output begins with what is put
+pub put-front : (line d : List ℕ) → lineRoom ≤ length d → take (putCount line (length d)) (putOut line d) ≡ line
+unfolding putCount putOut
+put-front line d h = rw (le-leb lineRoom (length d) h) (take-at line (drop (0 + length line) d) (length line) refl)
+
 -- what is put lies within the output
 pub put-within : (line : List ℕ) (places : ℕ) → length line ≤ lineRoom → putCount line places ≤ places
 unfolding putCount
@@ -127,12 +131,6 @@ put-within line places few = by-leb
   where
     by-leb : pick (leb lineRoom places) (length line) 0 ≤ places
     by-leb = pick-leb (λ (n : ℕ). n ≤ places) lineRoom places (length line) 0 (λ h. omega arith) (λ h. omega arith)
-
--- and so does what is put after `at` places of it
-pub put-after : (line d : List ℕ) (at r : ℕ) → length line ≤ lineRoom → at ≤ length d → r ≡ putCount line (length (take (length d - at) (drop at d))) → at + r ≤ length d
-put-after line d at r few h e =
-    let part : List ℕ = take (length d - at) (drop at d) in
-    omega (arith, put-within line (length part) few, ap length (rest d at), length-drop at d)
 
 -- what lies past it is as it was
 pub put-past : (line d : List ℕ) → length line ≤ lineRoom → drop (putCount line (length d)) (putOut line d) ≡ drop (putCount line (length d)) d

@@ -23,13 +23,16 @@ use Rattle.slots.specs.declared.SlotAnswer.{SlotAnswer}
 use Rattle.slots.specs.declared.SlotAnswer.the-variants as S
 use Rattle.slots.proofs.SlotLaws.{slot-fits, stop-some, end-none}
 use Rattle.slots.proofs.BlockLaws.{decided}
-use Rattle.slot_table.specs.Line.{lineOf, stopText, lineRoom}
+use Rattle.slot_table.specs.Line.{space, lineEnd, lineOf, stopText, lineRoom}
 use Rattle.slot_table.specs.Private.{Grown}
-use Rattle.slot_table.specs.Table.{next, keptBytes, rowBy, linesOf, Listing, ended, ahead, listingBy, listingFrom, listing, listedOf}
+use Rattle.slot_table.specs.Table.{next, keptBytes, rowBy, linesOf, Listing, ended, ahead, listingBy, listingFrom, listing, listedOf, endingText}
 use Rattle.slot_table.specs.declared.Then.{Then}
 use Rattle.slot_table.specs.declared.Then.the-variants.{Write, Read, Whole, Stop}
 use Rattle.slot_table.specs.declared.Listed.{Listed}
+use Rattle.slot_table.specs.declared.Ending.{Ending}
+use Rattle.slot_table.specs.declared.Ending.the-variants as E
 use Rattle.slot_table.proofs.Growth.{grow}
+use Rattle.slot_table.proofs.LineLaws.{number-few}
 
 -- ---- a block, record by record
 
@@ -254,6 +257,9 @@ within (suc f) last nth room s =
 pub listing-within : (last : Bool) (nth room : ℕ) (s : List ℕ) → listing last nth room s .used ≤ length s
 listing-within last nth room s = within (suc (length s)) last nth room s
 
+pub used-within : (a : Listed) (last : Bool) (nth room : ℕ) (s : List ℕ) → a ≡ listedOf (listing last nth room s) → a .used ≤ length s
+used-within a last nth room s e = omega (arith, ap (λ (l : Listed). l .used) e, listing-within last nth room s)
+
 -- with room for a line, one that asks to be called again has used a record
 goes-by : (a : SlotAnswer) (nth : ℕ) (s : List ℕ) (go : List ℕ → List ℕ → Listing) → listingBy a nth s go .then ≡ Write → 0 < listingBy a nth s go .used
 goes-by (S.Slot kept mode) nth s go e = omega arith
@@ -268,3 +274,12 @@ listing-goes last nth room s h = subst (λ (l : Listing). l .then ≡ Write → 
 
 pub front-lines : (lines d : List ℕ) → take (length lines) (laid d 0 lines) ≡ lines
 front-lines lines d = take-at lines (drop (0 + length lines) d) (length lines) refl
+
+-- ---- how it ended
+
+pub ending-few : (e : Ending) → length (endingText e) ≤ lineRoom
+unfolding endingText
+ending-few E.Whole = omega arith
+ending-few (E.Stop nth byte) = simp length-append (omega (arith, number-few nth space, number-few byte lineEnd))
+ending-few (E.Unread byte) = simp length-append (omega (arith, number-few byte lineEnd))
+ending-few E.Unwritten = omega arith

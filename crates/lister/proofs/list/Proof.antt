@@ -1,187 +1,152 @@
+use Prim.Native.Nat.{_+_, _-_, _≤_}
+use mathlib.Core.Path.{_≡_}
+use native.Mathlib.Omega.{arith}
+use borrow.Author.Needs.{needs}
+use lib.ListN.{length, take, drop, length-drop}
+use lib.Seq.{length-take-le}
+use Rattle.slot_table.proofs.TableLaws.{used-within}
 use Rattle.lister.proofs.list.Statement.{statement}
 use Rattle.lister.proofs.list.Tie as tie
-use Rattle.lister.proofs.list.Reads as reads
-use Rattle.lister.proofs.list.Lts as lts
-use Rattle.copies.proofs.to_front.Reads as to-front-reads
-use Rattle.io.proofs.count.Reads as count-reads
-use Rattle.lister.proofs.read_after.Reads as read-after-reads
-use Rattle.lister.proofs.unread.Reads as unread-reads
-use Rattle.lister.proofs.write.Reads as write-reads
-use Rattle.slot_table.proofs.put_records.Reads as put-records-reads
-use Rattle.std.proofs.num.wrapping_add_u64.Reads as wrapping-add-u64-reads
 
 abbrev Inv-loop : tie.InvT-loop
-Inv-loop input₀ out₀ at₀ have₀ last₀ nth₀ byte₀ turns₀ input out at have last nth byte turns = ?
+Inv-loop input₀ out₀ at₀ have₀ last₀ nth₀ byte₀ turns₀ input out at have last nth byte turns = (at ≤ have) × (have ≤ length input) × (length input ≡ length input₀) × (length out ≡ length out₀)
 
 abbrev μ-loop : tie.MeasureT-loop
-μ-loop input₀ out₀ at₀ have₀ last₀ nth₀ byte₀ turns₀ input out at have last nth byte turns = ?
+μ-loop input₀ out₀ at₀ have₀ last₀ nth₀ byte₀ turns₀ input out at have last nth byte turns = turns
 
--- src/main.rt:46:5
 loop-holds : tie.Need-loop-holds Inv-loop μ-loop
-loop-holds c = ?
+loop-holds c = search needs
 
--- src/main.rt:47:17
 sub-turns : tie.Need-sub-turns Inv-loop μ-loop
-sub-turns c = ?
+sub-turns c = search needs
 
--- src/main.rt:48:45
 sub-put-records : tie.Need-sub-put-records Inv-loop μ-loop
-sub-put-records c = ?
+sub-put-records c = search needs
 
--- src/main.rt:48:45
 part-put-records-start : tie.Need-part-put-records-start Inv-loop μ-loop
-part-put-records-start c = ?
+part-put-records-start c = search needs
 
--- src/main.rt:48:45
 part-put-records-end : tie.Need-part-put-records-end Inv-loop μ-loop
-part-put-records-end c = ?
+part-put-records-end c = search needs
 
--- src/main.rt:48:13
 put-records-requires : tie.Need-put-records-requires Inv-loop μ-loop
-put-records-requires c κs = ?
+put-records-requires c κs = search needs
 
--- src/main.rt:49:13
+-- what a call used lies in the block
+used : (c : tie.After-put-records Inv-loop μ-loop) → c .before .before .before .before .before .loop .at + c .put-records .result .used ≤ c .before .before .before .before .before .loop .have
+used c =
+    let l = c .before .before .before .before .before .loop in
+    let block = take (l .have - l .at) (drop (l .at) (l .input)) in
+    let size : length block ≡ l .have - l .at = length-take-le (l .have - l .at) (drop (l .at) (l .input)) (omega (arith, length-drop (l .at) (l .input), l .inv .1)) in
+    omega (arith, used-within (c .put-records .result) (l .last) (l .nth) (length (l .out)) block (c .put-records .ensures .0), size, l .inv .0)
+
 write-requires : tie.Need-write-requires Inv-loop μ-loop
-write-requires c κs = ?
+write-requires c κs = search needs
 
--- src/main.rt:50:13
 same-length : tie.Need-same-length Inv-loop μ-loop
-same-length c = ?
+same-length c = search needs
 
--- src/main.rt:50:13
 same-length-2 : tie.Need-same-length-2 Inv-loop μ-loop
-same-length-2 c = ?
+same-length-2 c = search needs
 
--- src/main.rt:50:13
 returns : tie.Need-returns Inv-loop μ-loop
-returns c = ?
+returns c = search needs
 
--- src/main.rt:52:14
 add-at : tie.Need-add-at Inv-loop μ-loop
-add-at c = ?
+add-at c = let h = used (c .before .before .before .before .before .before) in omega arith
 
--- src/main.rt:53:9
 wrapping-add-u64-requires : tie.Need-wrapping-add-u64-requires Inv-loop μ-loop
-wrapping-add-u64-requires c κs = ?
+wrapping-add-u64-requires c κs = search needs
 
 enum-told : tie.Need-enum-told Inv-loop μ-loop
-enum-told c = ?
+enum-told c = search needs
 
--- src/main.rt:46:5
 loop-less : tie.Need-loop-less Inv-loop μ-loop
-loop-less c = ?
+loop-less c = search needs
 
--- src/main.rt:46:5
 loop-again : tie.Need-loop-again Inv-loop μ-loop
-loop-again c = ?
+loop-again c = let l = c .before .before .before .before .before .before .before .before .before .before .before .before .before .before .loop in (used (c .before .before .before .before .before .before .before .before .before), l .inv .1, l .inv .2, search needs)
 
--- src/main.rt:59:34
 enum-told-2 : tie.Need-enum-told-2 Inv-loop μ-loop
-enum-told-2 c = ?
+enum-told-2 c = search needs
 
--- src/main.rt:59:17
 to-front-requires : tie.Need-to-front-requires Inv-loop μ-loop
-to-front-requires c κs = ?
+to-front-requires c κs = search needs
 
--- src/main.rt:60:24
 sub-have : tie.Need-sub-have Inv-loop μ-loop
-sub-have c = ?
+sub-have c = used (c .before .before .before .before .before .before .before .before .before .before .before .before .before)
 
--- src/main.rt:62:21
 read-after-requires : tie.Need-read-after-requires Inv-loop μ-loop
-read-after-requires c κs = ?
+read-after-requires c κs = search needs
 
--- src/main.rt:64:21
 unread-requires : tie.Need-unread-requires Inv-loop μ-loop
-unread-requires c κs = ?
+unread-requires c κs = search needs
 
--- src/main.rt:64:21
 same-length-3 : tie.Need-same-length-3 Inv-loop μ-loop
-same-length-3 c = ?
+same-length-3 c = search needs
 
--- src/main.rt:64:21
 same-length-4 : tie.Need-same-length-4 Inv-loop μ-loop
-same-length-4 c = ?
+same-length-4 c = search needs
 
--- src/main.rt:64:21
 returns-2 : tie.Need-returns-2 Inv-loop μ-loop
-returns-2 c = ?
+returns-2 c = search needs
 
--- src/main.rt:66:43
 sub-count : tie.Need-sub-count Inv-loop μ-loop
-sub-count c = ?
+sub-count c = search needs
 
--- src/main.rt:66:43
 part-count-start : tie.Need-part-count-start Inv-loop μ-loop
-part-count-start c = ?
+part-count-start c = search needs
 
--- src/main.rt:66:43
 part-count-end : tie.Need-part-count-end Inv-loop μ-loop
-part-count-end c = ?
+part-count-end c = search needs
 
--- src/main.rt:66:21
 count-requires : tie.Need-count-requires Inv-loop μ-loop
-count-requires c κs = ?
+count-requires c κs = search needs
 
--- src/main.rt:68:24
 add-have : tie.Need-add-have Inv-loop μ-loop
-add-have c = ?
+add-have c = let h = used (c .before .before .before .before .before .before .before .before .before .before .before .before .before .before .before .before .before .before .before .before .before) in omega (arith, c .before .before .before .before .before .before .before .before .before .before .before .before .before .before .before .before .before .before .before .before .before .before .before .before .before .before .before .before .before .good .0 .0)
 
--- src/main.rt:46:5
 loop-less-2 : tie.Need-loop-less-2 Inv-loop μ-loop
-loop-less-2 c = ?
+loop-less-2 c = search needs
 
--- src/main.rt:46:5
 loop-again-2 : tie.Need-loop-again-2 Inv-loop μ-loop
-loop-again-2 c = ?
+loop-again-2 c = search needs
 
--- src/main.rt:70:28
 enum-told-3 : tie.Need-enum-told-3 Inv-loop μ-loop
-enum-told-3 c = ?
+enum-told-3 c = search needs
 
--- src/main.rt:70:28
 same-length-5 : tie.Need-same-length-5 Inv-loop μ-loop
-same-length-5 c = ?
+same-length-5 c = search needs
 
--- src/main.rt:70:28
 same-length-6 : tie.Need-same-length-6 Inv-loop μ-loop
-same-length-6 c = ?
+same-length-6 c = search needs
 
--- src/main.rt:70:28
 returns-3 : tie.Need-returns-3 Inv-loop μ-loop
-returns-3 c = ?
+returns-3 c = search needs
 
--- src/main.rt:71:27
 enum-told-4 : tie.Need-enum-told-4 Inv-loop μ-loop
-enum-told-4 c = ?
+enum-told-4 c = search needs
 
--- src/main.rt:71:27
 same-length-7 : tie.Need-same-length-7 Inv-loop μ-loop
-same-length-7 c = ?
+same-length-7 c = search needs
 
--- src/main.rt:71:27
 same-length-8 : tie.Need-same-length-8 Inv-loop μ-loop
-same-length-8 c = ?
+same-length-8 c = search needs
 
--- src/main.rt:71:27
 returns-4 : tie.Need-returns-4 Inv-loop μ-loop
-returns-4 c = ?
+returns-4 c = search needs
 
--- src/main.rt:74:5
 unread-requires-2 : tie.Need-unread-requires-2 Inv-loop μ-loop
-unread-requires-2 c κs = ?
+unread-requires-2 c κs = search needs
 
--- src/main.rt:39:1
 same-length-9 : tie.Need-same-length-9 Inv-loop μ-loop
-same-length-9 c = ?
+same-length-9 c = search needs
 
--- src/main.rt:39:1
 same-length-10 : tie.Need-same-length-10 Inv-loop μ-loop
-same-length-10 c = ?
+same-length-10 c = search needs
 
--- src/main.rt:39:1
 returns-5 : tie.Need-returns-5 Inv-loop μ-loop
-returns-5 c = ?
+returns-5 c = search needs
 
 pub list-spec : {M : Type 1} → statement M
 list-spec =
