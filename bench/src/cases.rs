@@ -7,7 +7,9 @@ use crate::sides::{Calls, Lending};
 use compare::inputs::captures::Capture;
 use compare::inputs::examples::{on_bytes, request, words};
 use compare::rng::Rng;
+use records::ending::say;
 use records::{Request, ADD_PATH, FOUR_BYTE_AS, GUESS, STRICT};
+use std::io;
 
 /// Small lists in a batch, so that no list is learnt by heart.
 const SMALL_LISTS: usize = 256;
@@ -61,76 +63,95 @@ pub struct Growth {
 }
 
 pub struct Cases<'a> {
-    wanted: &'a [String],
+    wanted: &'a [&'a str],
     captures: &'a [Capture],
     pub cases: Vec<Case>,
     pub growths: Vec<Growth>,
 }
 
-/// Compares the answers of all sides to a request; stops the run at a difference. The crate is asked by a request of
+/// Compares the answers of all sides to a request; a difference is trouble, and ends the run. The crate is asked by a request of
 /// its own, and is left out where it has no answer. Whether it had one.
-pub fn compare(name: &str, asked: &Request, of_crate: &Request) -> bool {
+pub fn compare(name: &str, asked: &Request, of_crate: &Request) -> io::Result<bool> {
     let ours = answers::answer::<Ours>(asked);
     let mut others = vec![("plain C", answers::answer::<Plain>(asked)), ("model", model::answer(asked))];
     others.extend(crate_oracle::oracle::answer(of_crate).map(|answer| ("crate", answer)));
     for (other, answer) in &others {
         if *answer != ours {
             let bytes: String = asked.parts[0].iter().take(80).map(|byte| format!("{byte:02X}")).collect();
-            panic!("{name}: ours and {other} differ on op {} settings {} {bytes}", asked.op, asked.settings);
+            let (op, settings) = (asked.op, asked.settings);
+            return Err(io::Error::other(format!(
+                "{name}: ours and {other} differ on op {op} settings {settings} {bytes}"
+            )));
         }
     }
-    others.len() == 3
+    Ok(others.len() == 3)
 }
 
 /// Compares a request to be timed. The crate has one reading without Add-Path, that with the guess: it is what is
 /// timed, so it must come to the same here. Whether the crate answered.
-fn compare_timed(name: &str, asked: &Request) -> bool {
+fn compare_timed(name: &str, asked: &Request) -> io::Result<bool> {
     let list = matches!(asked.op, 2 | 3 | 10 | 11) && !asked.has(ADD_PATH);
     let settings = asked.settings | if list { GUESS } else { 0 };
     compare(name, asked, &Request { settings, ..asked.clone() })
 }
 
 impl<'a> Cases<'a> {
-    pub fn new(wanted: &'a [String], captures: &'a [Capture]) -> Cases<'a> {
+    pub fn new(wanted: &'a [&'a str], captures: &'a [Capture]) -> io::Result<Cases<'a>> {
         let mut made = Cases { wanted, captures, cases: vec![], growths: vec![] };
-        made.lists();
-        made.ten();
-        made.captured_lists();
-        made.updates();
-        made.paths();
-        made.headers();
-        made.other_writers();
-        made
+        made.lists()?;
+        made.ten()?;
+        made.captured_lists()?;
+        made.updates()?;
+        made.paths()?;
+        made.headers()?;
+        made.other_writers()?;
+        match made.count() {
+            0 => Err(io::Error::other(format!("no case has a name with {}", wanted.join(" or ")))),
+            _ => Ok(made),
+        }
+    }
+
+    pub fn count(&self) -> usize {
+        self.cases.len() + self.growths.len()
     }
 
     fn wants(&self, name: &str) -> bool {
         self.wanted.is_empty() || self.wanted.iter().any(|part| name.contains(part))
     }
 
-    fn add(&mut self, name: &str, kind: Kind, requests: &[Request]) {
-        if self.wants(name) {
-            for asked in requests {
-                let by_crate = compare_timed(name, asked);
-                assert!(by_crate || matches!(kind, Kind::WithoutCrate), "{name}: the crate has no answer");
-            }
-            let calls = Calls::new(&often_enough(requests), Lending::Same);
-            self.cases.push(Case { name: name.to_string(), kind, calls });
+    /// Adds a case that is wanted, once all sides answered alike. Captured messages may have nothing for it.
+    fn add(&mut self, name: &str, kind: Kind, requests: &[Request]) -> io::Result<()> {
+        if !self.wants(name) {
+            return Ok(());
         }
+        if requests.is_empty() {
+            say(&crate::me(), format!("{name}: left out, since no captured message has any"));
+            return Ok(());
+        }
+        for asked in requests {
+            if !compare_timed(name, asked)? && !matches!(kind, Kind::WithoutCrate) {
+                return Err(io::Error::other(format!("{name}: the crate has no answer")));
+            }
+        }
+        let calls = Calls::new(&often_enough(requests), Lending::Same);
+        self.cases.push(Case { name: name.to_string(), kind, calls });
+        Ok(())
     }
 
-    fn add_growth(&mut self, name: &str, large: &[Request], small: &[Request]) {
+    fn add_growth(&mut self, name: &str, large: &[Request], small: &[Request]) -> io::Result<()> {
         let name = format!("growth: {name}");
         if self.wants(&name) {
             for asked in small.iter().chain(large) {
-                compare_timed(&name, asked);
+                compare_timed(&name, asked)?;
             }
             let [large, small] = [large, small].map(|requests| Calls::new(requests, Lending::Apart));
             self.growths.push(Growth { name, large, small });
         }
+        Ok(())
     }
 
     /// Reading, counting and maybe writing of lists or paths at both sizes, and their growth.
-    fn sizes(&mut self, what: &str, read: Kind, write: bool, [large, small]: [Vec<Request>; 2]) {
+    fn sizes(&mut self, what: &str, read: Kind, write: bool, [large, small]: [Vec<Request>; 2]) -> io::Result<()> {
         let thing = if large[0].op == 2 { "list" } else { "path" };
         let mut verbs: Vec<(&str, Kind, fn(&Request) -> Request)> =
             vec![("read", read, Request::clone), ("count", Kind::Count, inputs::counting)];
@@ -139,13 +160,14 @@ impl<'a> Cases<'a> {
         }
         for (verb, kind, asked) in verbs {
             let [large, small] = [&large, &small].map(|reads| reads.iter().map(asked).collect::<Vec<_>>());
-            self.add(&format!("{verb} {thing}: {what}, 64 KB"), kind, &large);
-            self.add(&format!("{verb} {thing}: {what}, 6.4 KB"), kind, &small);
-            self.add_growth(&format!("{verb} {thing}: {what}"), &large, &small);
+            self.add(&format!("{verb} {thing}: {what}, 64 KB"), kind, &large)?;
+            self.add(&format!("{verb} {thing}: {what}, 6.4 KB"), kind, &small)?;
+            self.add_growth(&format!("{verb} {thing}: {what}"), &large, &small)?;
         }
+        Ok(())
     }
 
-    fn lists(&mut self) {
+    fn lists(&mut self) -> io::Result<()> {
         let kinds: [ListKind; 11] = [
             ("/24s", Lengths::All24, false, 0),
             ("mixed lengths", Lengths::Table4, false, 0),
@@ -164,12 +186,13 @@ impl<'a> Cases<'a> {
             let settings = inputs::settings(lengths, list_settings);
             let tenths: Vec<Vec<u8>> = (0..10).map(|_| lengths.tenth(&mut rng, with_id)).collect();
             let reads = both_sizes(&tenths, |list| inputs::read_list(list, settings));
-            self.sizes(what, Kind::Read, list_settings != GUESS, reads);
+            self.sizes(what, Kind::Read, list_settings != GUESS, reads)?;
         }
+        Ok(())
     }
 
     /// Lists of ten prefixes.
-    fn ten(&mut self) {
+    fn ten(&mut self) -> io::Result<()> {
         let kinds: [ListKind; 7] = [
             ("/24s", Lengths::All24, false, 0),
             ("mixed lengths", Lengths::Table4, false, 0),
@@ -184,29 +207,30 @@ impl<'a> Cases<'a> {
             let settings = inputs::settings(lengths, list_settings);
             let lists = ten_lists(&mut rng, lengths, with_id);
             let reads: Vec<Request> = lists.iter().map(|list| inputs::read_list(list, settings)).collect();
-            self.add(&format!("read list: ten {what}"), Kind::ReadTen, &reads);
+            self.add(&format!("read list: ten {what}"), Kind::ReadTen, &reads)?;
             let counts: Vec<Request> = reads.iter().map(inputs::counting).collect();
-            self.add(&format!("count list: ten {what}"), Kind::Count, &counts);
+            self.add(&format!("count list: ten {what}"), Kind::Count, &counts)?;
             if list_settings != GUESS {
                 let writes: Vec<Request> = reads.iter().map(inputs::write_back).collect();
-                self.add(&format!("write list: ten {what}"), Kind::Write, &writes);
+                self.add(&format!("write list: ten {what}"), Kind::Write, &writes)?;
             }
         }
+        Ok(())
     }
 
-    fn captured_lists(&mut self) {
+    fn captured_lists(&mut self) -> io::Result<()> {
         let reads = inputs::captured(self.captures, 2);
-        self.read_and_count("list: IPv6 of the captures", Kind::Read, &reads);
+        self.read_and_count("list: IPv6 of the captures", Kind::Read, &reads)
     }
 
     /// Adds a case for the reading requests and one for their counting.
-    fn read_and_count(&mut self, what: &str, kind: Kind, reads: &[Request]) {
-        self.add(&format!("read {what}"), kind, reads);
+    fn read_and_count(&mut self, what: &str, kind: Kind, reads: &[Request]) -> io::Result<()> {
+        self.add(&format!("read {what}"), kind, reads)?;
         let counts: Vec<Request> = reads.iter().map(inputs::counting).collect();
-        self.add(&format!("count {what}"), Kind::Count, &counts);
+        self.add(&format!("count {what}"), Kind::Count, &counts)
     }
 
-    fn updates(&mut self) {
+    fn updates(&mut self) -> io::Result<()> {
         let whole = inputs::captured(self.captures, 10);
         let withdrawals: Vec<Request> = whole.iter().map(inputs::as_withdrawal).collect();
         let mut rng = Rng::new(200);
@@ -221,51 +245,52 @@ impl<'a> Cases<'a> {
             ("UPDATE: ten announced", Kind::ReadTen, announced),
         ];
         for (what, kind, reads) in sets {
-            self.read_and_count(what, kind, &reads);
+            self.read_and_count(what, kind, &reads)?;
             let writes: Vec<Request> = reads.iter().filter(|read| is_good(read)).map(inputs::write_back).collect();
             let writes: Vec<Request> = writes.into_iter().filter(crate_writes_so).collect();
-            self.add(&format!("write {what}"), Kind::Write, &writes);
+            self.add(&format!("write {what}"), Kind::Write, &writes)?;
         }
+        Ok(())
     }
 
-    fn paths(&mut self) {
+    fn paths(&mut self) -> io::Result<()> {
         let reads = inputs::captured(self.captures, 6);
-        self.read_and_count("path: captures", Kind::Path, &reads);
+        self.read_and_count("path: captures", Kind::Path, &reads)?;
         let writes: Vec<Request> = reads.iter().map(inputs::write_back).collect();
-        self.add("write path: captures", Kind::Write, &writes);
+        self.add("write path: captures", Kind::Write, &writes)?;
         for width in [4, 2] {
             let mut rng = Rng::new(300 + width as u64);
             let settings = inputs::width_setting(width);
             let tenths: Vec<Vec<u8>> = (0..10 * LARGE_PATHS).map(|_| inputs::path_tenth(&mut rng, width)).collect();
             let reads = both_sizes(&tenths, |value| inputs::read_path(value, settings));
-            self.sizes(&format!("{width} bytes"), Kind::Path, true, reads);
+            self.sizes(&format!("{width} bytes"), Kind::Path, true, reads)?;
         }
         let aggregators = inputs::captured(self.captures, 8);
         let lent: Vec<Request> = aggregators.iter().map(|read| Request { room_a: 2, ..read.clone() }).collect();
-        self.add("read AGGREGATOR: captures", Kind::Other, &lent);
+        self.add("read AGGREGATOR: captures", Kind::Other, &lent)
     }
 
     /// The crate's reader of a message reads its body too. A KEEPALIVE has none to read, whatever its length: so the
     /// frames of the captured messages, as KEEPALIVEs, are what the crate can be asked.
-    fn headers(&mut self) {
+    fn headers(&mut self) -> io::Result<()> {
         let messages: Vec<&[u8]> = self.captures.iter().map(|capture| capture.bytes.as_slice()).collect();
         let reads = |settings| messages.iter().map(|message| on_bytes(9, settings, (0, 0), message)).collect();
         let (crate_reading, strict): (Vec<Request>, Vec<Request>) = (reads(0), reads(STRICT));
         let mut keepalives = crate_reading.clone();
         keepalives.retain(|read| read.parts[0].len() <= 4_096);
         keepalives.iter_mut().for_each(|read| read.parts[0][18] = 4);
-        self.add("header: captures as KEEPALIVEs", Kind::Other, &keepalives);
-        self.add("header: captures", Kind::WithoutCrate, &crate_reading);
-        self.add("header: captures, strict", Kind::WithoutCrate, &strict);
+        self.add("header: captures as KEEPALIVEs", Kind::Other, &keepalives)?;
+        self.add("header: captures", Kind::WithoutCrate, &crate_reading)?;
+        self.add("header: captures, strict", Kind::WithoutCrate, &strict)
     }
 
-    fn other_writers(&mut self) {
+    fn other_writers(&mut self) -> io::Result<()> {
         let aggregators: Vec<Request> = inputs::captured(self.captures, 8).iter().map(write_aggregator).collect();
-        self.add("write AGGREGATOR: captures", Kind::Write, &aggregators);
+        self.add("write AGGREGATOR: captures", Kind::Write, &aggregators)?;
         let keepalive = request(16, 0, (19, 0), Default::default(), 4);
-        self.add("write message: KEEPALIVE", Kind::Write, &vec![keepalive; SMALL_LISTS]);
+        self.add("write message: KEEPALIVE", Kind::Write, &vec![keepalive; SMALL_LISTS])?;
         let notifications: Vec<Request> = self.captures.iter().map(notification).collect();
-        self.add("write message: NOTIFICATIONs as long as the captures", Kind::Write, &notifications);
+        self.add("write message: NOTIFICATIONs as long as the captures", Kind::Write, &notifications)
     }
 }
 

@@ -191,8 +191,8 @@ pub fn announcement(rng: &mut Rng, list: &[u8]) -> Vec<u8> {
 pub fn captured(captures: &[Capture], op: u8) -> Vec<Request> {
     let listed = matches!(op, 2 | 10);
     let crate_reads_so = |request: &Request| request.has(ADD_PATH) || request.has(GUESS);
-    let all = captures.iter().flat_map(Capture::requests);
-    all.filter(|request| request.op == op && (!listed || crate_reads_so(request))).collect()
+    let all = captures.iter().flat_map(|capture| &capture.requests);
+    all.filter(|request| request.op == op && (!listed || crate_reads_so(request))).cloned().collect()
 }
 
 /// The counting request of a reading one.

@@ -3,7 +3,8 @@
 use crate::cases::{Case, Cases, Growth, Kind};
 use crate::library::{Ours, Plain};
 use crate::measure::{alternate, Effort, Spread};
-use std::process::ExitCode;
+use compare::progress::Progress;
+use std::io::{self, Write};
 
 /// The most that any case may take of the hand-written C's time.
 const OF_PLAIN: f64 = 1.10;
@@ -15,26 +16,34 @@ const OURS: usize = 0;
 const PLAIN: usize = 1;
 const CRATE: usize = 2;
 
-/// Prints the tables; failure if a case is over its target.
-pub fn measure(made: Cases, effort: Effort) -> ExitCode {
+/// Prints the tables; whether every case is within its target.
+pub fn measure(made: Cases, effort: Effort, out: &mut impl Write) -> io::Result<bool> {
     let mut over = 0;
-    let count = made.cases.len() + made.growths.len();
+    let mut measured = 0;
+    let count = made.count();
+    let me = crate::me();
+    let mut progress = Progress::new(&me, "cases measured", count as u64);
+    let mut tell = |good: bool| {
+        over += usize::from(!good);
+        measured += 1;
+        progress.tell(measured, "");
+    };
     if !made.cases.is_empty() {
-        println!("| case | ours ns | crate ns | C ns | ours/crate | at most | ours/C | at most | |");
-        println!("|---|--:|--:|--:|--:|--:|--:|--:|---|");
+        writeln!(out, "| case | ours ns | crate ns | C ns | ours/crate | at most | ours/C | at most | |")?;
+        writeln!(out, "|---|--:|--:|--:|--:|--:|--:|--:|---|")?;
     }
     for case in made.cases {
-        over += usize::from(!case_line(case, effort));
+        tell(case_line(case, effort, out)?);
     }
     if !made.growths.is_empty() {
-        println!("\n| 64 KB in one call to 6.4 KB | ours | C | ours within | |");
-        println!("|---|--:|--:|--:|---|");
+        writeln!(out, "\n| 64 KB in one call to 6.4 KB | ours | C | ours within | |")?;
+        writeln!(out, "|---|--:|--:|--:|---|")?;
     }
     for growth in made.growths {
-        over += usize::from(!growth_line(growth, effort));
+        tell(growth_line(growth, effort, out)?);
     }
-    println!("\n{over} of {count} over");
-    ExitCode::from(u8::from(over > 0))
+    writeln!(out, "\n{over} of {count} over")?;
+    Ok(over == 0)
 }
 
 fn shown(spread: Spread) -> String {
@@ -50,7 +59,7 @@ fn verdict(good: bool) -> &'static str {
 }
 
 /// Measures a case and prints its line; whether it is within its targets.
-fn case_line(case: Case, effort: Effort) -> bool {
+fn case_line(case: Case, effort: Effort, out: &mut impl Write) -> io::Result<bool> {
     let mut sides = vec![case.calls.library::<Ours>(), case.calls.library::<Plain>()];
     let has_crate = !matches!(case.kind, Kind::WithoutCrate);
     if has_crate {
@@ -64,7 +73,8 @@ fn case_line(case: Case, effort: Effort) -> bool {
     let crate_good = of_crate.zip(most).is_none_or(|(ratio, most)| ratio.median <= most);
     let good = crate_good && of_plain.median <= OF_PLAIN;
     let dash = || "-".to_string();
-    println!(
+    writeln!(
+        out,
         "| {} | {} | {} | {} | {} | {} | {} | {OF_PLAIN:.2} | {} |",
         case.name,
         ns(OURS),
@@ -74,12 +84,12 @@ fn case_line(case: Case, effort: Effort) -> bool {
         most.map_or_else(dash, |most| format!("{most:.2}")),
         shown(of_plain),
         verdict(good)
-    );
-    good
+    )?;
+    Ok(good)
 }
 
 /// Measures how time grows from a tenth of a list to the whole, and prints its line; whether it is tenfold.
-fn growth_line(growth: Growth, effort: Effort) -> bool {
+fn growth_line(growth: Growth, effort: Effort, out: &mut impl Write) -> io::Result<bool> {
     let Growth { name, large, small } = growth;
     let mut sides =
         [large.library::<Ours>(), small.library::<Ours>(), large.library::<Plain>(), small.library::<Plain>()];
@@ -91,13 +101,14 @@ fn growth_line(growth: Growth, effort: Effort) -> bool {
     };
     let (ours, plain) = (grown(0, 1), grown(2, 3));
     let good = TENFOLD.contains(&ours.median);
-    println!(
+    writeln!(
+        out,
         "| {name} | {} | {} | {} to {} | {} |",
         shown(ours),
         shown(plain),
         TENFOLD.start(),
         TENFOLD.end(),
         verdict(good)
-    );
-    good
+    )?;
+    Ok(good)
 }

@@ -1,10 +1,19 @@
 //! Shows that each fact of docs/DIFFERENCES.md about the crate holds: a fact that does not ends the run.
 
-fn main() {
+use std::io::{self, Write};
+use std::process::ExitCode;
+
+fn all_hold() -> io::Result<bool> {
+    let mut out = io::stdout().lock();
     let facts = crate_oracle::oracle::facts::ALL;
     for (name, hold) in facts {
         hold();
-        println!("holds: {name}");
+        writeln!(out, "holds: {name}")?;
     }
-    println!("{} passed, 0 failed", facts.len());
+    writeln!(out, "{} passed, 0 failed", facts.len())?;
+    Ok(true)
+}
+
+fn main() -> ExitCode {
+    records::ending::end("crate-facts", all_hold())
 }

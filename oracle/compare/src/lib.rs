@@ -2,6 +2,7 @@
 
 pub mod inputs;
 pub mod programs;
+pub mod progress;
 pub mod report;
 pub mod rng;
 pub mod sample;

@@ -1,26 +1,48 @@
 //! Compares the crate, the model and the program `answers` on the same requests.
 //!
-//! compare run SEED COUNT [ANSWERS]     makes COUNT requests and compares every line
-//! compare sample SEED FOLDER           writes the fixed sample into FOLDER
+//! compare run SEED COUNT FOLDER [ANSWERS]   makes COUNT requests, in FOLDER, and compares every line
+//! compare sample SEED FOLDER                writes the fixed sample into FOLDER
 //!
-//! CAPTURES names the file of captured messages; without it there are none.
+//! CAPTURES names the file of captured messages; without it there are none. CALLED_AS is the script that it runs for.
 
 use compare::inputs::captures::{self, Capture};
 use compare::inputs::Inputs;
 use compare::programs::Program;
+use compare::progress::Progress;
 use compare::report::{Given, Report};
 use compare::{sample, stops};
+use records::ending::{self, about};
 use std::env;
-use std::io;
+use std::io::{self, Write};
 use std::path::{Path, PathBuf};
 use std::process::ExitCode;
+
+const USAGE: &str = "compare run SEED COUNT FOLDER [ANSWERS] | compare sample SEED FOLDER";
 
 /// Requests in a chunk; a chunk is all that is kept at a time.
 const CHUNK: u64 = 20_000;
 
-/// The folder of the programs built beside this one.
-fn beside() -> io::Result<PathBuf> {
-    Ok(env::current_exe()?.parent().expect("a folder").to_path_buf())
+/// The programs to compare: those built beside this one, and the one that is given.
+struct Programs {
+    by_crate: Program,
+    model: Program,
+    answers: Option<Program>,
+}
+
+impl Programs {
+    fn new(answers: Option<&String>) -> io::Result<Programs> {
+        let own = env::current_exe().map_err(|error| about("the folder of this program", error))?;
+        let beside = |name: &str| -> PathBuf { own.with_file_name(name) };
+        Ok(Programs {
+            by_crate: Program::new("crate", beside("crate-oracle")),
+            model: Program::new("model", beside("model")),
+            answers: answers.map(|path| Program::new("answers", path)),
+        })
+    }
+
+    fn all(&self) -> Vec<&Program> {
+        [&self.by_crate, &self.model].into_iter().chain(&self.answers).collect()
+    }
 }
 
 fn captured() -> io::Result<Vec<Capture>> {
@@ -30,36 +52,34 @@ fn captured() -> io::Result<Vec<Capture>> {
     }
 }
 
-/// Compares `count` requests on a chunk's folder; whether there was no difference.
-fn run(seed: u64, count: u64, answers: Option<&Program>, by_crate: &Program, model: &Program) -> io::Result<bool> {
-    let folder = beside()?.join(format!("chunks-{}", std::process::id()));
-    std::fs::create_dir_all(&folder)?;
-    let stopping: Vec<&Program> = [Some(by_crate), Some(model), answers].into_iter().flatten().collect();
-    let stops = stops::compare(&stopping, &folder)?;
+/// Compares `count` requests chunk by chunk; whether there was no difference. Where a program fails, the totals up to there are printed.
+fn run(me: &str, seed: u64, count: u64, folder: &Path, programs: &Programs, out: &mut impl Write) -> io::Result<bool> {
     let mut inputs = Inputs::new(seed, captured()?);
+    let stops = stops::compare(&programs.all(), folder, out)?;
     let mut report = Report::default();
+    let mut progress = Progress::new(me, "requests", count);
     let mut done = 0;
     while done < count {
         let size = CHUNK.min(count - done);
-        chunk(&mut inputs, size, done, &folder, answers, (by_crate, model), &mut report)?;
-        done += size;
-        if done % (50 * CHUNK) == 0 {
-            eprintln!("{done} requests");
+        if let Err(error) = chunk(&mut inputs, done, size, folder, programs, &mut report, out) {
+            report.finish(out)?;
+            return Err(error);
         }
+        done += size;
+        progress.tell(done, &format!(", {} differences", report.differences()));
     }
-    std::fs::remove_dir_all(&folder)?;
-    Ok(report.finish() && stops == 0)
+    Ok(report.finish(out)? && stops == 0)
 }
 
 /// Makes one chunk, runs each program on it and compares line by line.
 fn chunk(
     inputs: &mut Inputs,
-    size: u64,
     done: u64,
+    size: u64,
     folder: &Path,
-    answers: Option<&Program>,
-    (by_crate, model): (&Program, &Program),
+    programs: &Programs,
     report: &mut Report,
+    out: &mut impl Write,
 ) -> io::Result<()> {
     let requests: Vec<_> = (0..size).map(|_| inputs.next()).collect();
     let mut bytes = vec![];
@@ -67,51 +87,45 @@ fn chunk(
         request.write_to(&mut bytes);
     }
     let file = folder.join("chunk.bin");
-    std::fs::write(&file, &bytes)?;
-    let mut crate_lines = by_crate.run(&file)?;
-    let mut model_lines = model.run(&file)?;
-    let mut answer_lines = answers.map(|program| program.run(&file)).transpose()?;
-    let mut lines = [String::new(), String::new(), String::new()];
-    for (at, request) in requests.iter().enumerate() {
-        crate_lines.next(&mut lines[0])?;
-        model_lines.next(&mut lines[1])?;
-        if let Some(answers) = &mut answer_lines {
-            answers.next(&mut lines[2])?;
+    std::fs::write(&file, &bytes).map_err(|error| about(file.display(), error))?;
+    let mut runs = programs.all().into_iter().map(|program| program.run(&file)).collect::<io::Result<Vec<_>>>()?;
+    let mut lines = vec![String::new(); runs.len()];
+    for (number, request) in (done + 1..).zip(&requests) {
+        for (run, line) in runs.iter_mut().zip(&mut lines) {
+            run.next(line)?;
         }
-        let given = Given {
-            by_crate: &lines[0],
-            model: &lines[1],
-            answers: answer_lines.is_some().then_some(lines[2].as_str()),
-        };
-        report.add(done + at as u64 + 1, request, &given);
+        let given = Given { by_crate: &lines[0], model: &lines[1], answers: lines.get(2).map(String::as_str) };
+        report.add(number, request, &given, out)?;
+    }
+    for (run, program) in runs.into_iter().zip(programs.all()) {
+        if !run.end()? {
+            report.add_more(program.name, done + size, out)?;
+        }
     }
     Ok(())
 }
 
-fn command(arguments: &[String]) -> io::Result<bool> {
-    let by_crate = Program::new("crate", beside()?.join("crate-oracle"));
-    let model = Program::new("model", beside()?.join("model"));
-    let number = |text: &String| text.parse::<u64>().map_err(io::Error::other);
+fn number(text: &str) -> io::Result<u64> {
+    text.parse().map_err(|_| io::Error::other(format!("'{text}' is no number below 2^64; usage: {USAGE}")))
+}
+
+fn command(me: &str, arguments: &[String]) -> io::Result<bool> {
+    let mut out = io::stdout().lock();
     match arguments {
-        [verb, seed, count, rest @ ..] if verb == "run" && rest.len() <= 1 => {
-            let answers = rest.first().map(|path| Program::new("answers", path));
-            run(number(seed)?, number(count)?, answers.as_ref(), &by_crate, &model)
+        [verb, seed, count, folder, rest @ ..] if verb == "run" && rest.len() <= 1 => {
+            run(me, number(seed)?, number(count)?, Path::new(folder), &Programs::new(rest.first())?, &mut out)
         }
         [verb, seed, folder] if verb == "sample" => {
-            sample::write(number(seed)?, &captured()?, Path::new(folder), &by_crate, &model)
+            let programs = Programs::new(None)?;
+            let both = (&programs.by_crate, &programs.model);
+            sample::write(number(seed)?, &captured()?, Path::new(folder), both, &mut out)
         }
-        _ => Err(io::Error::other("compare run SEED COUNT [ANSWERS] | compare sample SEED FOLDER")),
+        _ => Err(io::Error::other(format!("usage: {USAGE}"))),
     }
 }
 
 fn main() -> ExitCode {
-    let arguments: Vec<String> = env::args().skip(1).collect();
-    match command(&arguments) {
-        Ok(true) => ExitCode::SUCCESS,
-        Ok(false) => ExitCode::FAILURE,
-        Err(error) => {
-            eprintln!("{error}");
-            ExitCode::FAILURE
-        }
-    }
+    let me = env::var("CALLED_AS").unwrap_or_else(|_| "compare".to_string());
+    let arguments: Vec<String> = env::args_os().skip(1).map(|word| word.to_string_lossy().into_owned()).collect();
+    ending::end(&me, command(&me, &arguments))
 }

@@ -1,9 +1,13 @@
-//! The programs that answer: each reads a chunk's records from a file and writes its lines to another.
+//! The programs that answer: each reads a chunk's records from a file, and its lines come through a pipe.
 
+use records::ending::about;
 use std::fs::File;
-use std::io::{self, BufRead, BufReader};
+use std::io::{self, BufRead, BufReader, Read};
 use std::path::{Path, PathBuf};
-use std::process::{Command, Stdio};
+use std::process::{Child, ChildStdout, Command, Stdio};
+
+/// The most bytes taken for one line; no answer's line has as many.
+const LONGEST: u64 = 1 << 16;
 
 pub struct Program {
     pub name: &'static str,
@@ -15,36 +19,49 @@ impl Program {
         Program { name, path: path.into() }
     }
 
-    /// Runs on the records of a file; the lines come from another file in the same folder.
+    /// Runs on the records of a file.
     pub fn run(&self, requests: &Path) -> io::Result<Lines> {
-        let answers = requests.with_extension(self.name);
-        let status = Command::new(&self.path)
-            .stdin(Stdio::from(File::open(requests)?))
-            .stdout(Stdio::from(File::create(&answers)?))
-            .status()?;
-        if !status.success() {
-            eprintln!("{} ended with {status}", self.name);
-        }
-        Ok(Lines(BufReader::with_capacity(1 << 16, File::open(answers)?)))
+        let records = File::open(requests).map_err(|error| about(requests.display(), error))?;
+        let name = format!("the program {}", self.path.display());
+        let start = Command::new(&self.path).stdin(records).stdout(Stdio::piped()).spawn();
+        let mut child = start.map_err(|error| about(format!("{name} cannot be run"), error))?;
+        let lines = child.stdout.take().expect("the pipe that was asked for");
+        Ok(Lines { name, child, lines: BufReader::with_capacity(1 << 16, lines), bytes: vec![] })
     }
 }
 
 /// The lines of a run, one at a time.
-pub struct Lines(BufReader<File>);
+pub struct Lines {
+    name: String,
+    child: Child,
+    lines: BufReader<ChildStdout>,
+    bytes: Vec<u8>,
+}
 
 impl Lines {
     /// The next line, or a note that there is none.
     pub fn next(&mut self, line: &mut String) -> io::Result<()> {
         line.clear();
-        if self.0.read_line(line)? == 0 {
-            line.push_str("(no line)");
+        self.bytes.clear();
+        let mut source = self.lines.by_ref().take(LONGEST);
+        match source.read_until(b'\n', &mut self.bytes).map_err(|error| about(&self.name, error))? {
+            0 => line.push_str("(no line)"),
+            _ => line.push_str(&String::from_utf8_lossy(self.bytes.strip_suffix(b"\n").unwrap_or(&self.bytes))),
         }
-        line.truncate(line.trim_end_matches('\n').len());
         Ok(())
     }
 
-    /// Whether every line was taken.
-    pub fn at_end(&mut self) -> io::Result<bool> {
-        Ok(self.0.fill_buf()?.is_empty())
+    /// Ends the run. Whether every line was taken; it is trouble where the program says that it failed.
+    pub fn end(mut self) -> io::Result<bool> {
+        let taken = self.lines.fill_buf().map_err(|error| about(&self.name, error))?.is_empty();
+        if !taken {
+            // it has no lines to give any more, and may never end by itself
+            let _ = self.child.kill();
+        }
+        let status = self.child.wait().map_err(|error| about(&self.name, error))?;
+        if taken && !status.success() {
+            return Err(io::Error::other(format!("{} ended with {status}", self.name)));
+        }
+        Ok(taken)
     }
 }

@@ -1,6 +1,7 @@
 //! Totals per op and per refusal number, and the first differences.
 
 use records::Request;
+use std::io::{self, Write};
 
 /// Differences shown in full; the others are counted.
 const SHOWN: usize = 20;
@@ -21,7 +22,7 @@ struct OpTotals {
 #[derive(Default)]
 pub struct Report {
     ops: [OpTotals; 18],
-    shown: usize,
+    differences: usize,
 }
 
 /// The lines that the three programs gave for one request.
@@ -32,7 +33,8 @@ pub struct Given<'a> {
 }
 
 impl Report {
-    pub fn add(&mut self, record: u64, request: &Request, given: &Given) {
+    /// Counts the lines of one request, and shows them where they differ.
+    pub fn add(&mut self, record: u64, request: &Request, given: &Given, out: &mut impl Write) -> io::Result<()> {
         let totals = &mut self.ops[usize::from(request.op)];
         totals.requests += 1;
         let refusal = given.model.split(' ').nth(2).and_then(|field| field.parse::<usize>().ok());
@@ -54,34 +56,36 @@ impl Report {
                 differs = true;
             }
         }
-        if differs {
-            self.show(record, request, given);
+        self.differences += usize::from(differs);
+        if differs && self.differences <= SHOWN {
+            show(record, request, given, out)?;
         }
+        Ok(())
     }
 
-    fn show(&mut self, record: u64, request: &Request, given: &Given) {
-        self.shown += 1;
-        if self.shown > SHOWN {
-            return;
+    /// A program went on after the line of the last request.
+    pub fn add_more(&mut self, name: &str, last: u64, out: &mut impl Write) -> io::Result<()> {
+        self.differences += 1;
+        if self.differences <= SHOWN {
+            writeln!(out, "difference after request {last}: {name} prints more than is asked for")?;
         }
-        let mut bytes = vec![];
-        request.write_to(&mut bytes);
-        let hex: String = bytes.iter().take(SHOWN_BYTES).map(|byte| format!("{byte:02x}")).collect();
-        println!("difference in request {record}: op {} settings {}", request.op, request.settings);
-        println!("  request {hex}{}", if bytes.len() > SHOWN_BYTES { ".." } else { "" });
-        println!("  model   {}", given.model);
-        println!("  crate   {}", given.by_crate);
-        if let Some(answers) = given.answers {
-            println!("  answers {answers}");
-        }
+        Ok(())
+    }
+
+    /// How many requests differ so far.
+    pub fn differences(&self) -> usize {
+        self.differences
     }
 
     /// Prints the totals; whether there was no difference.
-    pub fn finish(&self) -> bool {
-        println!("op  requests  by crate  crate differs  by answers  answers differs | requests per refusal number");
+    pub fn finish(&self, out: &mut impl Write) -> io::Result<bool> {
+        writeln!(
+            out,
+            "op  requests  by crate  crate differs  by answers  answers differs | requests per refusal number"
+        )?;
         let mut all = OpTotals::default();
         for (op, totals) in self.ops.iter().enumerate().filter(|(_, totals)| totals.requests > 0) {
-            print_totals(&op.to_string(), totals);
+            print_totals(&op.to_string(), totals, out)?;
             all.requests += totals.requests;
             all.by_crate += totals.by_crate;
             all.crate_differs += totals.crate_differs;
@@ -91,12 +95,26 @@ impl Report {
                 *sum += count;
             }
         }
-        print_totals("all", &all);
-        all.crate_differs + all.answers_differs == 0
+        print_totals("all", &all, out)?;
+        Ok(self.differences == 0)
     }
 }
 
-fn print_totals(name: &str, totals: &OpTotals) {
+fn show(record: u64, request: &Request, given: &Given, out: &mut impl Write) -> io::Result<()> {
+    let mut bytes = vec![];
+    request.write_to(&mut bytes);
+    let hex: String = bytes.iter().take(SHOWN_BYTES).map(|byte| format!("{byte:02x}")).collect();
+    writeln!(out, "difference in request {record}: op {} settings {}", request.op, request.settings)?;
+    writeln!(out, "  request {hex}{}", if bytes.len() > SHOWN_BYTES { ".." } else { "" })?;
+    writeln!(out, "  model   {}", given.model)?;
+    writeln!(out, "  crate   {}", given.by_crate)?;
+    match given.answers {
+        Some(answers) => writeln!(out, "  answers {answers:.SHOWN_BYTES$}"),
+        None => Ok(()),
+    }
+}
+
+fn print_totals(name: &str, totals: &OpTotals, out: &mut impl Write) -> io::Result<()> {
     let refusals: Vec<String> = totals
         .refusals
         .iter()
@@ -104,7 +122,8 @@ fn print_totals(name: &str, totals: &OpTotals) {
         .filter(|(_, count)| **count > 0)
         .map(|(number, count)| format!("{number}:{count}"))
         .collect();
-    println!(
+    writeln!(
+        out,
         "{name:>3} {:>9} {:>9} {:>14} {:>11} {:>16} | {}",
         totals.requests,
         totals.by_crate,
@@ -112,5 +131,5 @@ fn print_totals(name: &str, totals: &OpTotals) {
         totals.by_answers,
         totals.answers_differs,
         refusals.join(" ")
-    );
+    )
 }

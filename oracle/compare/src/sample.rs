@@ -6,8 +6,9 @@ use crate::inputs::{numbers, random};
 use crate::programs::Program;
 use crate::rng::Rng;
 use crate::stops;
+use records::ending::about;
 use records::Request;
-use std::io::{self, Write as _};
+use std::io::{self, Write};
 use std::path::Path;
 
 /// Random requests of each op and settings byte.
@@ -23,12 +24,18 @@ fn requests(seed: u64, captures: &[Capture]) -> Vec<Request> {
             }
         }
     }
-    requests.extend(captures.iter().flat_map(Capture::requests));
+    requests.extend(captures.iter().flat_map(|capture| capture.requests.clone()));
     requests
 }
 
 /// Writes `requests.bin` and `lines.txt`: the crate's line where it has one, else the model's; the last line is the stop's.
-pub fn write(seed: u64, captures: &[Capture], folder: &Path, by_crate: &Program, model: &Program) -> io::Result<bool> {
+pub fn write(
+    seed: u64,
+    captures: &[Capture],
+    folder: &Path,
+    (by_crate, model): (&Program, &Program),
+    out: &mut impl Write,
+) -> io::Result<bool> {
     let requests = requests(seed, captures);
     let mut bytes = vec![];
     for request in &requests {
@@ -36,30 +43,30 @@ pub fn write(seed: u64, captures: &[Capture], folder: &Path, by_crate: &Program,
     }
     bytes.extend(stops::short_record());
     let file = folder.join("requests.bin");
-    std::fs::write(&file, &bytes)?;
+    std::fs::write(&file, &bytes).map_err(|error| about(file.display(), error))?;
     let (mut crate_lines, mut model_lines) = (by_crate.run(&file)?, model.run(&file)?);
-    let mut out = io::BufWriter::new(std::fs::File::create(folder.join("lines.txt"))?);
+    let mut text = String::new();
     let (mut first, mut second) = (String::new(), String::new());
     let (mut from_crate, mut differences) = (0, 0);
     for _ in 0..=requests.len() {
         crate_lines.next(&mut first)?;
         model_lines.next(&mut second)?;
-        if first == "-" {
-            writeln!(out, "{second}")?;
-        } else {
-            from_crate += 1;
-            differences += u64::from(first != second);
-            writeln!(out, "{first}")?;
-        }
+        let by_crate = first != "-";
+        from_crate += u64::from(by_crate);
+        differences += u64::from(by_crate && first != second);
+        text.push_str(if by_crate { &first } else { &second });
+        text.push('\n');
     }
-    out.flush()?;
-    for program in [by_crate, model] {
-        std::fs::remove_file(file.with_extension(program.name))?;
+    for lines in [crate_lines, model_lines] {
+        differences += u64::from(!lines.end()?);
     }
-    println!(
+    let file = folder.join("lines.txt");
+    std::fs::write(&file, text).map_err(|error| about(file.display(), error))?;
+    writeln!(
+        out,
         "sample: {} requests and a stop in {} bytes, {from_crate} lines by the crate, {differences} where the model differs",
         requests.len(),
         bytes.len()
-    );
+    )?;
     Ok(differences == 0)
 }

@@ -2,8 +2,9 @@
 
 use crate::inputs::examples::{hex, on_bytes, request, words};
 use crate::programs::Program;
+use records::ending::about;
 use records::Request;
-use std::io;
+use std::io::{self, Write};
 use std::path::Path;
 
 fn record(request: Request) -> Vec<u8> {
@@ -52,26 +53,32 @@ fn bad_records() -> Vec<Vec<u8>> {
     bad
 }
 
+/// Differences shown; the others are counted.
+const SHOWN: u64 = 5;
+
 /// Tries every stop on every program; how many differ from `stop 2` after one line.
-pub fn compare(programs: &[&Program], folder: &Path) -> io::Result<u64> {
+pub fn compare(programs: &[&Program], folder: &Path, out: &mut impl Write) -> io::Result<u64> {
     let mut good = vec![];
     on_bytes(3, 0, (0, 0), &hex("200A000001")).write_to(&mut good);
     let file = folder.join("stop.bin");
     let mut differences = 0;
     let bad = bad_records();
     for bytes in &bad {
-        std::fs::write(&file, [good.as_slice(), bytes].concat())?;
+        std::fs::write(&file, [good.as_slice(), bytes].concat()).map_err(|error| about(file.display(), error))?;
         for program in programs {
             let mut lines = program.run(&file)?;
             let mut line = String::new();
             lines.next(&mut line)?;
             lines.next(&mut line)?;
-            if line != "stop 2" || !lines.at_end()? {
+            if !lines.end()? || line != "stop 2" {
                 differences += 1;
-                println!("{} does not stop at {:02x?}: {line}", program.name, &bytes[..bytes.len().min(40)]);
+                if differences > SHOWN {
+                    continue;
+                }
+                writeln!(out, "{} does not stop at {:02x?}: {line}", program.name, &bytes[..bytes.len().min(40)])?;
             }
         }
     }
-    println!("stops: {} tried on {} programs, {differences} differ", bad.len(), programs.len());
+    writeln!(out, "stops: {} tried on {} programs, {differences} differ", bad.len(), programs.len())?;
     Ok(differences)
 }

@@ -1,5 +1,5 @@
 //! Answers request records by the model.
 
-fn main() -> std::io::Result<()> {
-    records::serve(|request| Some(model::answer(request)))
+fn main() -> std::process::ExitCode {
+    records::serve("model", |request| Some(model::answer(request)))
 }

@@ -1,7 +1,11 @@
 //! Request records and answer lines: the format of the program `answers`, and nothing of what an answer is.
 
+pub mod ending;
+
+use ending::about;
 use std::fmt::Write as _;
 use std::io::{self, BufRead, BufReader, BufWriter, Read, Write};
+use std::process::ExitCode;
 
 pub const ADD_PATH: u8 = 1;
 pub const GUESS: u8 = 2;
@@ -221,15 +225,20 @@ impl Answer {
     }
 }
 
-/// Answers records from standard input, a line each on standard output; `-` where there is no answer.
-pub fn serve(mut answer: impl FnMut(&Request) -> Option<Answer>) -> io::Result<()> {
+/// A program that answers records from standard input, a line each on standard output; `-` where there is no answer.
+pub fn serve(me: &str, answer: impl FnMut(&Request) -> Option<Answer>) -> ExitCode {
+    ending::end(me, answer_all(answer).map(|()| true))
+}
+
+fn answer_all(mut answer: impl FnMut(&Request) -> Option<Answer>) -> io::Result<()> {
+    let unread = |error| about("standard input", error);
     let mut source = BufReader::with_capacity(1 << 16, io::stdin().lock());
     let mut out = BufWriter::with_capacity(1 << 16, io::stdout().lock());
     for record in 1.. {
-        if source.fill_buf()?.is_empty() {
+        if source.fill_buf().map_err(unread)?.is_empty() {
             break;
         }
-        match read_request(&mut source)? {
+        match read_request(&mut source).map_err(unread)? {
             Next::End => break,
             Next::Stop => {
                 writeln!(out, "stop {record}")?;

@@ -1,8 +1,15 @@
 //! Captured messages and the requests on them, each with its session's settings.
 
 use super::examples::on_bytes;
+use records::ending::about;
 use records::{Request, ADD_PATH, FOUR_BYTE_AS, GUESS, IPV6, STRICT};
+use std::io;
 use std::path::Path;
+
+/// The bytes of a message's header, the last of which is its type.
+const HEADER: usize = 19;
+
+const UPDATE: u8 = 2;
 
 const ATTRIBUTE_AS_PATH: u8 = 2;
 const ATTRIBUTE_AGGREGATOR: u8 = 7;
@@ -14,26 +21,51 @@ const ATTRIBUTE_AS4_AGGREGATOR: u8 = 18;
 /// Room for every row of a captured message.
 const ROWS: usize = 6 * 400;
 
+/// A captured message, its session's settings, and every request on it.
 pub struct Capture {
     pub bytes: Vec<u8>,
-    pub add_path_ipv4: bool,
-    pub add_path_ipv6: bool,
-    pub as_width: u8,
-}
-
-/// The value of a key in a line of JSON whose values hold no commas or braces, as messages.jsonl's.
-fn value<'a>(line: &'a str, key: &str) -> &'a str {
-    let name = format!("\"{key}\":");
-    let start = line.find(&name).unwrap_or_else(|| panic!("no {key} in a captured message")) + name.len();
-    let rest = &line[start..];
-    let end = rest.find([',', '}']).expect("an end of the value");
-    rest[..end].trim().trim_matches('"')
+    pub requests: Vec<Request>,
+    add_path_ipv4: bool,
+    add_path_ipv6: bool,
+    as_width: u8,
 }
 
 /// The captures of a file of messages, a line each.
-pub fn load(path: &Path) -> std::io::Result<Vec<Capture>> {
-    let text = std::fs::read_to_string(path)?;
-    Ok(text.lines().map(Capture::from_line).collect())
+pub fn load(path: &Path) -> io::Result<Vec<Capture>> {
+    let text = std::fs::read_to_string(path).map_err(|error| about(path.display(), error))?;
+    let wrong = |number, why| io::Error::other(format!("{}, line {number}: {why}", path.display()));
+    let captures =
+        (1..).zip(text.lines()).map(|(number, line)| Capture::from_line(line).map_err(|why| wrong(number, why)));
+    let captures = captures.collect::<io::Result<Vec<_>>>()?;
+    if captures.is_empty() {
+        return Err(io::Error::other(format!("{} has no captured messages", path.display())));
+    }
+    Ok(captures)
+}
+
+/// The value of a key in a line of JSON whose values hold no commas or braces, as messages.jsonl's.
+fn value<'a>(line: &'a str, key: &str) -> Result<&'a str, String> {
+    let rest = line.split_once(&format!("\"{key}\":")).map(|(_, rest)| rest);
+    let value = rest.and_then(|rest| rest.split_once([',', '}'])).map(|(value, _)| value.trim().trim_matches('"'));
+    value.ok_or_else(|| format!("this is no captured message, a line of JSON that has \"{key}\""))
+}
+
+fn yes_or_no(line: &str, key: &str) -> Result<bool, String> {
+    match value(line, key)? {
+        "true" => Ok(true),
+        "false" => Ok(false),
+        other => Err(format!("\"{key}\" is true or false, and not {other:.40}")),
+    }
+}
+
+/// The bytes of a message in hexadecimal digits.
+fn message(digits: &str) -> Option<Vec<u8>> {
+    let digit = |byte: u8| char::from(byte).to_digit(16).map(|value| value as u8);
+    let bytes = digits.as_bytes().chunks(2).map(|pair| match pair {
+        [high, low] => Some(digit(*high)? << 4 | digit(*low)?),
+        _ => None,
+    });
+    bytes.collect()
 }
 
 /// An attribute of a section.
@@ -42,32 +74,41 @@ struct Attribute<'a> {
     value: &'a [u8],
 }
 
-/// The attributes of a captured section, which is well-formed.
-fn attributes(mut section: &[u8]) -> Vec<Attribute<'_>> {
-    let mut found = vec![];
-    while section.len() >= 3 {
-        let (flags, kind) = (section[0], section[1]);
-        let extended = flags & 0x10 != 0;
-        let head = if extended { 4 } else { 3 };
-        let length = section[2..head].iter().fold(0, |length, byte| length << 8 | usize::from(*byte));
-        found.push(Attribute { kind, value: &section[head..head + length] });
-        section = &section[head + length..];
-    }
-    found
+/// The part that a length of two bytes goes before, and what comes after it.
+fn counted(bytes: &[u8]) -> Option<(&[u8], &[u8])> {
+    let (length, rest) = bytes.split_at_checked(2)?;
+    rest.split_at_checked(usize::from(length[0]) << 8 | usize::from(length[1]))
 }
 
-fn two(bytes: &[u8]) -> usize {
-    usize::from(bytes[0]) << 8 | usize::from(bytes[1])
+/// The attributes of a section, if it is whole.
+fn attributes(mut section: &[u8]) -> Option<Vec<Attribute<'_>>> {
+    let mut found = vec![];
+    while let [flags, kind, rest @ ..] = section {
+        let extended = flags & 0x10 != 0;
+        let (length, rest) = rest.split_at_checked(if extended { 2 } else { 1 })?;
+        let length = length.iter().fold(0, |length, byte| length << 8 | usize::from(*byte));
+        let (value, rest) = rest.split_at_checked(length)?;
+        found.push(Attribute { kind: *kind, value });
+        section = rest;
+    }
+    section.is_empty().then_some(found)
 }
 
 impl Capture {
-    fn from_line(line: &str) -> Capture {
-        Capture {
-            bytes: super::examples::hex(value(line, "hex")),
-            add_path_ipv4: value(line, "addpath4") == "true",
-            add_path_ipv6: value(line, "addpath6") == "true",
-            as_width: value(line, "aswidth").parse().expect("a width"),
-        }
+    fn from_line(line: &str) -> Result<Capture, String> {
+        let mut capture = Capture {
+            bytes: message(value(line, "hex")?).ok_or("\"hex\" has no hexadecimal digits in pairs")?,
+            requests: vec![],
+            add_path_ipv4: yes_or_no(line, "addpath4")?,
+            add_path_ipv6: yes_or_no(line, "addpath6")?,
+            as_width: match value(line, "aswidth")? {
+                "2" => 2,
+                "4" => 4,
+                other => return Err(format!("\"aswidth\" is 2 or 4, and not {other:.40}")),
+            },
+        };
+        capture.requests = capture.all_requests().ok_or("\"hex\" is no whole BGP message")?;
+        Ok(capture)
     }
 
     fn width_setting(&self) -> u8 {
@@ -83,19 +124,20 @@ impl Capture {
         self.width_setting() | if self.add_path_ipv4 { ADD_PATH } else { 0 }
     }
 
-    /// Every request on this message.
-    pub fn requests(&self) -> Vec<Request> {
+    /// Every request on this message, if it is whole.
+    fn all_requests(&self) -> Option<Vec<Request>> {
+        let (header, body) = self.bytes.split_at_checked(HEADER)?;
         let mut requests = vec![
             on_bytes(9, self.settings(), (0, 0), &self.bytes),
             on_bytes(9, self.settings() | STRICT, (0, 0), &self.bytes),
         ];
-        if self.bytes[18] == 2 {
-            requests.extend(self.update_requests(&self.bytes[19..]));
+        if header[HEADER - 1] == UPDATE {
+            requests.extend(self.update_requests(body)?);
         }
-        requests
+        Some(requests)
     }
 
-    fn update_requests(&self, body: &[u8]) -> Vec<Request> {
+    fn update_requests(&self, body: &[u8]) -> Option<Vec<Request>> {
         let mut requests = vec![];
         requests.push(on_bytes(10, self.settings(), (ROWS, ROWS), body));
         if !self.add_path_ipv4 {
@@ -103,37 +145,37 @@ impl Capture {
         }
         requests.push(on_bytes(11, self.settings() | GUESS, (0, 0), body));
         requests.push(on_bytes(12, self.settings(), (0, 0), body));
-        let withdrawn = two(body);
-        let rest = &body[2 + withdrawn..];
-        for attribute in attributes(&rest[2..2 + two(rest)]) {
-            requests.extend(self.attribute_requests(&attribute));
+        let (_withdrawn, rest) = counted(body)?;
+        let (section, _announced) = counted(rest)?;
+        for attribute in attributes(section)? {
+            requests.extend(self.attribute_requests(&attribute)?);
         }
-        requests
+        Some(requests)
     }
 
-    fn attribute_requests(&self, attribute: &Attribute) -> Vec<Request> {
+    fn attribute_requests(&self, attribute: &Attribute) -> Option<Vec<Request>> {
         let path = |settings| [6, 7].map(|op| on_bytes(op, settings, (64, 1_024), attribute.value)).to_vec();
-        match attribute.kind {
+        Some(match attribute.kind {
             ATTRIBUTE_AS_PATH => path(self.width_setting()),
             ATTRIBUTE_AS4_PATH => path(FOUR_BYTE_AS),
             ATTRIBUTE_AGGREGATOR => vec![on_bytes(8, self.width_setting(), (0, 0), attribute.value)],
             ATTRIBUTE_AS4_AGGREGATOR => vec![on_bytes(8, FOUR_BYTE_AS, (0, 0), attribute.value)],
             ATTRIBUTE_MP_REACH => {
-                let next_hop = usize::from(attribute.value[3]);
-                self.ipv6_requests(attribute.value, 4 + next_hop + 1)
+                let next_hop = usize::from(*attribute.value.get(3)?);
+                self.ipv6_requests(attribute.value, 4 + next_hop + 1)?
             }
-            ATTRIBUTE_MP_UNREACH => self.ipv6_requests(attribute.value, 3),
+            ATTRIBUTE_MP_UNREACH => self.ipv6_requests(attribute.value, 3)?,
             _ => vec![],
-        }
+        })
     }
 
     /// The route list of an MP attribute of IPv6 unicast; it begins at `start`.
-    fn ipv6_requests(&self, value: &[u8], start: usize) -> Vec<Request> {
-        if value[..3] != [0, 2, 1] {
-            return vec![];
+    fn ipv6_requests(&self, value: &[u8], start: usize) -> Option<Vec<Request>> {
+        if value.get(..3)? != [0, 2, 1] {
+            return Some(vec![]);
         }
         let settings: &[u8] = if self.add_path_ipv6 { &[ADD_PATH] } else { &[0, GUESS] };
-        let list = &value[start..];
-        settings.iter().map(|setting| on_bytes(2, IPV6 | setting, (ROWS, 0), list)).collect()
+        let list = value.get(start..)?;
+        Some(settings.iter().map(|setting| on_bytes(2, IPV6 | setting, (ROWS, 0), list)).collect())
     }
 }

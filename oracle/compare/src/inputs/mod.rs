@@ -29,7 +29,7 @@ pub struct Inputs {
 impl Inputs {
     pub fn new(seed: u64, captures: Vec<Capture>) -> Inputs {
         let mut first = numbers();
-        first.extend(captures.iter().flat_map(Capture::requests));
+        first.extend(captures.iter().flat_map(|capture| capture.requests.clone()));
         Inputs { rng: Rng::new(seed), first: first.into_iter(), short: exhaustive::Short::new(), captures }
     }
 
@@ -47,7 +47,7 @@ impl Inputs {
     /// A request on a captured message, its bytes damaged.
     fn damaged_capture(&mut self) -> Request {
         let at = self.rng.under(self.captures.len());
-        let requests = self.captures[at].requests();
+        let requests = &self.captures[at].requests;
         let mut request = requests[self.rng.under(requests.len())].clone();
         pieces::damage(&mut self.rng, &mut request.parts[0]);
         request

@@ -6,6 +6,8 @@
 //! over the bytes where something changes.
 
 use records::{Answer, Request, GUESS};
+use std::io::{self, Write};
+use std::process::ExitCode;
 
 const ALPHABET: [u8; 12] = [0, 1, 8, 9, 10, 16, 24, 25, 32, 33, 192, 255];
 
@@ -66,8 +68,8 @@ impl Found {
         }
     }
 
-    fn print(&self, what: &str) {
-        println!("{what}: {} legal lists, {} misread, {} refused", self.legal, self.misread, self.refused);
+    fn print(&self, what: &str, out: &mut impl Write) -> io::Result<()> {
+        writeln!(out, "{what}: {} legal lists, {} misread, {} refused", self.legal, self.misread, self.refused)?;
         for (name, list) in [
             ("misread", &self.first_misread),
             ("misread, no route twice and no host bits", &self.first_misread_no_twice),
@@ -75,13 +77,14 @@ impl Found {
             ("refused, no route twice and no host bits", &self.first_refused_no_twice),
         ] {
             if let Some(bytes) = list {
-                println!("  first {name}: {bytes:02X?}, guess: {}", read(bytes, GUESS).line(0, 2));
+                writeln!(out, "  first {name}: {bytes:02X?}, guess: {}", read(bytes, GUESS).line(0, 2))?;
             }
         }
+        Ok(())
     }
 }
 
-fn over_alphabet(length: u32) {
+fn over_alphabet(length: u32, out: &mut impl Write) -> io::Result<()> {
     let mut found = Found::default();
     for mut number in 0..ALPHABET.len().pow(length) {
         let mut bytes = vec![0; length as usize];
@@ -91,15 +94,23 @@ fn over_alphabet(length: u32) {
         }
         found.try_list(&bytes);
     }
-    found.print(&format!("{length} bytes over {} values", ALPHABET.len()));
+    found.print(&format!("{length} bytes over {} values", ALPHABET.len()), out)
 }
 
-fn main() {
+fn search() -> io::Result<bool> {
+    let mut out = io::stdout().lock();
     let mut found = Found::default();
     for number in 0..1u32 << 24 {
         let [_, a, b, c] = number.to_be_bytes();
         found.try_list(&[0, a, b, c, 0]);
     }
-    found.print("all of 00 .. .. .. 00");
-    (1..=LONGEST).for_each(over_alphabet);
+    found.print("all of 00 .. .. .. 00", &mut out)?;
+    for length in 1..=LONGEST {
+        over_alphabet(length, &mut out)?;
+    }
+    Ok(true)
+}
+
+fn main() -> ExitCode {
+    records::ending::end("guess-search", search())
 }
