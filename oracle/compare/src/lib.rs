@@ -7,3 +7,4 @@ pub mod report;
 pub mod rng;
 pub mod sample;
 pub mod stops;
+pub mod table;

@@ -2,6 +2,7 @@
 //!
 //! compare run SEED COUNT FOLDER [ANSWERS]   makes COUNT requests, in FOLDER, and compares every line
 //! compare sample SEED FOLDER                writes the fixed sample into FOLDER
+//! compare table SEED FOLDER                 writes the lister's input and its table into FOLDER
 //!
 //! CAPTURES names the file of captured messages; without it there are none. CALLED_AS is the script that it runs for.
 
@@ -10,14 +11,14 @@ use compare::inputs::Inputs;
 use compare::programs::Program;
 use compare::progress::Progress;
 use compare::report::{Given, Report};
-use compare::{sample, stops};
+use compare::{sample, stops, table};
 use records::ending::{self, about};
 use std::env;
 use std::io::{self, Write};
 use std::path::{Path, PathBuf};
 use std::process::ExitCode;
 
-const USAGE: &str = "compare run SEED COUNT FOLDER [ANSWERS] | compare sample SEED FOLDER";
+const USAGE: &str = "compare run SEED COUNT FOLDER [ANSWERS] | compare sample SEED FOLDER | compare table SEED FOLDER";
 
 /// Requests in a chunk; a chunk is all that is kept at a time.
 const CHUNK: u64 = 20_000;
@@ -115,10 +116,11 @@ fn command(me: &str, arguments: &[String]) -> io::Result<bool> {
         [verb, seed, count, folder, rest @ ..] if verb == "run" && rest.len() <= 1 => {
             run(me, number(seed)?, number(count)?, Path::new(folder), &Programs::new(rest.first())?, &mut out)
         }
-        [verb, seed, folder] if verb == "sample" => {
+        [verb, seed, folder] if verb == "sample" || verb == "table" => {
             let programs = Programs::new(None)?;
             let both = (&programs.by_crate, &programs.model);
-            sample::write(number(seed)?, &captured()?, Path::new(folder), both, &mut out)
+            let write = if verb == "sample" { sample::write } else { table::write };
+            write(number(seed)?, &captured()?, Path::new(folder), both, &mut out)
         }
         _ => Err(io::Error::other(format!("usage: {USAGE}"))),
     }

@@ -28,45 +28,61 @@ fn requests(seed: u64, captures: &[Capture]) -> Vec<Request> {
     requests
 }
 
-/// Writes `requests.bin` and `lines.txt`: the crate's line where it has one, else the model's; the last line is the stop's.
+/// The lines on requests: the crate's where it has one, else the model's; and how many are the crate's, and where the model's are others.
+pub struct Answers {
+    pub lines: Vec<String>,
+    pub by_crate: u64,
+    pub differences: u64,
+}
+
+/// Asks crate and model about the requests and the bytes after them, which take one line more where there are any. `file` gets the records.
+pub fn answers(
+    requests: &[Request],
+    after: &[u8],
+    file: &Path,
+    (by_crate, model): (&Program, &Program),
+) -> io::Result<Answers> {
+    let mut bytes = vec![];
+    for request in requests {
+        request.write_to(&mut bytes);
+    }
+    bytes.extend(after);
+    std::fs::write(file, &bytes).map_err(|error| about(file.display(), error))?;
+    let (mut crate_lines, mut model_lines) = (by_crate.run(file)?, model.run(file)?);
+    let mut given = Answers { lines: vec![], by_crate: 0, differences: 0 };
+    for _ in 0..requests.len() + usize::from(!after.is_empty()) {
+        let (mut first, mut second) = (String::new(), String::new());
+        crate_lines.next(&mut first)?;
+        model_lines.next(&mut second)?;
+        let by_crate = first != "-";
+        given.by_crate += u64::from(by_crate);
+        given.differences += u64::from(by_crate && first != second);
+        given.lines.push(if by_crate { first } else { second });
+    }
+    for lines in [crate_lines, model_lines] {
+        given.differences += u64::from(!lines.end()?);
+    }
+    Ok(given)
+}
+
+/// Writes `requests.bin` and `lines.txt`; the last line is the stop's.
 pub fn write(
     seed: u64,
     captures: &[Capture],
     folder: &Path,
-    (by_crate, model): (&Program, &Program),
+    programs: (&Program, &Program),
     out: &mut impl Write,
 ) -> io::Result<bool> {
     let requests = requests(seed, captures);
-    let mut bytes = vec![];
-    for request in &requests {
-        request.write_to(&mut bytes);
-    }
-    bytes.extend(stops::short_record());
-    let file = folder.join("requests.bin");
-    std::fs::write(&file, &bytes).map_err(|error| about(file.display(), error))?;
-    let (mut crate_lines, mut model_lines) = (by_crate.run(&file)?, model.run(&file)?);
-    let mut text = String::new();
-    let (mut first, mut second) = (String::new(), String::new());
-    let (mut from_crate, mut differences) = (0, 0);
-    for _ in 0..=requests.len() {
-        crate_lines.next(&mut first)?;
-        model_lines.next(&mut second)?;
-        let by_crate = first != "-";
-        from_crate += u64::from(by_crate);
-        differences += u64::from(by_crate && first != second);
-        text.push_str(if by_crate { &first } else { &second });
-        text.push('\n');
-    }
-    for lines in [crate_lines, model_lines] {
-        differences += u64::from(!lines.end()?);
-    }
+    let given = answers(&requests, &stops::short_record(), &folder.join("requests.bin"), programs)?;
     let file = folder.join("lines.txt");
-    std::fs::write(&file, text).map_err(|error| about(file.display(), error))?;
+    std::fs::write(&file, given.lines.join("\n") + "\n").map_err(|error| about(file.display(), error))?;
     writeln!(
         out,
-        "sample: {} requests and a stop in {} bytes, {from_crate} lines by the crate, {differences} where the model differs",
+        "sample: {} requests and a stop, {} lines by the crate, {} where the model differs",
         requests.len(),
-        bytes.len()
+        given.by_crate,
+        given.differences
     )?;
-    Ok(differences == 0)
+    Ok(given.differences == 0)
 }

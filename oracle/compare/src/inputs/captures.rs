@@ -120,7 +120,7 @@ impl Capture {
     }
 
     /// The settings of the session, guess off. The crate's reading has the guess on where Add-Path is off.
-    fn settings(&self) -> u8 {
+    pub fn settings(&self) -> u8 {
         self.width_setting() | if self.add_path_ipv4 { ADD_PATH } else { 0 }
     }
 
