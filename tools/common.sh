@@ -1,12 +1,13 @@
-# What the scripts share, in POSIX sh. A script that reads this file has set `me`, its name for what it says, and `root`, the project's folder.
+# What the scripts share, in POSIX sh. A script that reads this file has set `me`, its name for what it says, and `root`, the project's folder; and
+# `trouble` where its status for trouble is not 2.
 
 # Says a sentence on standard error.
 say() { printf '%s: %s\n' "$me" "$*" >&2; }
 
-# Trouble: a sentence and status 2.
+# Trouble: a sentence and its status.
 die() {
     say "$*"
-    exit 2
+    exit "${trouble:-2}"
 }
 
 # Ends on Ctrl-C with a sentence, and with the status that shells give it.
