@@ -1,5 +1,6 @@
 //! The inputs of the comparison, the programs that it runs, and its report.
 
+pub mod buffers;
 pub mod inputs;
 pub mod programs;
 pub mod progress;

@@ -1,6 +1,7 @@
 //! The fixed sample: document 01's examples, numbers and orders of checks, requests over every op and setting, all captured
 //! messages, and at the end a record that is a stop.
 
+use crate::buffers::crossed;
 use crate::inputs::captures::Capture;
 use crate::inputs::{numbers, random};
 use crate::programs::Program;
@@ -10,6 +11,9 @@ use records::ending::about;
 use records::Request;
 use std::io::{self, Write};
 use std::path::Path;
+
+/// The most bytes that the program `answers` holds of its input.
+const INPUT: usize = 1_310_720;
 
 /// Random requests of each op and settings byte.
 const OF_EACH: usize = 3;
@@ -65,6 +69,13 @@ pub fn answers(
     Ok(given)
 }
 
+/// The bytes of a request's record.
+fn size(request: &Request) -> usize {
+    let mut bytes = vec![];
+    request.write_to(&mut bytes);
+    bytes.len()
+}
+
 /// Writes `requests.bin` and `lines.txt`; the last line is the stop's.
 pub fn write(
     seed: u64,
@@ -74,13 +85,15 @@ pub fn write(
     out: &mut impl Write,
 ) -> io::Result<bool> {
     let requests = requests(seed, captures);
+    let crossed = crossed(INPUT, requests.iter().map(size))?;
     let given = answers(&requests, &stops::short_record(), &folder.join("requests.bin"), programs)?;
     let file = folder.join("lines.txt");
     std::fs::write(&file, given.lines.join("\n") + "\n").map_err(|error| about(file.display(), error))?;
     writeln!(
         out,
-        "sample: {} requests and a stop, {} lines by the crate, {} where the model differs",
+        "sample: {} requests and a stop; the input is full {} times, with a record across each end; {} lines by the crate, {} where the model differs",
         requests.len(),
+        crossed.len(),
         given.by_crate,
         given.differences
     )?;

@@ -1,6 +1,7 @@
 //! The input of the lister and its table: slot records of captured messages, whole and damaged, of the longest and of short ones, and at the end one
 //! that is not all there. What a line says is the crate's answer on the message where it has one, else the model's.
 
+use crate::buffers::crossed;
 use crate::inputs::captures::Capture;
 use crate::inputs::examples::{hex, on_bytes};
 use crate::programs::Program;
@@ -135,38 +136,23 @@ fn slots(seed: u64, captures: &[Capture]) -> Vec<Slot> {
     slots
 }
 
-/// How often the lister's buffers are full in a run: the input's, where a record lies across its end, and the output's.
-#[derive(Default)]
-struct Full {
-    inputs: usize,
-    outputs: usize,
-}
-
-impl Full {
-    /// Of a run over records, by the bytes of each and of its line.
-    fn of(sizes: impl Iterator<Item = (usize, usize)>) -> io::Result<Full> {
-        let (mut full, mut from, mut start, mut put) = (Full::default(), 0, 0, 0);
-        for (record, line) in sizes {
-            if start == from + INPUT {
-                return Err(io::Error::other(format!(
-                    "a record ends with the lister's input, at byte {start}: another seed"
-                )));
-            }
-            if from + INPUT < start + record {
-                (from, put) = (start, 0);
-                full.inputs += 1;
-            }
-            if OUTPUT - put < LINE {
-                put = 0;
-                full.outputs += 1;
-            }
-            start += record;
-            put += line;
+/// How often the lister's output is full in a run, by the starts of the records that cross its input's end, where it writes too.
+fn full_outputs(crossed: &[usize], sizes: impl Iterator<Item = (usize, usize)>) -> io::Result<usize> {
+    let (mut full, mut start, mut put) = (0, 0, 0);
+    for (record, line) in sizes {
+        if crossed.contains(&start) {
+            put = 0;
         }
-        if full.outputs == 0 {
-            return Err(io::Error::other("the lister's output is never full: another seed"));
+        if OUTPUT - put < LINE {
+            put = 0;
+            full += 1;
         }
-        Ok(full)
+        start += record;
+        put += line;
+    }
+    match full {
+        0 => Err(io::Error::other("the lister's output is never full: another seed")),
+        _ => Ok(full),
     }
 }
 
@@ -237,7 +223,8 @@ pub fn write(
     let bodies = answers(&on_bodies, &[], &folder.join("bodies.bin"), programs)?;
     let text = table(&slots, &headers.lines, &bodies.lines);
     let lines = text.split_inclusive('\n').skip(1).map(str::len);
-    let full = Full::of(records.iter().map(Vec::len).zip(lines))?;
+    let crossed = crossed(INPUT, records.iter().map(Vec::len))?;
+    let full = full_outputs(&crossed, records.iter().map(Vec::len).zip(lines))?;
     let short = &slots[0].record()[..7];
     for (name, bytes) in [("slots.bin", [&records.concat(), short].concat()), ("table.txt", text.clone().into_bytes())]
     {
@@ -249,8 +236,8 @@ pub fn write(
         out,
         "table: {} records and a stop; the input is full {} times, with a record across each end, and the output {} times; {by_crate} of {} answers by the crate, {differences} where the model differs",
         slots.len(),
-        full.inputs,
-        full.outputs,
+        crossed.len(),
+        full,
         on_headers.len() + on_bodies.len()
     )?;
     Ok(differences == 0)
