@@ -118,9 +118,17 @@ fn command(me: &str, arguments: &[String]) -> io::Result<bool> {
         }
         [verb, seed, folder] if verb == "sample" || verb == "table" => {
             let programs = Programs::new(None)?;
-            let both = (&programs.by_crate, &programs.model);
-            let write = if verb == "sample" { sample::write } else { table::write };
-            write(number(seed)?, &captured()?, Path::new(folder), both, &mut out)
+            let making = sample::Making {
+                seed: number(seed)?,
+                captures: &captured()?,
+                folder: Path::new(folder),
+                programs: (&programs.by_crate, &programs.model),
+            };
+            if verb == "sample" {
+                sample::write(&making, &mut out)
+            } else {
+                table::write(&making, &mut out)
+            }
         }
         _ => Err(io::Error::other(format!("usage: {USAGE}"))),
     }

@@ -32,6 +32,14 @@ fn requests(seed: u64, captures: &[Capture]) -> Vec<Request> {
     requests
 }
 
+/// What a sample is made from: a seed, the captured messages, a folder for its files, and the crate's program and the model.
+pub struct Making<'a> {
+    pub seed: u64,
+    pub captures: &'a [Capture],
+    pub folder: &'a Path,
+    pub programs: (&'a Program, &'a Program),
+}
+
 /// The lines on requests: the crate's where it has one, else the model's; and how many are the crate's, and where the model's are others.
 pub struct Answers {
     pub lines: Vec<String>,
@@ -77,17 +85,11 @@ fn size(request: &Request) -> usize {
 }
 
 /// Writes `requests.bin` and `lines.txt`; the last line is the stop's.
-pub fn write(
-    seed: u64,
-    captures: &[Capture],
-    folder: &Path,
-    programs: (&Program, &Program),
-    out: &mut impl Write,
-) -> io::Result<bool> {
-    let requests = requests(seed, captures);
+pub fn write(making: &Making, out: &mut impl Write) -> io::Result<bool> {
+    let requests = requests(making.seed, making.captures);
     let crossed = crossed(INPUT, requests.iter().map(size))?;
-    let given = answers(&requests, &stops::short_record(), &folder.join("requests.bin"), programs)?;
-    let file = folder.join("lines.txt");
+    let given = answers(&requests, &stops::short_record(), &making.folder.join("requests.bin"), making.programs)?;
+    let file = making.folder.join("lines.txt");
     std::fs::write(&file, given.lines.join("\n") + "\n").map_err(|error| about(file.display(), error))?;
     writeln!(
         out,

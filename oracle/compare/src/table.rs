@@ -4,14 +4,12 @@
 use crate::buffers::crossed;
 use crate::inputs::captures::Capture;
 use crate::inputs::examples::{hex, on_bytes};
-use crate::programs::Program;
 use crate::rng::Rng;
-use crate::sample::answers;
+use crate::sample::{answers, Making};
 use records::ending::about;
 use records::{Request, ADD_PATH, GUESS};
 use std::fmt::Write as _;
 use std::io::{self, Write};
-use std::path::Path;
 
 /// The most bytes that the lister holds of its input, and of its output, which is full where it has no room for any line.
 const INPUT: usize = 131_072;
@@ -207,14 +205,9 @@ fn table(slots: &[Slot], headers: &[String], bodies: &[String]) -> String {
 }
 
 /// Writes `slots.bin` and `table.txt`. Whether crate and model agree on every message.
-pub fn write(
-    seed: u64,
-    captures: &[Capture],
-    folder: &Path,
-    programs: (&Program, &Program),
-    out: &mut impl Write,
-) -> io::Result<bool> {
-    let slots = slots(seed, captures);
+pub fn write(making: &Making, out: &mut impl Write) -> io::Result<bool> {
+    let (folder, programs) = (making.folder, making.programs);
+    let slots = slots(making.seed, making.captures);
     let records: Vec<Vec<u8>> = slots.iter().map(Slot::record).collect();
     let on_headers: Vec<Request> = slots.iter().map(|slot| on_bytes(9, 0, (0, 0), &slot.kept)).collect();
     let headers = answers(&on_headers, &[], &folder.join("headers.bin"), programs)?;
