@@ -1,4 +1,4 @@
--- Every number and every order of two checks that document 01 fixes, as one table over the definitions with one claim: definition and code
+-- Every number and every order of two checks that document 01 fixes, and the lister's case, as one table over the definitions with one claim: definition and code
 -- cannot be changed to the same wrong number. A line holds what the definitions say of an input to what the document says.
 -- Assumes nothing.
 use Prim.Native.Nat.{ℕ, _-_}
@@ -8,9 +8,9 @@ use mathlib.Core.Bool.{Bool, true, false, _&&_}
 use lib.ListN.{length, replicate}
 use lib.Dec.{eqb}
 use Rattle.wire.specs.Answer.{given, refusal, numberIn, writeMeaning, limited}
-use Rattle.wire.specs.Number.{beAt, toBe}
+use Rattle.wire.specs.Number.{be, beAt, toBe}
 use Rattle.wire.specs.Refusal as refusals
-use Rattle.wire.specs.Walk.{readAll, walk, flat}
+use Rattle.wire.specs.Walk.{readAll, walk, flat, tally}
 use Rattle.families.specs.Family.{maxOf, idSize, markOf, octets, modeOf}
 use Rattle.families.specs.declared.Afi.{Afi}
 use Rattle.families.specs.declared.Afi.the-variants.{Ipv4, Ipv6}
@@ -36,10 +36,14 @@ use Rattle.path_writer.specs.Write.{mostNumbers, segmentBytes, addsUp, allFit, 
 use Rattle.path_writer.specs.Promises as pathWriter
 use Rattle.messages.specs.Header.{markerSize, headerSize, messageLimit, extendedLimit, leastLength, mostLength, crateLimit, isOutside, isUnknown, allFF, messageMeaning, messageOf, strictWithin, strictOf}
 use Rattle.messages.specs.Written as messageWriter
-use Rattle.updates.specs.Body.{partsMeaning, partsOf}
+use Rattle.updates.specs.Body.{partsMeaning, partsOf, withdrawnOf, announcedOf}
+use Rattle.updates.specs.Update.{countUpdate}
 use Rattle.update_writer.specs.Body.{bodySized, bodyAnswer}
-use Rattle.slots.specs.Slot.{markFirst, markSecond, recordSize, settingsLimit}
+use Rattle.slots.specs.Slot.{markFirst, markSecond, recordSize, settingsLimit, found, slotOf}
 use Rattle.slots.specs.declared.SlotAnswer.the-variants.{Slot, More, Stop, End}
+use Rattle.slot_table.specs.Line.{digits, fieldsText, sectionText, entryOf, entryText, lineOf, stopText, headingText}
+use Rattle.slot_table.specs.Table.{linesOf, endingText}
+use Rattle.slot_table.specs.declared.Ending.the-variants as Ending
 use Rattle.words.specs.Word.{fields, inFields, wordOf}
 use Rattle.firmware.specs.Fields.{messageFields, updateFields, slotFields, versionFields, aggregatorSize, rowWords, pairWords, keptLimit, bodyRows}
 use Rattle.messages.specs.declared.MessageAnswer.the-variants.{Message}
@@ -490,12 +494,50 @@ settings =
     ∷ line (wordOf (inFields (refusal 11))) 0xB000000000000
     ∷ []
 
+-- ---- "The lister"
+
+-- a record with settings 0: its kept bytes are an all-FF marker and the bytes after it
+abbrev pub kept : List ℕ → List ℕ
+kept after = replicate 16 255 ++ after
+
+abbrev pub slot : List ℕ → List ℕ
+slot after = 0xC5 ∷ 0x3A ∷ 0 ∷ (length (kept after) ∷ (0 ∷ kept after))
+
+-- the document's three records: a KEEPALIVE, an UPDATE, and the same less its last byte
+abbrev pub threeSlots : List ℕ
+threeSlots =
+    slot (0x00 ∷ 0x13 ∷ 0x04 ∷ [])
+    ++ (slot (0x00 ∷ 0x1B ∷ 0x02 ∷ 0 ∷ 0 ∷ 0 ∷ 0 ∷ 0x18 ∷ 0x0A ∷ 0x01 ∷ 0x08 ∷ [])
+    ++ slot (0x00 ∷ 0x1B ∷ 0x02 ∷ 0 ∷ 0 ∷ 0 ∷ 0 ∷ 0x18 ∷ 0x0A ∷ 0x01 ∷ []))
+
+-- its text, the bytes of which are read as one number
+abbrev pub lister : List Line
+lister =
+    -- "no type claimed kept state withdrawn announced"
+    line (be headingText) 0x6E6F207479706520636C61696D6564206B6570742073746174652077697468647261776E20616E6E6F756E6365640A
+    -- "1 4 19 19 whole - -", "2 2 27 27 whole 0/0 1/0", "3 2 27 26 cut 0/0 0/2"
+    ∷ line (be (linesOf 1 threeSlots)) 0x3120342031392031392077686F6C65202D202D0A3220322032372032372077686F6C6520302F3020312F300A3320322032372032362063757420302F3020302F320A
+    -- "4 refused 3", of a header that claims 18; "5 4 19 20 trailing - -", of a KEEPALIVE and a byte
+    ∷ line (be (lineOf 4 (kept (0x00 ∷ 0x12 ∷ 0x09 ∷ [])) Off)) 0x34207265667573656420330A
+    ∷ line (be (lineOf 5 (kept (0x00 ∷ 0x13 ∷ 0x04 ∷ 0xC5 ∷ [])) Off)) 0x35203420313920323020747261696C696E67202D202D0A
+    -- "stop 6": a wrong mark, a settings byte over 3, a short record; no byte is a plain end
+    ∷ line (be (linesOf 6 (0xC5 ∷ 0x3B ∷ []))) 0x73746F7020360A
+    ∷ line (be (linesOf 6 (0xC5 ∷ 0x3A ∷ 0 ∷ 0 ∷ 4 ∷ []))) 0x73746F7020360A
+    ∷ line (be (linesOf 6 (0xC5 ∷ 0x3A ∷ 0 ∷ 1 ∷ 3 ∷ []))) 0x73746F7020360A
+    ∷ line (length (linesOf 6 [])) 0
+    -- how it ended: "whole", "stop 6 87", "unread 87", "unwritten"
+    ∷ line (be (endingText Ending.Whole)) 0x77686F6C650A
+    ∷ line (be (endingText (Ending.Stop 6 87))) 0x73746F7020362038370A
+    ∷ line (be (endingText (Ending.Unread 87))) 0x756E726561642038370A
+    ∷ line (be (endingText Ending.Unwritten)) 0x756E7772697474656E0A
+    ∷ []
+
 abbrev pub table : List Line
-table = refusalNumbers ++ (headers ++ (bodies ++ (lists ++ (pathsAndAggregators ++ (limits ++ settings)))))
+table = refusalNumbers ++ (headers ++ (bodies ++ (lists ++ (pathsAndAggregators ++ (limits ++ (settings ++ lister))))))
 
 -- every line of the table holds
 pub numbers : agree table ≡ true
-unfolding agree zeros beAt readAll walk flat modeOf wordAt rowOf itemRow prefixOf inForm guessForm stepOf listOf sectionOf routes.countAnswer routes.readAnswer fourWords rowBytes allZero writable frontRow writeStep writing bytesOf measured routeWriter.writeAnswer limited span aggregatorOf aggregatorBytes aggregatorWritten typeFault numbersOf segmentAt segmentOf pathOf paths.countAnswer paths.readAnswer segmentBytes addsUp allFit writeFault lentOf lentPath pathBytes pathWriter.lentBytes pathWriter.encodeAnswer leastLength mostLength crateLimit isOutside isUnknown allFF messageOf strictWithin messageWriter.writeMessage partsOf bodySized bodyAnswer wordOf familyOf formOf asnLengthOf
+unfolding agree zeros beAt readAll walk flat modeOf wordAt rowOf itemRow prefixOf inForm guessForm stepOf listOf sectionOf routes.countAnswer routes.readAnswer fourWords rowBytes allZero writable frontRow writeStep writing bytesOf measured routeWriter.writeAnswer limited span aggregatorOf aggregatorBytes aggregatorWritten typeFault numbersOf segmentAt segmentOf pathOf paths.countAnswer paths.readAnswer segmentBytes addsUp allFit writeFault lentOf lentPath pathBytes pathWriter.lentBytes pathWriter.encodeAnswer leastLength mostLength crateLimit isOutside isUnknown allFF messageOf strictWithin messageWriter.writeMessage partsOf withdrawnOf announcedOf countUpdate bodySized bodyAnswer wordOf familyOf formOf asnLengthOf tally found slotOf digits fieldsText sectionText entryOf entryText lineOf stopText headingText linesOf endingText
 numbers = refl
 
 -- the limit of a list and of a path to write is of their bytes, whatever they are
