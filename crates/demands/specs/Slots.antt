@@ -25,12 +25,10 @@ use Rattle.words.proofs.SettingsLaws as SettingsLaws
 use Rattle.firmware.specs.Fields.{slotRecord, slotFields, keptLimit}
 use Rattle.firmware.proofs.SlotBounds.{more-short}
 use Rattle.firmware.proofs.slot.doorbramble_next_slot.Reads as c_next_slot
-use Rattle.slot_table.specs.Line.{number, numeral, lineOf, stopText, headingText, lineRoom, putCount, putOut}
-use Rattle.slot_table.proofs.LineLaws.{line-few, stop-few, heading-few, put-not, put-front, put-past}
+use Rattle.slot_table.specs.Line.{number, numeral, headingText, lineRoom, putCount, putOut}
+use Rattle.slot_table.proofs.LineLaws.{heading-few, put-not, put-front, put-past}
 use Rattle.slot_table.proofs.TableLaws.{ending-few}
 use Rattle.slot_table.proofs.NumeralLaws.{number-value}
-use Rattle.slot_table.proofs.put_line.Reads as put_line
-use Rattle.slot_table.proofs.put_stop.Reads as put_stop
 use Rattle.slot_table.proofs.put_heading.Reads as put_heading
 use Rattle.slot_table.specs.Table.{endingText, Listing, linesOf, tableOf, listing, listedOf}
 use Rattle.slot_table.specs.declared.Then.{Then}
@@ -107,20 +105,6 @@ module _ (line before after : List ℕ) (answer : ℕ) (e : answer ≡ putCount 
 
   past-kept : length line ≤ lineRoom → PastKept answer before after
   past-kept few = ap₂ drop e f ∙ put-past line before few ∙ ap (λ (n : ℕ). drop n before) (sym e)
-
-module _ (κs : _) (given : _) (answer : _) (exit : _) (call : put_line.Learnt κs given answer exit) where
-  pub line-not-put : length (now (given .1 .1 .1 .0)) < lineRoom → NotPut answer (now (given .1 .1 .1 .0)) (now (exit .1 .1 .1 .0))
-  line-not-put = not-put (lineOf (given .0) (now (given .1 .0)) (given .1 .1 .0)) _ _ answer (call .0) (call .1)
-
-  pub line-past : PastKept answer (now (given .1 .1 .1 .0)) (now (exit .1 .1 .1 .0))
-  line-past = past-kept (lineOf (given .0) (now (given .1 .0)) (given .1 .1 .0)) _ _ answer (call .0) (call .1) (line-few (given .0) (now (given .1 .0)) (given .1 .1 .0))
-
-module _ (κs : _) (given : _) (answer : _) (exit : _) (call : put_stop.Learnt κs given answer exit) where
-  pub stop-not-put : length (now (given .1 .0)) < lineRoom → NotPut answer (now (given .1 .0)) (now (exit .1 .0))
-  stop-not-put = not-put (stopText (given .0)) _ _ answer (call .0) (call .1)
-
-  pub stop-past : PastKept answer (now (given .1 .0)) (now (exit .1 .0))
-  stop-past = past-kept (stopText (given .0)) _ _ answer (call .0) (call .1) (stop-few (given .0))
 
 module _ (κs : _) (given : _) (answer : _) (exit : _) (call : put_heading.Learnt κs given answer exit) where
   pub heading-not-put : length (now (given .0)) < lineRoom → NotPut answer (now (given .0)) (now (exit .0))

@@ -51,24 +51,6 @@ fn shown(out: &[u8], put: usize) {
     }
 }
 
-// The heading, the line of a KEEPALIVE, and a stop, in an output of any size.
-fn lines(out: &mut [u8]) {
-    text(b"places ");
-    number(out.len());
-    text(b"\n");
-    let heading = slot_table::put_heading(out);
-    shown(out, heading);
-    let line = slot_table::put_line(
-        18446744073709551615,
-        b"\xFF\xFF\xFF\xFF\xFF\xFF\xFF\xFF\xFF\xFF\xFF\xFF\xFF\xFF\xFF\xFF\x00\x13\x04",
-        AddPath::Off,
-        out,
-    );
-    shown(out, line);
-    let stop = slot_table::put_stop(18446744073709551615, out);
-    shown(out, stop);
-}
-
 // How far a call came.
 fn came(listed: Listed) {
     text(b"used ");
@@ -96,11 +78,17 @@ fn block(name: &[u8], s: &[u8], out: &mut [u8]) {
     came(last);
 }
 
-// Blocks of records that keep nothing.
-fn blocks(out: &mut [u8]) {
+// The size of an output, and the heading in it.
+fn heading(out: &mut [u8]) {
     text(b"places ");
     number(out.len());
     text(b"\n");
+    let put = slot_table::put_heading(out);
+    shown(out, put);
+}
+
+// Blocks of records that keep nothing, and of a KEEPALIVE.
+fn blocks(out: &mut [u8]) {
     block(b"nothing in hand", b"", out);
     block(
         b"two records",
@@ -113,6 +101,11 @@ fn blocks(out: &mut [u8]) {
         out,
     );
     block(b"a record and none", b"\xC5\x3A\x00\x00\x00\xC5\x3B", out);
+    block(
+        b"a KEEPALIVE",
+        b"\xC5\x3A\x00\x13\x00\xFF\xFF\xFF\xFF\xFF\xFF\xFF\xFF\xFF\xFF\xFF\xFF\xFF\xFF\xFF\xFF\x00\x13\x04",
+        out,
+    );
 }
 
 // How a table ended, in an output of any size.
@@ -164,14 +157,15 @@ fn whole_records() {
 // What is put into outputs with too few places, with places for one line, and for several.
 fn all_sizes() {
     let mut small = [0u8; 191];
-    lines(&mut small);
+    heading(&mut small);
     blocks(&mut small);
     endings(&mut small);
     let mut enough = [0u8; 192];
-    lines(&mut enough);
+    heading(&mut enough);
     blocks(&mut enough);
     endings(&mut enough);
     let mut more = [0u8; 400];
+    heading(&mut more);
     blocks(&mut more);
 }
 

@@ -94,15 +94,7 @@ entry-few kept (Other kind claimed state) = simp length-append (omega (arith, fi
 entry-few kept (Update claimed state withdrawn announced) =
     simp length-append (omega (arith, fields-few updateKind claimed kept state, section-few withdrawn space, section-few announced lineEnd))
 
--- no line is longer than the room that an output must have
-pub line-few : (nth : ℕ) (s : List ℕ) (mode : AddPath) → length (lineOf nth s mode) ≤ lineRoom
-unfolding lineOf
-line-few nth s mode = simp length-append (omega (arith, number-few nth space, entry-few (length s) (entryOf s mode)))
-
-pub stop-few : (nth : ℕ) → length (stopText nth) ≤ lineRoom
-unfolding stopText
-stop-few nth = simp length-append (omega (arith, number-few nth lineEnd))
-
+-- the heading is no longer than the room that an output must have
 pub heading-few : length headingText ≤ lineRoom
 unfolding headingText
 heading-few = omega arith

@@ -267,29 +267,7 @@ fn stop_at(out: &mut [u8], at: usize, nth: u64) -> usize
     put_number(out, to, nth, LINE_END)
 }
 
-// The line of a record, at the front of the output. Answers its length, and 0 where the output has fewer than LINE_ROOM places.
-pub fn put_line(nth: u64, slot: &[u8], mode: AddPath, out: &mut [u8]) -> usize
-    ensures answer { λ r. ⌜ r ≡ putCount (lineOf nth (now (slot .entry)) mode) (length (now (out .entry))) ⌝ }
-    ensures output { λ _. ⌜ now (out .exit) ≡ putOut (lineOf nth (now (slot .entry)) mode) (now (out .entry)) ⌝ }
-{
-    if out.len() < LINE_ROOM {
-        return 0;
-    }
-    line_at(out, 0, nth, slot, mode)
-}
-
-// The line that ends a table early, likewise.
-pub fn put_stop(nth: u64, out: &mut [u8]) -> usize
-    ensures answer { λ r. ⌜ r ≡ putCount (stopText nth) (length (now (out .entry))) ⌝ }
-    ensures output { λ _. ⌜ now (out .exit) ≡ putOut (stopText nth) (now (out .entry)) ⌝ }
-{
-    if out.len() < LINE_ROOM {
-        return 0;
-    }
-    stop_at(out, 0, nth)
-}
-
-// The heading of a table, likewise.
+// The heading of a table, at the front of the output. Answers its length, and 0 where the output has fewer than LINE_ROOM places.
 pub fn put_heading(out: &mut [u8]) -> usize
     ensures answer { λ r. ⌜ r ≡ putCount headingText (length (now (out .entry))) ⌝ }
     ensures output { λ _. ⌜ now (out .exit) ≡ putOut headingText (now (out .entry)) ⌝ }
