@@ -1,7 +1,7 @@
 -- Laws of bytes moved to the front, one by one.
 -- Assumes nothing.
-use Prim.Native.Nat.{ℕ, suc, _+_, _-_, _≤_, _<_}
-use mathlib.Core.Path.{_≡_, refl, sym, ap, ap₂, _∙_}
+use Prim.Native.Nat.{ℕ, _+_, _-_, _≤_, _<_}
+use mathlib.Core.Path.{_≡_, refl, sym, ap, _∙_}
 use mathlib.Core.List.{List, _++_}
 use native.Mathlib.Nat.{zero-add, add-comm}
 use native.Mathlib.Numerals.{add-one}
@@ -9,7 +9,6 @@ use native.Mathlib.Omega.{arith}
 use borrow.Author.Tests.{le-leb, lt-leb}
 use lib.ListN.{length, take, drop, set, getD, length-drop}
 use lib.Seq.{paste, paste-suc, drop-paste, getD-drop, length-take-le, take-at}
-use Rattle.wire.specs.Store.{laid}
 use Rattle.copies.specs.Front.{toFront}
 
 module _ (d : List ℕ) (at i : ℕ) (there : at + i < length d) where

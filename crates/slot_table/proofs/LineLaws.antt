@@ -14,16 +14,12 @@ use Rattle.wire.specs.Choice.{pick}
 use Rattle.wire.specs.Store.{laid}
 use Rattle.wire.proofs.ChoiceLaws.{pick-any}
 use Rattle.wire.proofs.StoreLaws.{drop-laid-past}
-use Rattle.families.specs.declared.AddPath.{AddPath}
 use Rattle.routes.specs.declared.ListAnswer.{ListAnswer}
 use Rattle.routes.specs.Promises.{rowsIn, verdictIn}
-use Rattle.messages.specs.Header.{updateKind}
-use Rattle.slot_table.specs.Line.{space, lineEnd, slash, stateText, digits, number, fieldsText, sectionText, entryOf, entryText, lineOf, stopText, headingText, lineRoom, putCount, putOut}
-use Rattle.slot_table.specs.Private.{numberRoom, stateRoom, fieldsRoom, sectionRoom, entryRoom, Grown}
+use Rattle.slot_table.specs.Line.{space, lineEnd, slash, stateText, digits, number, fieldsText, sectionText, headingText, lineRoom, putCount, putOut}
+use Rattle.slot_table.specs.Private.{numberRoom, stateRoom, fieldsRoom, sectionRoom, Grown}
 use Rattle.slot_table.specs.declared.State.{State}
 use Rattle.slot_table.specs.declared.State.the-variants.{Whole, Cut, Trailing}
-use Rattle.slot_table.specs.declared.Entry.{Entry}
-use Rattle.slot_table.specs.declared.Entry.the-variants.{Refused, Other, Update}
 
 -- ---- digits
 
@@ -86,13 +82,6 @@ fields-few kind claimed kept state =
 pub section-few : (a : ListAnswer) (end : ℕ) → length (sectionText a end) ≤ sectionRoom
 unfolding sectionText
 section-few a end = simp length-append (omega (arith, number-few (rowsIn a) slash, number-few (verdictIn a) end))
-
-pub entry-few : (kept : ℕ) (e : Entry) → length (entryText kept e) ≤ entryRoom
-unfolding entryText
-entry-few kept (Refused n) = simp length-append (omega (arith, number-few n lineEnd))
-entry-few kept (Other kind claimed state) = simp length-append (omega (arith, fields-few kind claimed kept state))
-entry-few kept (Update claimed state withdrawn announced) =
-    simp length-append (omega (arith, fields-few updateKind claimed kept state, section-few withdrawn space, section-few announced lineEnd))
 
 -- the heading is no longer than the room that an output must have
 pub heading-few : length headingText ≤ lineRoom
