@@ -16,7 +16,7 @@ use Rattle.wire.proofs.ChoiceLaws.{pick-any}
 use Rattle.wire.proofs.StoreLaws.{drop-laid-past}
 use Rattle.routes.specs.declared.ListAnswer.{ListAnswer}
 use Rattle.routes.specs.Promises.{rowsIn, verdictIn}
-use Rattle.slot_table.specs.Line.{space, lineEnd, slash, stateText, digits, number, fieldsText, sectionText, headingText, lineRoom, putCount, putOut}
+use Rattle.slot_table.specs.Line.{space, slash, stateText, digits, number, fieldsText, sectionText, headingText, lineRoom, putCount, putOut}
 use Rattle.slot_table.specs.Private.{numberRoom, stateRoom, fieldsRoom, sectionRoom, Grown}
 use Rattle.slot_table.specs.declared.State.{State}
 use Rattle.slot_table.specs.declared.State.the-variants.{Whole, Cut, Trailing}
