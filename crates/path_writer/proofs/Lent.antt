@@ -12,8 +12,8 @@ use lib.Dec.{leb}
 use Rattle.wire.specs.Walk.{took, Reading, more, readAll, flat}
 use Rattle.wire.proofs.WalkLaws.{all-nil, all-took, all-ind}
 use Rattle.wire.specs.Cutting.{Each, none, one}
+use Rattle.wire.proofs.Parts.{two-more}
 use Rattle.paths.specs.Segment.{Segment, Rule, pairOf, asnsOf}
-use Rattle.paths.proofs.FormedLaws.{two-more}
 use Rattle.path_writer.specs.Write.{addsUp, allFit, mostNumbers, lentOf, lentPath}
 use Rattle.path_writer.proofs.WriteLaws.{fit-append, holds, adds-pair, fault-none, none-fault, lent-took, took-lent, lent-names, lent-sound}
 

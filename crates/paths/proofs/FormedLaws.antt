@@ -4,12 +4,12 @@
 use Prim.Native.Nat.{ℕ, zero, suc, _+_, _*_, _≤_}
 use mathlib.Core.Path.{_≡_, refl, sym, ap, ap₂, subst, _∙_}
 use mathlib.Core.List.{List, [], _∷_, _++_, map}
-use native.Mathlib.Nat.{not-suc-le-zero}
 use native.Mathlib.Omega.{arith}
 use lib.ListN.{length, getD, take, drop, length-append, length-drop}
-use lib.Seq.{take-add, take-append-le, drop-append-le, length-take-le}
+use lib.Seq.{take-append-le, drop-append-le, length-take-le}
 use Rattle.wire.specs.Number.{be, beAt}
 use Rattle.wire.proofs.NumberLaws.{padded-take}
+use Rattle.wire.proofs.Parts.{take-two-more}
 use Rattle.wire.specs.Walk.{took, flat}
 use Rattle.wire.specs.Cutting.{Each, none, one}
 use Rattle.wire.proofs.CuttingLaws.{Decides}
@@ -51,15 +51,6 @@ module _ (w : ℕ) where
 
 -- ---- one segment
 
-pub two-more : (s : List ℕ) → 2 ≤ length s → getD s 0 0 ∷ getD s 1 0 ∷ drop 2 s ≡ s
-two-more [] h = absurd (not-suc-le-zero h)
-two-more (x ∷ []) h = absurd (omega arith)
-two-more (x ∷ y ∷ s) h = refl
-
--- two bytes and those after them
-head-first : (s : List ℕ) (n : ℕ) → 2 ≤ length s → take (2 + n) s ≡ getD s 0 0 ∷ getD s 1 0 ∷ take n (drop 2 s)
-head-first s n h = take-add 2 n s ∙ ap (λ (l : List ℕ). take 2 l ++ take n (drop 2 s)) (sym (two-more s h))
-
 module _ (rule : Rule) (allowed : ℕ → ℕ → Type 0) (for : RuleFor rule allowed) (w : ℕ) where
   -- a well-formed one is taken whole, whatever follows
   whole-taken : (kind count : ℕ) (body rest : List ℕ) → allowed kind count → length body ≡ count * w
@@ -87,7 +78,7 @@ module _ (rule : Rule) (allowed : ℕ → ℕ → Type 0) (for : RuleFor rule al
         kind = getD s 0 0;
         count = c;
         body = take (span w c) (drop 2 s);
-        parts = ap (λ (u : ℕ). take u s) (t .size) ∙ head-first s (span w c) (t .there);
+        parts = ap (λ (u : ℕ). take u s) (t .size) ∙ take-two-more s (span w c) (t .there);
         meant = for .sound (getD s 0 0) c (t .fine);
         long = length-take-le (span w c) (drop 2 s) room ∙ span-is w c;
       }

@@ -3,9 +3,9 @@
 -- Assumes nothing.
 use Prim.Native.Nat.{ℕ, _+_, _<_}
 use mathlib.Core.Path.{_≡_, refl, sym, ap, ap₂, _∙_}
-use mathlib.Core.List.{List, [], _∷_, _++_, map}
+use mathlib.Core.List.{List, [], _∷_, _++_, map, append-assoc, append-nil}
 use native.Mathlib.Omega.{arith}
-use lib.ListN.{length, take, length-append, take-append-drop}
+use lib.ListN.{length, take, drop, length-append, take-append-drop}
 use lib.Seq.{take-append-seam, drop-append-seam}
 use Rattle.wire.specs.Number.{Bytes}
 use Rattle.wire.specs.Walk.{Step, took, Reading, more, readAll, pieces, flat}
@@ -26,16 +26,31 @@ module _ {S A : Type 0} (step : S → List ℕ → Step S A) (Formed : List ℕ 
   pub item-long : (st : S) (item : List ℕ) → Formed item → 0 < length item
   item-long st item f = let t = decides .taken st item [] f in decides .sound .takes st (t .0) (item ++ []) (length item) (value item) (t .1) .0
 
+  -- items laid end to end are read as their values, whatever follows
+  pub front-read : (st : S) (items : List (List ℕ)) (rest : List ℕ) → Each Formed items
+      → (st′ : S) × (readAll step st (joined items ++ rest) ≡ record { rows = map value items ++ readAll step st′ rest .rows; verdict = readAll step st′ rest .verdict })
+  unfolding joined
+  front-read st [] rest none = (st, refl)
+  front-read st (item ∷ items) rest (one f fs) =
+      let long = item-long st item f in
+      let behind : List ℕ = joined items ++ rest in
+      let t = decides .taken st item behind f in
+      let again = front-read (t .0) items rest fs in (
+        again .0,
+        ap (readAll step st) (append-assoc item (joined items) rest)
+            ∙ all-took step st (t .0) (item ++ behind) (length item) (value item) (omega (arith, length-append item behind)) long (t .1)
+            ∙ ap (λ (l : List ℕ). more (value item) (readAll step (t .0) l)) (drop-append-seam item behind)
+            ∙ ap (more (value item)) (again .1),
+      )
+
   -- the reading and the pieces of items laid end to end
   pub items-read : (st : S) (items : List (List ℕ)) → Each Formed items → readAll step st (joined items) ≡ record { rows = map value items; verdict = 0 }
-  unfolding joined
-  items-read st [] none = all-nil step st
-  items-read st (item ∷ items) (one f fs) =
-      let long = item-long st item f in
-      let t = decides .taken st item (joined items) f in
-      all-took step st (t .0) (item ++ joined items) (length item) (value item) (omega (arith, length-append item (joined items))) long (t .1)
-      ∙ ap (λ (l : List ℕ). more (value item) (readAll step (t .0) l)) (drop-append-seam item (joined items))
-      ∙ ap (more (value item)) (items-read (t .0) items fs)
+  items-read st items fs =
+      let f = front-read st items [] fs in
+      ap (readAll step st) (sym (append-nil (joined items)))
+      ∙ f .1
+      ∙ ap (λ (r : Reading A). record { rows = map value items ++ r .rows; verdict = r .verdict }) (all-nil step (f .0))
+      ∙ ap (λ (l : List A). record { rows = l; verdict = 0 }) (append-nil (map value items))
 
   pub items-pieces : (st : S) (items : List (List ℕ)) → Each Formed items → pieces step st (joined items) ≡ items
   unfolding joined
@@ -60,22 +75,38 @@ module _ {S A : Type 0} (step : S → List ℕ → Step S A) (Formed : List ℕ 
     pub one-cutting : (items items′ : List (List ℕ)) → Cutting Formed s items → Cutting Formed s items′ → items ≡ items′
     one-cutting items items′ c c′ = sym (cut-pieces items c) ∙ cut-pieces items′ c′
 
-    -- bytes that are read to their end can be cut
-    pub read-cut : readAll step st s .verdict ≡ 0 → (items : List (List ℕ)) × Cutting Formed s items
+    -- what is read of any bytes, before a refusal, are the values of items at their front; nothing follows these where none is refused
+    pub read-front : (items : List (List ℕ)) × (rest : List ℕ) × Each Formed items × (joined items ++ rest ≡ s)
+        × (map value items ≡ readAll step st s .rows) × (readAll step st s .verdict ≡ 0 → rest ≡ [])
     unfolding joined
-    read-cut =
-        all-ind step (decides .sound) (λ _ t r. r .verdict ≡ 0 → (items : List (List ℕ)) × Cutting Formed t items)
-        (λ _ _. ([], record { each = none; whole = refl }))
-        (λ st₁ t n pos e v. absurd (let lt : 0 < n = decides .sound .names st₁ t n e in omega arith))
-        (λ st₁ st₂ t used a pos e again v.
-        let rest = again v in (
-          take used t ∷ rest .0,
-          record {
-            each = one (decides .formed st₁ st₂ t used a e) (rest .1 .each);
-            whole = ap (λ (l : List ℕ). take used t ++ l) (rest .1 .whole) ∙ take-append-drop used t;
-          },
+    read-front =
+        all-ind step (decides .sound)
+        (λ _ t r. (items : List (List ℕ)) × (rest : List ℕ) × Each Formed items × (joined items ++ rest ≡ t) × (map value items ≡ r .rows) × (r .verdict ≡ 0 → rest ≡ []))
+        (λ _. ([], [], none, refl, refl, λ _. refl))
+        (λ st₁ t n pos e. ([], t, none, refl, refl, λ v. absurd (let lt : 0 < n = decides .sound .names st₁ t n e in omega arith)))
+        (λ st₁ st₂ t used a pos e again.
+        let item : List ℕ = take used t in
+        let f = decides .formed st₁ st₂ t used a e in
+        let same = decides .taken st₁ item (drop used t) f in
+        let whole : item ++ drop used t ≡ t = take-append-drop used t in
+        let told : took used a st₂ ≡ took (length item) (value item) (same .0) = sym e ∙ ap (step st₁) (sym whole) ∙ same .1 in
+        let is : value item ≡ a = cc in (
+          item ∷ again .0,
+          again .1,
+          one f (again .2),
+          append-assoc item (joined (again .0)) (again .1) ∙ ap (λ (l : List ℕ). item ++ l) (again .3) ∙ whole,
+          ap₂ _∷_ is (again .4),
+          again .5,
         ))
         st s
+
+    -- bytes that are read to their end can be cut
+    pub read-cut : readAll step st s .verdict ≡ 0 → (items : List (List ℕ)) × Cutting Formed s items
+    read-cut v =
+        let f = read-front in (
+          f .0,
+          record { each = f .2; whole = sym (append-nil (joined (f .0))) ∙ ap (λ (l : List ℕ). joined (f .0) ++ l) (sym (f .5 v)) ∙ f .3 },
+        )
 
 -- ---- writing
 

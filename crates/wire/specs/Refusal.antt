@@ -1,7 +1,7 @@
--- The refusal numbers of document 01, by name: src/refusal.rt has the same for code.
+-- The refusal numbers of documents 01 and 02, by name: src/refusal.rt has the same for code.
 use Prim.Native.Nat.{ℕ}
 
--- a list, a value or an UPDATE body longer than its limit
+-- a list, a value, a section or an UPDATE body longer than its limit
 abbrev pub tooLong : ℕ
 tooLong = 1
 
@@ -57,13 +57,17 @@ wideNumber = 13
 abbrev pub notWritable : ℕ
 notWritable = 14
 
+-- a second MP_REACH_NLRI, or a second MP_UNREACH_NLRI
+abbrev pub repeatedMpNlri : ℕ
+repeatedMpNlri = 15
+
 -- past every refusal number: an answer in one number is a refusal number, or a count from here on
 abbrev pub pastAll : ℕ
 pastAll = 16
 
 -- ---- the limits behind number 1
 
--- the most bytes of a list or an attribute value
+-- the most bytes of a list, an attribute value or an attribute section
 abbrev pub listLimit : ℕ
 listLimit = 65535
 

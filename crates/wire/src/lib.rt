@@ -8,7 +8,7 @@ ghost use Rattle.wire.specs.Extent.{extent, clipped, PartOf};
 
 pub mod refusal;
 
-// The most bytes of a list or an attribute value, and of an UPDATE body.
+// The most bytes of a list, an attribute value or an attribute section, and of an UPDATE body.
 pub const LIST_LIMIT: usize = 65535;
 
 pub const BODY_LIMIT: usize = 65516;

@@ -1,4 +1,4 @@
-// The refusal numbers of document 01, by name: specs/Refusal.antt has the same for definitions.
+// The refusal numbers of documents 01 and 02, by name: specs/Refusal.antt has the same for definitions.
 
 pub const TOO_LONG: u8 = 1;
 
@@ -27,6 +27,8 @@ pub const LONG_SEGMENT: u8 = 12;
 pub const WIDE_NUMBER: u8 = 13;
 
 pub const NOT_WRITABLE: u8 = 14;
+
+pub const REPEATED_MP_NLRI: u8 = 15;
 
 // Past every refusal number. An answer in one number is a refusal number, or a count from here on.
 pub const PAST_ALL: usize = 16;
