@@ -1,0 +1,4 @@
+pub mod Attribute
+pub mod WellFormed
+pub mod Promises
+pub mod Private
