@@ -1,6 +1,6 @@
 //! Totals per op and per refusal number, and the first differences.
 
-use records::Request;
+use records::{Request, LAST_OP};
 use std::io::{self, Write};
 
 /// Differences shown in full; the others are counted.
@@ -16,12 +16,12 @@ struct OpTotals {
     crate_differs: u64,
     by_answers: u64,
     answers_differs: u64,
-    refusals: [u64; 15],
+    refusals: [u64; 16],
 }
 
 #[derive(Default)]
 pub struct Report {
-    ops: [OpTotals; 18],
+    ops: [OpTotals; LAST_OP as usize + 1],
     differences: usize,
 }
 

@@ -8,7 +8,7 @@ use crate::programs::Program;
 use crate::rng::Rng;
 use crate::stops;
 use records::ending::about;
-use records::Request;
+use records::{Request, LAST_OP};
 use std::io::{self, Write};
 use std::path::Path;
 
@@ -21,7 +21,7 @@ const OF_EACH: usize = 3;
 fn requests(seed: u64, captures: &[Capture]) -> Vec<Request> {
     let mut rng = Rng::new(seed);
     let mut requests = numbers();
-    for op in 1..=17 {
+    for op in 1..=LAST_OP {
         for settings in 0..32 {
             for _ in 0..OF_EACH {
                 requests.push(random::request_of(&mut rng, op, settings));

@@ -30,7 +30,7 @@ fn bad_records() -> Vec<Vec<u8>> {
     let with_numbers = |op, parts| record(request(op, 0, (9, 0), parts, 0));
     let mut bad = vec![
         record(on_bytes(0, 0, (0, 0), &[])),
-        record(on_bytes(18, 0, (0, 0), &[])),
+        record(on_bytes(20, 0, (0, 0), &[])),
         record(on_bytes(255, 0, (0, 0), &[])),
         record(on_bytes(3, 32, (0, 0), &[])),
         record(on_bytes(2, 0, (400_001, 0), &[])),
@@ -44,6 +44,10 @@ fn bad_records() -> Vec<Vec<u8>> {
         with_numbers(15, [vec![], vec![], vec![]]),
         with_numbers(17, [vec![0; 25], vec![], vec![]]),
         with_numbers(17, [vec![], vec![], vec![0; 26]]),
+        with_numbers(18, [vec![], vec![], vec![]]),
+        with_numbers(18, [vec![], vec![0; 3], vec![]]),
+        with_numbers(18, [vec![], vec![0; 5], vec![]]),
+        with_numbers(18, [vec![], vec![0; 8], vec![]]),
         record(on_bytes(3, 0, (0, 0), &vec![0; 400_001])),
         record(request(3, 0, (0, 0), [vec![], vec![0; 400_001], vec![]], 0)),
         record(request(3, 0, (0, 0), [vec![], vec![], vec![0; 400_001]], 0)),

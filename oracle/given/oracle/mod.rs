@@ -1,6 +1,7 @@
 //! The crate's own calls behind the request records. What the crate has no call for is not answered (`None`).
-//! Around the crate's result stand only what document 01 adds by design: refusals 1 and 11, and the stores.
+//! Around the crate's result stand only what document 01 and the requests add by design: refusals 1, 11 and 15, and the stores.
 
+pub mod attributes;
 pub mod facts;
 pub mod messages;
 pub mod paths;
@@ -13,7 +14,7 @@ use records::{lent_of, Answer, Request, ADD_PATH, FOUR_BYTE_AS, GUESS};
 use crate::error::{EncodingError, ParserError};
 use crate::models::AsnLength;
 
-/// The most bytes of a list or an attribute value.
+/// The most bytes of a list, an attribute value or an attribute section.
 const MOST_BYTES: usize = 65_535;
 
 /// The most bytes of an UPDATE body.
@@ -59,6 +60,8 @@ fn call(request: &Request) -> Outcome {
         15 => paths::write_aggregator(request),
         16 => messages::write(request),
         17 => messages::write_update(request),
+        18 => attributes::at(request),
+        19 => attributes::first_of(request),
         _ => Outcome::NoCounterpart,
     }
 }
@@ -66,7 +69,7 @@ fn call(request: &Request) -> Outcome {
 /// Refusal 1 of the readers, which comes before the crate is asked.
 fn over_long(request: &Request) -> bool {
     let most = match request.op {
-        2..=8 => MOST_BYTES,
+        2..=8 | 18 | 19 => MOST_BYTES,
         10..=12 => MOST_BODY,
         _ => return false,
     };

@@ -1,17 +1,18 @@
-//! A model of every call, written from document 01 and the RFCs it names, and from no other code.
+//! A model of every call, written from document 01, the requests after it and the RFCs they name, and from no other code.
 //! Each function follows the order of checks of its section.
 
+mod attributes;
 mod headers;
 mod paths;
 mod routes;
 mod updates;
 
-use records::{lent_of, sum_bytes, Answer, Lent, Request, ADD_PATH, FOUR_BYTE_AS, GUESS, IPV6, STRICT};
+use records::{lent_of, numbers_of, sum_bytes, Answer, Lent, Request, ADD_PATH, FOUR_BYTE_AS, GUESS, IPV6, STRICT};
 
 /// A number of the table "Refusal numbers".
 pub type Refusal = u32;
 
-/// The most bytes of a list or an attribute value.
+/// The most bytes of a list, an attribute value or an attribute section.
 const MOST_BYTES: usize = 65_535;
 
 /// The answer to a request.
@@ -54,7 +55,9 @@ fn call(request: &Request) -> Done {
                 updates::write(&request.numbers(0), &request.parts[1], &request.numbers(2), request.has(ADD_PATH))?;
             written(request, body, false)
         }
-        _ => unreachable!("records gives ops 1 to 17"),
+        18 => attribute_at(request, bytes),
+        19 => first_attribute(request, bytes),
+        _ => unreachable!("records gives the ops up to LAST_OP"),
     }
 }
 
@@ -172,6 +175,30 @@ fn update_parts(bytes: &[u8]) -> Done {
         .flat_map(|part| [part.len() as u64, sum_bytes(part)])
         .collect();
     Ok((numbers, vec![]))
+}
+
+/// 1, flags, type, where the value starts, its length and sum, the next place; all 0 where none is left.
+fn attribute_at(request: &Request, section: &[u8]) -> Done {
+    let place = request.numbers(1)[0] as usize;
+    let numbers = attributes::at(section, place)?.map(|found| {
+        let value = found.value(section);
+        let (flags, kind) = (u64::from(found.flags), u64::from(found.kind));
+        vec![1, flags, kind, found.start as u64, value.len() as u64, sum_bytes(value), found.next() as u64]
+    });
+    found_or_zeros(request, numbers)
+}
+
+/// 1, flags, where the value starts, its length and sum; all 0 where the type is absent.
+fn first_attribute(request: &Request, section: &[u8]) -> Done {
+    let numbers = attributes::first_of(section, request.argument)?.map(|found| {
+        let value = found.value(section);
+        vec![1, u64::from(found.flags), found.start as u64, value.len() as u64, sum_bytes(value)]
+    });
+    found_or_zeros(request, numbers)
+}
+
+fn found_or_zeros(request: &Request, numbers: Option<Vec<u64>>) -> Done {
+    Ok((numbers.unwrap_or_else(|| vec![0; numbers_of(request.op)]), vec![]))
 }
 
 /// Bytes into the output: for a list or a value 1 first if they are too many, then 11 if there is no room.

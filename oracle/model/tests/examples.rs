@@ -1,4 +1,4 @@
-//! Every example of document 01, with the line it comes to.
+//! Every example of document 01 and every rule of the requests after it, with the line it comes to.
 
 use records::{Request, ADD_PATH, FOUR_BYTE_AS, GUESS, IPV6, STRICT};
 
@@ -12,9 +12,22 @@ fn words(numbers: &[u32]) -> Vec<u8> {
 
 /// Refusal and numbers of a call that is lent nothing, as text.
 fn told(op: u8, settings: u8, bytes: Vec<u8>) -> String {
-    let request = Request { op, settings, parts: [bytes, vec![], vec![]], ..Request::default() };
-    let line = model::answer(&request).line(1, op);
+    told_of(Request { op, settings, parts: [bytes, vec![], vec![]], ..Request::default() })
+}
+
+fn told_of(request: Request) -> String {
+    let line = model::answer(&request).line(1, request.op);
     line.split_once(' ').and_then(|(_, rest)| rest.split_once(' ')).expect("three fields").1.to_string()
+}
+
+/// What the attribute at a place of a section comes to.
+fn walked(section: &[u8], place: u32) -> String {
+    told_of(Request { op: 18, parts: [section.to_vec(), words(&[place]), vec![]], ..Request::default() })
+}
+
+/// What a search for a type comes to.
+fn searched(section: &[u8], kind: u8) -> String {
+    told_of(Request { op: 19, parts: [section.to_vec(), vec![], vec![]], argument: kind, ..Request::default() })
 }
 
 /// The rows of a list, or its refusal.
@@ -98,6 +111,46 @@ fn headers() {
     assert_eq!(told(9, STRICT, message("00 13 04")), "0 4 19 19 0 0 0 0 0");
     assert_eq!(told(9, 0, message("00 12 09")), "3 0 0 0 0 0 0 0 0");
     assert_eq!(told(9, 0, message("10 01 01")), "3 0 0 0 0 0 0 0 0");
+}
+
+const NONE_LEFT: &str = "0 0 0 0 0 0 0 0";
+const ABSENT: &str = "0 0 0 0 0 0";
+
+#[test]
+fn attributes_one_by_one() {
+    let section = hex("40 01 01 02 D0 08 00 02 00 01 40 01 00");
+    assert_eq!(walked(&section, 0), "0 1 64 1 3 1 3 4");
+    assert_eq!(walked(&section, 4), "0 1 208 8 8 2 65601 10");
+    assert_eq!(walked(&section, 10), "0 1 64 1 13 0 0 13", "a repeat is listed");
+    assert_eq!(walked(&section, 1), "0 1 1 1 4 2 13710200 6", "any byte is a place");
+    for place in [13, 14, u32::MAX] {
+        assert_eq!(walked(&section, place), NONE_LEFT);
+    }
+    assert_eq!(walked(&section, 11), "2 0 0 0 0 0 0 0");
+    assert_eq!(walked(&hex("10 01 00"), 0), "2 0 0 0 0 0 0 0");
+    assert_eq!(walked(&[0; 65_535], 65_535), NONE_LEFT);
+    assert_eq!(walked(&[0; 65_536], 65_536), "1 0 0 0 0 0 0 0");
+}
+
+#[test]
+fn attributes_by_type() {
+    let found = |text: &str, kind| searched(&hex(text), kind);
+    assert_eq!(
+        found("40 01 01 02 80 04 01 05 40 01 01 07", 1),
+        "0 1 64 3 1 3",
+        "the first, and no refusal for the other"
+    );
+    assert_eq!(found("40 01 01 02 80 04 01 05 40 01 01 07", 4), "0 1 128 7 1 6");
+    assert_eq!(found("40 01 01 02", 4), ABSENT);
+    assert_eq!(found("", 0), ABSENT);
+    assert_eq!(found("80 0E 00 80 0F 00", 15), "0 1 128 6 0 0", "one of each");
+    for second in ["80 0E 00 80 0E 00", "80 0F 00 40 01 00 90 0F 00 00", "80 0E 00 80 0E 00 40"] {
+        assert_eq!(found(second, 1), "15 0 0 0 0 0");
+    }
+    for cut in ["40 01 01 02 40", "80 0E 00 80 0E 01", "40 01 07 80 0E 00 80 0E 00"] {
+        assert_eq!(found(cut, 1), "2 0 0 0 0 0");
+    }
+    assert_eq!(searched(&[hex("80 0E 00 80 0E 00"), vec![0; 65_530]].concat(), 0), "1 0 0 0 0 0");
 }
 
 #[test]

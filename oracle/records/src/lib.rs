@@ -13,6 +13,9 @@ pub const IPV6: u8 = 4;
 pub const FOUR_BYTE_AS: u8 = 8;
 pub const STRICT: u8 = 16;
 
+/// Ops are numbered from 1 up to this one.
+pub const LAST_OP: u8 = 19;
+
 /// The most places of a room and bytes of a part.
 pub const MOST: usize = 400_000;
 
@@ -61,9 +64,10 @@ impl Request {
             14 => whole(0) && whole(1),
             15 => self.parts[0].len() == 8,
             17 => whole(0) && whole(2),
+            18 => self.parts[1].len() == 4,
             _ => true,
         };
-        (1..=17).contains(&self.op) && self.settings <= 31 && numbers_whole
+        (1..=LAST_OP).contains(&self.op) && self.settings <= 31 && numbers_whole
     }
 }
 
@@ -192,6 +196,8 @@ pub fn numbers_of(op: u8) -> usize {
         9 => 8,
         10 | 11 => 4,
         12 => 6,
+        18 => 7,
+        19 => 5,
         _ => 1,
     }
 }

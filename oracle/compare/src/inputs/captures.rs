@@ -1,8 +1,10 @@
 //! Captured messages and the requests on them, each with its session's settings.
 
+use super::attributes::{search, walk};
 use super::examples::on_bytes;
 use records::ending::about;
 use records::{Request, ADD_PATH, FOUR_BYTE_AS, GUESS, IPV6, STRICT};
+use std::collections::BTreeSet;
 use std::io;
 use std::path::Path;
 
@@ -68,8 +70,9 @@ fn message(digits: &str) -> Option<Vec<u8>> {
     bytes.collect()
 }
 
-/// An attribute of a section.
+/// An attribute of a section, and where it stands.
 struct Attribute<'a> {
+    place: usize,
     kind: u8,
     value: &'a [u8],
 }
@@ -81,17 +84,29 @@ fn counted(bytes: &[u8]) -> Option<(&[u8], &[u8])> {
 }
 
 /// The attributes of a section, if it is whole.
-fn attributes(mut section: &[u8]) -> Option<Vec<Attribute<'_>>> {
+fn attributes(section: &[u8]) -> Option<Vec<Attribute<'_>>> {
     let mut found = vec![];
-    while let [flags, kind, rest @ ..] = section {
+    let mut left = section;
+    while let [flags, kind, rest @ ..] = left {
         let extended = flags & 0x10 != 0;
         let (length, rest) = rest.split_at_checked(if extended { 2 } else { 1 })?;
         let length = length.iter().fold(0, |length, byte| length << 8 | usize::from(*byte));
         let (value, rest) = rest.split_at_checked(length)?;
-        found.push(Attribute { kind: *kind, value });
-        section = rest;
+        found.push(Attribute { place: section.len() - left.len(), kind: *kind, value });
+        left = rest;
     }
-    section.is_empty().then_some(found)
+    left.is_empty().then_some(found)
+}
+
+/// Types that are asked for in every section, whether they are there or not.
+const ALWAYS: [u8; 4] = [0, ATTRIBUTE_MP_REACH, ATTRIBUTE_MP_UNREACH, 255];
+
+/// A walk over a section, at its end and past it, and a search for every type of it and for some others.
+fn section_requests(section: &[u8], attributes: &[Attribute]) -> Vec<Request> {
+    let places = attributes.iter().map(|attribute| attribute.place).chain([section.len(), section.len() + 1]);
+    let kinds: BTreeSet<u8> = attributes.iter().map(|attribute| attribute.kind).chain(ALWAYS).collect();
+    let walked = places.map(|place| walk(section, place as u32));
+    walked.chain(kinds.into_iter().map(|kind| search(section, kind))).collect()
 }
 
 impl Capture {
@@ -147,9 +162,11 @@ impl Capture {
         requests.push(on_bytes(12, self.settings(), (0, 0), body));
         let (_withdrawn, rest) = counted(body)?;
         let (section, _announced) = counted(rest)?;
-        for attribute in attributes(section)? {
-            requests.extend(self.attribute_requests(&attribute)?);
+        let attributes = attributes(section)?;
+        for attribute in &attributes {
+            requests.extend(self.attribute_requests(attribute)?);
         }
+        requests.extend(section_requests(section, &attributes));
         Some(requests)
     }
 

@@ -1,6 +1,7 @@
 //! All short inputs: every byte string of at most two bytes, longer ones over the bytes where something changes,
 //! and all combinations of boundary values for headers, rows and written messages.
 
+use super::attributes::{search, walk};
 use super::examples::{on_bytes, request, words};
 use records::{Request, ADD_PATH, FOUR_BYTE_AS, GUESS, IPV6, STRICT};
 
@@ -15,6 +16,7 @@ impl Short {
                 .chain(written_rows())
                 .chain(aggregators())
                 .chain(headers())
+                .chain(attributes())
                 .chain(updates())
                 .chain(paths())
                 .chain(lists()),
@@ -88,6 +90,12 @@ fn updates() -> impl Iterator<Item = Request> {
         requests.push(on_bytes(12, 0, (0, 0), &bytes));
         requests
     })
+}
+
+/// Sections over no length, a length and the extended bit, of one type and of MP_REACH_NLRI.
+fn attributes() -> impl Iterator<Item = Request> {
+    strings(&[0, 1, 14, 16], 0..=7)
+        .flat_map(|section| [walk(&section, 0), walk(&section, 3), search(&section, 1), search(&section, 14)])
 }
 
 fn headers() -> impl Iterator<Item = Request> {

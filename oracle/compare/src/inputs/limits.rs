@@ -1,12 +1,25 @@
 //! Requests at each size limit, one under it and one over it. What is over a limit is malformed too, or has no room, so that
 //! the order of the two checks is seen.
 
+use super::attributes::{search, walk};
 use super::examples::{on_bytes, request, words};
 use super::pieces;
 use records::{Request, ADD_PATH, FOUR_BYTE_AS, GUESS, IPV6};
 
 pub fn all() -> Vec<Request> {
-    [lists(), paths(), updates(), written_lists(), written_paths(), written_messages(), written_updates()].concat()
+    [
+        lists(),
+        paths(),
+        updates(),
+        written_lists(),
+        written_paths(),
+        written_messages(),
+        written_updates(),
+        values(),
+        sections(),
+        over_long_sections(),
+    ]
+    .concat()
 }
 
 /// Default routes, without ids or with ids 0; over the limit the first length is out of range.
@@ -135,12 +148,49 @@ fn written_updates() -> Vec<Request> {
     ]
 }
 
+/// Values around the most that one length byte can tell, in both forms, before an ORIGIN; and with the last byte not there.
+fn values() -> Vec<Request> {
+    let mut requests = vec![];
+    for flags in [0xC0, 0xD0] {
+        for length in [0, 1, 254, 255, 256, 257] {
+            let attribute = pieces::with_head(flags, 200, &vec![0; length]);
+            let (last, cut) = (attribute.len() as u32, attribute.len() - 1);
+            let section = [attribute, vec![0x40, 1, 1, 2]].concat();
+            requests.extend([walk(&section, 0), walk(&section, last), walk(&section[..cut], 0)]);
+            requests.extend([search(&section, 200), search(&section, 1), search(&section[..cut], 200)]);
+        }
+    }
+    requests
+}
+
+/// Three zeros are an attribute of type 0, and these one of type 14.
+const EMPTY_MP_REACH: [u8; 3] = [0, 14, 0];
+
+/// The longest section: one attribute, one that claims a byte more, or 21,845 of them.
+fn sections() -> Vec<Request> {
+    let longest = pieces::with_head(0xD0, 200, &[0; 65_531]);
+    let cut = &pieces::with_head(0xD0, 200, &[0; 65_532])[..65_535];
+    let zeros = |count: usize| vec![0; 3 * count];
+    let last = [&zeros(21_844)[..], &EMPTY_MP_REACH].concat();
+    let second = [&EMPTY_MP_REACH, &zeros(21_843)[..], &EMPTY_MP_REACH].concat();
+    let mut requests: Vec<Request> = [0, 65_532, 65_533, 65_535].map(|place| walk(&longest, place)).to_vec();
+    requests.extend([search(&longest, 200), walk(cut, 0), search(cut, 200)]);
+    requests.extend([search(&last, 14), search(&last, 15), search(&last[..65_534], 0), search(&second, 0)]);
+    requests
+}
+
+/// One byte over the limit: else all right, at any place; with a last byte that is cut; and with a second MP_REACH_NLRI.
+fn over_long_sections() -> Vec<Request> {
+    let whole = pieces::with_head(0xD0, 200, &[0; 65_532]);
+    let second = [EMPTY_MP_REACH.repeat(2), vec![0; 65_530]].concat();
+    let mut requests: Vec<Request> = [0, 65_533, 65_536, u32::MAX].map(|place| walk(&whole, place)).to_vec();
+    requests.extend([search(&whole, 200), search(&vec![0; 65_536], 0), search(&second, 0)]);
+    requests
+}
+
 /// One or two attributes of a type that the crate keeps raw, so that the section has exactly this size.
 pub fn raw_attribute(size: usize) -> Vec<u8> {
-    let one = |kind: u8, size: usize| {
-        let length = (size - 4) as u16;
-        [&[0xD0, kind], &length.to_be_bytes()[..], &vec![5; size - 4]].concat()
-    };
+    let one = |kind: u8, size: usize| pieces::with_head(0xD0, kind, &vec![5; size - 4]);
     if size < 65_000 {
         one(200, size)
     } else {

@@ -1,6 +1,7 @@
 //! The inputs: examples of document 01, every least length, limit and order of two checks, captured messages, all short
 //! inputs, random ones around every boundary, damaged copies of good ones, and a few of the largest sizes.
 
+pub mod attributes;
 pub mod captures;
 pub mod checks;
 pub mod examples;
@@ -13,9 +14,9 @@ use crate::rng::Rng;
 use captures::Capture;
 use records::Request;
 
-/// Document 01's examples, and its numbers and orders of checks: these stand in the sample too.
+/// Document 01's examples, and the numbers and orders of checks of it and of the requests: these stand in the sample too.
 pub fn numbers() -> Vec<Request> {
-    [examples::all(), checks::all(), limits::all()].concat()
+    [examples::all(), checks::all(), attributes::all(), limits::all()].concat()
 }
 
 /// An endless source of requests, the same for the same seed and captures.

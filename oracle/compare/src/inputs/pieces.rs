@@ -3,6 +3,9 @@
 use crate::rng::Rng;
 
 pub const IPV4_LENGTHS: &[u8] = &[0, 1, 7, 8, 9, 15, 16, 17, 22, 23, 24, 25, 30, 31, 32];
+/// The bit of an attribute's flags with which its length is of two bytes.
+const EXTENDED_LENGTH: u8 = 0x10;
+
 pub const IPV6_LENGTHS: &[u8] = &[0, 1, 8, 9, 31, 32, 33, 48, 63, 64, 65, 96, 97, 127, 128];
 
 /// A prefix length: mostly at a boundary, at times any byte.
@@ -109,7 +112,12 @@ pub fn segment_count(rng: &mut Rng) -> usize {
 
 /// An attribute section: well-formed attributes, most of a kind that the crate writes back as it was.
 pub fn attributes(rng: &mut Rng, width: usize) -> Vec<u8> {
-    let mut section = vec![];
+    attribute_list(rng, width).concat()
+}
+
+/// The attributes of such a section, one by one.
+pub fn attribute_list(rng: &mut Rng, width: usize) -> Vec<Vec<u8>> {
+    let mut attributes = vec![];
     for _ in 0..rng.under(5) {
         let (kind, value): (u8, Vec<u8>) = match rng.under(12) {
             0 => (1, vec![rng.under(3) as u8]),
@@ -136,19 +144,34 @@ pub fn attributes(rng: &mut Rng, width: usize) -> Vec<u8> {
                 (rng.byte(), rng.bytes(size))
             }
         };
-        section.extend(attribute(rng, kind, &value));
+        attributes.push(attribute(rng, kind, &value));
     }
-    section
+    attributes
 }
 
 fn attribute(rng: &mut Rng, kind: u8, value: &[u8]) -> Vec<u8> {
     let flags = rng.pick(&[0x40, 0x80, 0xC0, 0xE0]);
-    if value.len() > 255 || rng.one_in(6) {
-        let length = (value.len() as u16).to_be_bytes();
-        [&[flags | 0x10, kind], &length[..], value].concat()
-    } else {
-        [&[flags, kind, value.len() as u8], value].concat()
+    let extended = value.len() > 255 || rng.one_in(6);
+    with_head(if extended { flags | EXTENDED_LENGTH } else { flags }, kind, value)
+}
+
+/// An attribute with as many length bytes as its flags say; one of them keeps the value's length modulo 256.
+pub fn with_head(flags: u8, kind: u8, value: &[u8]) -> Vec<u8> {
+    let length = (value.len() as u16).to_be_bytes();
+    let told = if flags & EXTENDED_LENGTH != 0 { &length[..] } else { &length[1..] };
+    [&[flags, kind], told, value].concat()
+}
+
+/// Attributes of any flags, whose types come again and again; the values are any bytes.
+pub fn any_attribute_list(rng: &mut Rng) -> Vec<Vec<u8>> {
+    let mut attributes = vec![];
+    for _ in 0..count(rng) {
+        let kind = if rng.one_in(3) { rng.byte() } else { rng.pick(&[0, 1, 2, 14, 14, 15, 15, 200, 255]) };
+        let size = if rng.one_in(30) { 250 + rng.under(12) } else { rng.under(7) };
+        let flags = if size > 255 { rng.byte() | EXTENDED_LENGTH } else { rng.byte() };
+        attributes.push(with_head(flags, kind, &rng.bytes(size)));
     }
+    attributes
 }
 
 /// An UPDATE body of three sections.

@@ -1,10 +1,11 @@
 //! Random requests: good inputs, damaged ones, rooms just enough and just too small, and a few of the largest.
 
+use super::attributes::{search, walk};
 use super::examples::{on_bytes, words};
 use super::limits::raw_attribute;
 use super::pieces::{self, damage};
 use crate::rng::Rng;
-use records::{Request, ADD_PATH, FOUR_BYTE_AS, GUESS, IPV6};
+use records::{Request, ADD_PATH, FOUR_BYTE_AS, GUESS, IPV6, LAST_OP};
 
 /// One in this many requests is large.
 const LARGE: usize = 1_500;
@@ -22,12 +23,14 @@ pub fn request_of(rng: &mut Rng, op: u8, settings: u8) -> Request {
         14 => write_path(rng, settings),
         15 => write_aggregator(rng, settings),
         16 => write_message(rng, settings),
-        _ => write_update(rng, settings),
+        17 => write_update(rng, settings),
+        18 => walked(rng, settings),
+        _ => searched(rng, settings),
     }
 }
 
 pub fn request(rng: &mut Rng) -> Request {
-    let op = 1 + rng.under(17) as u8;
+    let op = 1 + rng.under(usize::from(LAST_OP)) as u8;
     if rng.one_in(LARGE) {
         large(rng, op)
     } else {
@@ -265,10 +268,55 @@ fn write_update(rng: &mut Rng, settings: u8) -> Request {
     request_on(17, settings, places, [words(&withdrawn), attributes, words(&announced)], 0)
 }
 
+/// A section, at times damaged, and where its attributes stood before.
+fn section(rng: &mut Rng, settings: u8) -> (Vec<u8>, Vec<usize>) {
+    let list =
+        if rng.one_in(2) { pieces::any_attribute_list(rng) } else { pieces::attribute_list(rng, width(settings)) };
+    let starts = (0..=list.len()).map(|count| list[..count].concat().len()).collect();
+    let mut section = list.concat();
+    if rng.one_in(3) {
+        damage(rng, &mut section);
+    }
+    (section, starts)
+}
+
+/// The attribute at a place: mostly where one stands or stood, at times anywhere.
+fn walked(rng: &mut Rng, settings: u8) -> Request {
+    let (section, starts) = section(rng, settings);
+    let place = match rng.under(8) {
+        0 => rng.under(section.len() + 4) as u32,
+        1 => rng.word(),
+        2 => section.len() as u32,
+        _ => rng.pick(&starts) as u32,
+    };
+    let parts = [section, words(&[place]), vec![]];
+    request_on(18, settings, rng.under(9), parts, rng.byte())
+}
+
+/// The first attribute of a type: mostly of one that stands there.
+fn searched(rng: &mut Rng, settings: u8) -> Request {
+    let (section, starts) = section(rng, settings);
+    let kind = match rng.under(6) {
+        0 => rng.byte(),
+        1 => rng.pick(&[14, 15]),
+        _ => section.get(rng.pick(&starts) + 1).copied().unwrap_or(1),
+    };
+    let size = rng.under(5);
+    let parts = [section, rng.bytes(size), vec![]];
+    request_on(19, settings, rng.under(9), parts, kind)
+}
+
 /// A request near the greatest size of its op.
 pub fn large(rng: &mut Rng, op: u8) -> Request {
     let settings = rng.under(32) as u8;
     let size = rng.pick(&[65_514, 65_515, 65_516, 65_517, 65_534, 65_535, 65_536, 65_540]);
+    match op {
+        13..=17 => large_to_write(rng, op, settings, size),
+        _ => large_to_read(rng, op, settings, size),
+    }
+}
+
+fn large_to_read(rng: &mut Rng, op: u8, settings: u8, size: usize) -> Request {
     match op {
         1..=5 => {
             let ipv6 = settings & IPV6 != 0 && op <= 3;
@@ -294,6 +342,13 @@ pub fn large(rng: &mut Rng, op: u8) -> Request {
             let announced = large_list(rng, size - 4 - half, settings & ADD_PATH != 0, false);
             on_bytes(op, settings, (400_000, 400_000), &pieces::body(&withdrawn, &[], &announced))
         }
+        18 => walk(&large_section(rng, size), rng.pick(&[0, 30_000, 65_000, size as u32 - 3, size as u32, u32::MAX])),
+        _ => search(&large_section(rng, size), rng.pick(&[14, 15, 200, 201])),
+    }
+}
+
+fn large_to_write(rng: &mut Rng, op: u8, settings: u8, size: usize) -> Request {
+    match op {
         13 => {
             let numbers = large_rows(rng, settings, settings & IPV6 != 0, size, 16_600);
             request_on(13, settings, rng.pick(&[70_000, 1_000]), [words(&numbers), vec![], vec![]], 0)
@@ -318,6 +373,22 @@ pub fn large(rng: &mut Rng, op: u8) -> Request {
             request_on(17, settings, 70_000, [words(&withdrawn), attributes, words(&announced)], 0)
         }
     }
+}
+
+/// A section of exactly `size` bytes: two long attributes, or as many of one length as fit, and then zeros.
+fn large_section(rng: &mut Rng, size: usize) -> Vec<u8> {
+    if rng.one_in(3) {
+        return raw_attribute(size);
+    }
+    let kinds: &[u8] = if rng.one_in(4) { &[14, 15, 200] } else { &[200, 201, 202] };
+    let length = rng.pick(&[0, 5, 255, 256, 4_000]);
+    let mut section = vec![];
+    while section.len() + 4 + length <= size {
+        let flags = if length > 255 { 0xD0 } else { rng.byte() };
+        section.extend(pieces::with_head(flags, rng.pick(kinds), &vec![9; length]));
+    }
+    section.resize(size, 0);
+    section
 }
 
 /// Items of one form up to exactly `size` bytes as far as they go; the last may be cut.
