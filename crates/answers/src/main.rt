@@ -15,9 +15,6 @@ mod writes;
 // Output is written when this many bytes wait: what is left holds any line.
 const WAITING_LIMIT: usize = 64000;
 
-// The first op that writes; those below it read.
-const FIRST_WRITER: u8 = 13;
-
 // Where the run is: the bytes in hand are input[start..have], the output that waits is out[..at].
 struct State {
     start: usize,
@@ -30,15 +27,15 @@ struct State {
 
 // The call that a record names: what it answered, and in the stores and the output what it left.
 fn call(h: Head, s: &[u8], a: &mut [u32], b: &mut [u32], w: &mut [u8]) -> Numbers {
-    if h.op < FIRST_WRITER {
-        return reads::answer(h, request::part_one(s, h), a, b);
+    if writes::is_writer(h.op) {
+        return writes::answer(h, s, a, b, w);
     }
-    writes::answer(h, s, a, b, w)
+    reads::answer(h, s, a, b)
 }
 
 // The stores or the output that an op lends.
 fn show_lent(h: Head, a: &[u32], b: &[u32], w: &[u8], out: &mut [u8], at: usize) -> usize {
-    if FIRST_WRITER <= h.op {
+    if writes::is_writer(h.op) {
         return line::bytes(out, at, w, h.room_a);
     }
     let stores = reads::stores_lent(h.op);

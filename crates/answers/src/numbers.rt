@@ -1,6 +1,7 @@
 // What a call answered, as the numbers of its line: a refusal number or 0, then the call's own, which are 0 where it refused.
 use crate::store;
 use asns::AggregatorAnswer;
+use attributes::AttributeAnswer;
 use messages::MessageAnswer;
 use paths::PathAnswer;
 use routes::ListAnswer;
@@ -171,6 +172,62 @@ pub fn of_parts(a: PartsAnswer, withdrawn: &[u8], attributes: &[u8], announced: 
             store::sum_of_bytes(attributes),
             announced.len(),
             store::sum_of_bytes(announced),
+            0,
+            0,
+        ],
+    }
+}
+
+// An attribute, with the length and the sum of its value, which is empty where there is none.
+pub fn of_attribute(a: AttributeAnswer, value: &[u8]) -> Numbers {
+    let size = value.len();
+    let sum = store::sum_of_bytes(value);
+    match a {
+        AttributeAnswer::Attribute {
+            flags,
+            kind,
+            start,
+            length: _,
+            next,
+        } => Numbers {
+            count: 8,
+            values: [
+                0,
+                1,
+                flags as usize,
+                kind as usize,
+                start,
+                size,
+                sum,
+                next,
+                0,
+            ],
+        },
+        AttributeAnswer::Absent => Numbers {
+            count: 8,
+            values: [0, 0, 0, 0, 0, size, sum, 0, 0],
+        },
+        AttributeAnswer::Refused(n) => Numbers {
+            count: 8,
+            values: [n as usize, 0, 0, 0, 0, size, sum, 0, 0],
+        },
+    }
+}
+
+// The same of a search: without the type, which was asked for, and the next place.
+pub fn of_found(a: AttributeAnswer, value: &[u8]) -> Numbers {
+    let all = of_attribute(a, value);
+    let values = all.values;
+    Numbers {
+        count: 6,
+        values: [
+            values[0],
+            values[1],
+            values[2],
+            values[4],
+            values[5],
+            values[6],
+            0,
             0,
             0,
         ],

@@ -1,4 +1,4 @@
-// Ops 1 to 12: the readers.
+// Ops 1 to 12, 18 and 19: the readers.
 use crate::numbers;
 use crate::numbers::Numbers;
 use crate::request;
@@ -38,8 +38,27 @@ fn parts(s: &[u8]) -> Numbers {
     )
 }
 
+// Op 18: place is a number of four bytes.
+fn attribute(section: &[u8], place: &[u8]) -> Numbers {
+    let at = wire::u32_at(place, 0) as usize;
+    numbers::of_attribute(
+        attributes::attribute_at(section, at),
+        attributes::value_at(section, at),
+    )
+}
+
+// Op 19.
+fn found(section: &[u8], kind: u8) -> Numbers {
+    numbers::of_found(
+        attributes::find_attribute(section, kind),
+        attributes::find_value(section, kind),
+    )
+}
+
 // The ops that lend no store.
-fn plain(op: u8, settings: u8, s: &[u8]) -> Numbers {
+fn plain(h: Head, s: &[u8], two: &[u8]) -> Numbers {
+    let op = h.op;
+    let settings = h.settings;
     match op {
         1 => numbers::of_route(routes::try_parse_prefix(
             s,
@@ -49,6 +68,8 @@ fn plain(op: u8, settings: u8, s: &[u8]) -> Numbers {
         8 => numbers::of_aggregator(asns::parse_aggregator(s, request::width(settings))),
         9 => message(settings, s),
         12 => parts(s),
+        18 => attribute(s, two),
+        19 => found(s, h.argument),
         _ => counted(op, settings, s),
     }
 }
@@ -82,10 +103,11 @@ fn into_stores(op: u8, settings: u8, s: &[u8], a: &mut [u32], b: &mut [u32]) -> 
 
 // The refusal and the numbers of a reader; what it left stands in the stores.
 pub fn answer(h: Head, s: &[u8], a: &mut [u32], b: &mut [u32]) -> Numbers {
+    let one = request::part_one(s, h);
     if stores_lent(h.op) == 0 {
-        return plain(h.op, h.settings, s);
+        return plain(h, one, request::part_two(s, h));
     }
     let m = wire::least(h.room_a, a.len());
     let n = wire::least(h.room_b, b.len());
-    into_stores(h.op, h.settings, s, &mut a[..m], &mut b[..n])
+    into_stores(h.op, h.settings, one, &mut a[..m], &mut b[..n])
 }

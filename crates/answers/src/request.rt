@@ -9,6 +9,9 @@ pub const HEAD_SIZE: usize = 18;
 // The most places of a store and the most bytes of a part.
 pub const ROOM_LIMIT: usize = 400000;
 
+// The last op; the first is 1.
+pub const LAST_OP: u8 = 19;
+
 // What stands before the three parts: op, settings, the places lent in two stores, the lengths of the parts, an argument.
 pub struct Head {
     pub op: u8,
@@ -67,7 +70,7 @@ fn whole(size: usize) -> bool {
     size % 4 == 0
 }
 
-// Whether the parts that hold numbers are whole numbers.
+// Whether the parts that hold numbers are whole numbers, and as many as an op takes.
 fn numbers_whole(h: Head) -> bool {
     let op = h.op;
     match op {
@@ -75,6 +78,7 @@ fn numbers_whole(h: Head) -> bool {
         14 => whole(wire::most(h.one % 4, h.two % 4)),
         15 => h.one == 8,
         17 => whole(wire::most(h.one % 4, h.three % 4)),
+        18 => h.two == 4,
         _ => true,
     }
 }
@@ -90,7 +94,7 @@ fn is_given(h: Head) -> bool {
     if h.op < 1 {
         return false;
     }
-    if 17 < h.op {
+    if LAST_OP < h.op {
         return false;
     }
     if 31 < h.settings {

@@ -6,6 +6,14 @@ use crate::request::Head;
 use crate::store;
 use wire::WriteAnswer;
 
+// Whether an op writes; the others read.
+pub fn is_writer(op: u8) -> bool {
+    match op {
+        13..=17 => true,
+        _ => false,
+    }
+}
+
 // Op 15.
 fn aggregator(h: Head, one: &[u8], w: &mut [u8]) -> WriteAnswer {
     asns::encode_aggregator(
