@@ -23,6 +23,7 @@ enum {
     LONG_SEGMENT = 12,
     WIDE_NUMBER = 13,
     NOT_WRITABLE = 14,
+    REPEATED_MP = 15,
 };
 
 enum { MOST_BYTES = 65535, MOST_BODY = 65516, HEADER = 19, ROW = 6, HAS_ID = 256 };
@@ -302,6 +303,55 @@ uint64_t plain_parse_bgp_update_message(const uint8_t *body, size_t n, uint8_t s
     if (!refusal_of(first)) fill_in_form(parts.withdrawn, parts.withdrawn_length, false, form, withdrawn);
     if (!refusal_of(second)) fill_in_form(parts.announced, parts.announced_length, false, form, announced);
     return update_answer(first, second);
+}
+
+// ---- The attribute section ----
+
+enum { MP_REACH = 14, MP_UNREACH = 15, EXTENDED = 0x10 };
+
+// The value of the attribute that starts at `from`, and its length; NULL if it is cut.
+INLINE const uint8_t *value_of(const uint8_t *from, const uint8_t *end, size_t *length) {
+    if (end - from < 3) return NULL;
+    const uint8_t *value = from + 3;
+    *length = from[2];
+    if (from[0] & EXTENDED) {
+        if (end - from < 4) return NULL;
+        *length = *length << 8 | from[3];
+        value++;
+    }
+    return (size_t)(end - value) < *length ? NULL : value;
+}
+
+INLINE uint64_t attribute_answer(const uint8_t *s, const uint8_t *from, const uint8_t *value, size_t length) {
+    return answer(value - s, length, from[1] | (uint32_t)from[0] << 8);
+}
+
+uint64_t plain_attribute_at(const uint8_t *s, size_t n, size_t place) {
+    if (n > MOST_BYTES) return refused(OVER_LONG);
+    if (place >= n) return 0;
+    size_t length;
+    const uint8_t *value = value_of(s + place, s + n, &length);
+    return value ? attribute_answer(s, s + place, value, length) : refused(TOO_SHORT);
+}
+
+uint64_t plain_find_attribute(const uint8_t *s, size_t n, uint8_t kind) {
+    if (n > MOST_BYTES) return refused(OVER_LONG);
+    const uint8_t *from = s, *end = s + n;
+    uint64_t found = 0;
+    unsigned seen = 0;
+    while (from < end) {
+        size_t length;
+        const uint8_t *value = value_of(from, end, &length);
+        if (!value) return refused(TOO_SHORT);
+        unsigned type = from[1];
+        if (type == MP_REACH || type == MP_UNREACH) {
+            if (seen & 1u << (type & 1)) return refused(REPEATED_MP);
+            seen |= 1u << (type & 1);
+        }
+        if (type == kind && !found) found = attribute_answer(s, from, value, length);
+        from = value + length;
+    }
+    return found;
 }
 
 // ---- The message header ----

@@ -1,16 +1,16 @@
 //! A library's answer to a request record of the comparison, so that answers of all sides are compared as one kind.
 
 use crate::library::Library;
-use records::{lent_of, sum_bytes, Answer, Lent, Request, ADD_PATH, FOUR_BYTE_AS, GUESS, IPV6, STRICT};
+use records::{lent_of, numbers_of, sum_bytes, Answer, Lent, Request, ADD_PATH, FOUR_BYTE_AS, GUESS, IPV6, STRICT};
 
 /// The four fields of an answer word; the last is the refusal.
-fn fields(word: u64) -> [u64; 4] {
+pub fn fields(word: u64) -> [u64; 4] {
     [0, 16, 32, 48].map(|shift| word >> shift & 0xFFFF)
 }
 
 /// Whether the C boundary has a call for this op.
 pub fn has_call(op: u8) -> bool {
-    matches!(op, 2 | 3 | 6..=17)
+    matches!(op, 2 | 3 | 6..=19)
 }
 
 pub fn four_bytes(request: &Request) -> u8 {
@@ -37,6 +37,7 @@ pub fn answer<L: Library>(request: &Request) -> Answer {
         9 => header::<L>(request),
         12 => parts::<L>(request),
         13..=17 => written::<L>(request, &mut lent),
+        18 | 19 => attribute::<L>(request),
         _ => read::<L>(request, &mut lent),
     };
     let refusal = fields(word)[3] as u32;
@@ -115,6 +116,29 @@ fn parts<L: Library>(request: &Request) -> (u64, Vec<u64>) {
         numbers.extend([length, sum_bytes(bytes)]);
     }
     (0, numbers)
+}
+
+/// Where there is none, every number is 0. The word of a search has the type too, which its answer leaves out.
+fn attribute<L: Library>(request: &Request) -> (u64, Vec<u64>) {
+    let section = request.parts[0].as_slice();
+    let is_search = request.op == 19;
+    let word = if is_search {
+        L::find_attribute(section, request.argument)
+    } else {
+        L::attribute_at(section, request.numbers(1)[0] as usize)
+    };
+    let [start, length, c, refusal] = fields(word);
+    if start == 0 {
+        assert_eq!(word, refusal << 48, "no attribute has no numbers");
+        return (word, vec![0; numbers_of(request.op)]);
+    }
+    let (flags, kind, next) = (c >> 8, c & 0xFF, start + length);
+    let sum = sum_bytes(&section[start as usize..next as usize]);
+    if is_search {
+        assert_eq!(kind, u64::from(request.argument), "the type that is searched");
+        return (word, vec![1, flags, start, length, sum]);
+    }
+    (word, vec![1, flags, kind, start, length, sum, next])
 }
 
 fn written<L: Library>(request: &Request, lent: &mut [Lent]) -> (u64, Vec<u64>) {

@@ -27,6 +27,7 @@ pub enum Kind {
     ReadTen,
     Count,
     Path,
+    Attributes,
     Write,
     /// The request names no share of the crate's time for it.
     Other,
@@ -40,6 +41,7 @@ impl Kind {
             Kind::Read => Some(0.40),
             Kind::ReadTen => Some(0.20),
             Kind::Count => Some(0.15),
+            Kind::Attributes => Some(0.10),
             Kind::Path | Kind::Write => Some(0.33),
             Kind::Other | Kind::WithoutCrate => None,
         }
@@ -102,6 +104,7 @@ impl<'a> Cases<'a> {
         made.ten()?;
         made.captured_lists()?;
         made.updates()?;
+        made.attributes()?;
         made.paths()?;
         made.headers()?;
         made.other_writers()?;
@@ -119,21 +122,27 @@ impl<'a> Cases<'a> {
         self.wanted.is_empty() || self.wanted.iter().any(|part| name.contains(part))
     }
 
-    /// Adds a case that is wanted, once all sides answered alike. Captured messages may have nothing for it.
+    /// Adds a case of which every request is timed.
     fn add(&mut self, name: &str, kind: Kind, requests: &[Request]) -> io::Result<()> {
+        self.add_of(name, kind, requests, requests)
+    }
+
+    /// Adds a case that is wanted, once all sides answered all requests alike that the timed ones stand for. Captured
+    /// messages may have nothing for it.
+    fn add_of(&mut self, name: &str, kind: Kind, all: &[Request], timed: &[Request]) -> io::Result<()> {
         if !self.wants(name) {
             return Ok(());
         }
-        if requests.is_empty() {
+        if timed.is_empty() {
             say(&crate::me(), format!("{name}: left out, since no captured message has any"));
             return Ok(());
         }
-        for asked in requests {
+        for asked in all {
             if !compare_timed(name, asked)? && !matches!(kind, Kind::WithoutCrate) {
                 return Err(io::Error::other(format!("{name}: the crate has no answer")));
             }
         }
-        let calls = Calls::new(&often_enough(requests), Lending::Same);
+        let calls = Calls::new(&often_enough(timed), Lending::Same);
         self.cases.push(Case { name: name.to_string(), kind, calls });
         Ok(())
     }
@@ -253,6 +262,19 @@ impl<'a> Cases<'a> {
         Ok(())
     }
 
+    /// A walk is timed as a whole, from its first place on. The types that are searched stand in most of the sections, in
+    /// some, and in none.
+    fn attributes(&mut self) -> io::Result<()> {
+        let walks: Vec<Vec<Request>> = inputs::searches(self.captures, 0).iter().map(inputs::walk).collect();
+        let starts: Vec<Request> = walks.iter().map(|walk| walk[0].clone()).collect();
+        self.add_of("walk attributes: captures", Kind::Attributes, &walks.concat(), &starts)?;
+        for (what, kind) in [("AS_PATH", 2), ("MP_REACH_NLRI", 14), ("EXTENDED COMMUNITIES, absent", 16)] {
+            let searches = inputs::searches(self.captures, kind);
+            self.add(&format!("find attribute: captures, {what}"), Kind::Attributes, &searches)?;
+        }
+        Ok(())
+    }
+
     fn paths(&mut self) -> io::Result<()> {
         let reads = inputs::captured(self.captures, 6);
         self.read_and_count("path: captures", Kind::Path, &reads)?;
@@ -305,7 +327,7 @@ fn write_aggregator(read: &Request) -> Request {
 /// Requests of tiny calls again and again.
 fn often_enough(requests: &[Request]) -> Vec<Request> {
     let bytes: usize = requests.iter().map(|asked| asked.parts[0].len()).sum();
-    let is_tiny = matches!(requests[0].op, 7..=9 | 15 | 16) && bytes / requests.len() < 1_000;
+    let is_tiny = matches!(requests[0].op, 7..=9 | 15 | 16 | 18 | 19) && bytes / requests.len() < 1_000;
     let times = if is_tiny { TINY_CALLS.div_ceil(requests.len()) } else { 1 };
     requests.iter().cycle().take(times * requests.len()).cloned().collect()
 }

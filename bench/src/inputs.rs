@@ -195,6 +195,27 @@ pub fn captured(captures: &[Capture], op: u8) -> Vec<Request> {
     all.filter(|request| request.op == op && (!listed || crate_reads_so(request))).cloned().collect()
 }
 
+/// The attribute sections of the captured UPDATEs, as requests to search one type.
+pub fn searches(captures: &[Capture], kind: u8) -> Vec<Request> {
+    let section = |body: &Request| [attributes(&body.parts[0]).to_vec(), vec![], vec![]];
+    captured(captures, 12).iter().map(|body| request(19, body.settings, (0, 0), section(body), kind)).collect()
+}
+
+/// The requests of a walk over the section that is searched: at each attribute of it, and where none is left.
+pub fn walk(search: &Request) -> Vec<Request> {
+    let mut walk: Vec<Request> = vec![];
+    let mut place = Some(0);
+    while let Some(at) = place {
+        let parts = [search.parts[0].clone(), words(&[at]), vec![]];
+        let asked = request(18, search.settings, (0, 0), parts, 0);
+        let answer = model::answer(&asked);
+        assert_eq!(answer.refusal, 0, "a captured section is good");
+        place = (answer.numbers[0] == 1).then_some(answer.numbers[6] as u32);
+        walk.push(asked);
+    }
+    walk
+}
+
 /// The counting request of a reading one.
 pub fn counting(read: &Request) -> Request {
     Request { op: read.op + 1, room_a: 0, room_b: 0, ..read.clone() }

@@ -40,6 +40,12 @@ libraries! {
     fn withdrawn_part(body: &[u8]) passes (body.as_ptr() => Bytes, body.len() => usize);
     fn attribute_part(body: &[u8]) passes (body.as_ptr() => Bytes, body.len() => usize);
     fn announced_part(body: &[u8]) passes (body.as_ptr() => Bytes, body.len() => usize);
+    fn attribute_at(section: &[u8], place: usize) passes (
+        section.as_ptr() => Bytes, section.len() => usize, place => usize
+    );
+    fn find_attribute(section: &[u8], kind: u8) passes (
+        section.as_ptr() => Bytes, section.len() => usize, kind => u8
+    );
     fn count_bgp_update_message(body: &[u8], settings: u8) passes (
         body.as_ptr() => Bytes, body.len() => usize, settings => u8
     );

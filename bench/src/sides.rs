@@ -2,13 +2,14 @@
 //! Not timed: making the requests, and the handles (`Bytes`) that the crate's readers take and drop. Timed: the calls,
 //! and giving back what the crate's calls hand out.
 
-use crate::answers::{add_path, four_bytes, ipv6, list_settings};
+use crate::answers::{add_path, fields, four_bytes, ipv6, list_settings};
 use crate::library::Library;
 use crate::measure::{timed, Side};
 use bytes::{Bytes, BytesMut};
 use crate_oracle::models::{Afi, AsPath, Asn, AsnLength, BgpMessage, BgpUpdateMessage, NetworkPrefix};
 use crate_oracle::oracle::private::{Inside, PrivateCalls};
 use crate_oracle::oracle::{messages, paths, routes};
+use crate_oracle::parser::bgp::attributes::parse_attributes;
 use crate_oracle::parser::bgp::messages::{parse_bgp_message, parse_bgp_update_message};
 use crate_oracle::parser::utils::{encode_nlri_prefixes, parse_nlri_list};
 use records::{Request, ADD_PATH, FOUR_BYTE_AS, IPV6, STRICT};
@@ -124,6 +125,7 @@ impl Calls {
             2 | 3 => self.lists::<L>(),
             6..=9 => self.values::<L>(),
             10 | 11 => self.updates::<L>(),
+            18 | 19 => self.attributes::<L>(),
             _ => self.writers::<L>(),
         }
     }
@@ -160,6 +162,14 @@ impl Calls {
         }
     }
 
+    fn attributes<L: Library>(&self) -> Side {
+        if self.op() == 18 {
+            self.batch(|call, _| walk::<L>(call.s()))
+        } else {
+            self.batch(|call, _| L::find_attribute(call.s(), call.request.argument))
+        }
+    }
+
     fn writers<L: Library>(&self) -> Side {
         match self.op() {
             13 => self
@@ -192,6 +202,9 @@ impl Calls {
             8 => self.owning(|bytes, call| Inside::parse_aggregator(bytes, &width(call))),
             9 => self.owning(|mut bytes, call| parse_bgp_message(&mut bytes, call.has(ADD_PATH), &width(call))),
             10 | 11 => self.owning(|bytes, call| parse_bgp_update_message(bytes, call.has(ADD_PATH), &width(call))),
+            18 | 19 => {
+                self.owning(|bytes, call| parse_attributes(bytes, &width(call), call.has(ADD_PATH), None, None, None))
+            }
             _ => self.crate_writers(),
         }
     }
@@ -229,6 +242,19 @@ impl Calls {
     /// Each request's value as the crate has it, with the width of its AS numbers.
     fn values_of<T>(&self, value: impl Fn(&Call) -> T) -> Vec<(T, AsnLength)> {
         self.calls.iter().map(|call| (value(call), width(&call.request))).collect()
+    }
+}
+
+/// Visits each attribute of a section, as its callers do: the next one stands where the value before it ends.
+fn walk<L: Library>(section: &[u8]) -> u64 {
+    let (mut place, mut visited) = (0, 0);
+    loop {
+        let [start, length, ..] = fields(L::attribute_at(section, place));
+        if start == 0 {
+            return visited;
+        }
+        place = (start + length) as usize;
+        visited += 1;
     }
 }
 
