@@ -1,6 +1,6 @@
 -- What the calls answer of a section that can be cut into attributes, and of one that cannot.
 -- Assumes nothing.
-use Prim.Native.Nat.{ℕ, zero, suc, _+_, _-_, max, _≤_, _<_}
+use Prim.Native.Nat.{ℕ, _+_, _-_, max, _≤_, _<_}
 use mathlib.Core.Path.{_≡_, refl, sym, ap, ap₂, subst, _∙_}
 use mathlib.Core.List.{List, [], _∷_, _++_, map, append-nil}
 use native.Mathlib.Nat.{lt-of-not-le}
@@ -12,9 +12,9 @@ use Rattle.wire.specs.Extent.{within}
 use lib.Dec.{eqb}
 use Rattle.wire.specs.Answer.{flag}
 use Rattle.wire.specs.Cutting.{Each, none, one, joined, Cutting}
-use Rattle.wire.specs.Refusal.{truncated, tooLong, repeatedMpNlri, listLimit}
-use Rattle.wire.specs.Walk.{took, stop, Reading, readAll, tally}
-use Rattle.wire.proofs.ChoiceLaws.{pick-leb, pick-eqb}
+use Rattle.wire.specs.Refusal.{truncated, repeatedMpNlri, listLimit}
+use Rattle.wire.specs.Walk.{Reading, readAll, tally}
+use Rattle.wire.proofs.ChoiceLaws.{pick-eqb}
 use Rattle.wire.proofs.CuttingLaws.{joined-append, item-long, front-read, cut-read, read-front}
 use Rattle.wire.proofs.WalkLaws.{tally-append, all-ind}
 use Rattle.attributes.specs.Attribute.{mpReachNlri, mpUnreachNlri, headSize, Attribute, sizeOf, attributeFront, attributeOf, sectionOf}
@@ -24,7 +24,7 @@ use Rattle.attributes.specs.declared.AttributeAnswer.{AttributeAnswer}
 use Rattle.attributes.specs.declared.AttributeAnswer.the-variants as A
 use Rattle.attributes.proofs.AttributeLaws.{attribute-sound, attribute-names, taken-at, first-here, first-later}
 use Rattle.attributes.proofs.FormedLaws.{formed-size, decides}
-use Rattle.attributes.proofs.SearchTurn.{judged-once, judged-twice, find-long, find-refused, find-first}
+use Rattle.attributes.proofs.SearchTurn.{judged-once, judged-twice, find-refused, find-first}
 
 -- ---- an item, and what is told of it
 
