@@ -3,14 +3,14 @@
 use Prim.Native.Nat.{ℕ, _+_, _-_, _≤_, _<_}
 use mathlib.Core.Path.{_≡_, refl, sym, ap, ap₂, subst, _∙_}
 use mathlib.Core.List.{List, [], _∷_}
-use mathlib.Core.Bool.{true, false}
-use native.Mathlib.Nat.{add-zero}
+use mathlib.Core.Bool.{Bool, true, false}
 use native.Mathlib.Omega.{arith}
 use borrow.Author.Tests.{le-leb, lt-leb, eq-eqb, ne-eqb}
 use lib.ListN.{length, getD, drop, length-drop}
 use lib.Dec.{eqb}
-use lib.Seq.{getD-drop, drop-drop}
+use lib.Seq.{drop-drop}
 use denote.Ref.{RefT}
+use Rattle.wire.specs.Choice.{pick}
 use Rattle.wire.specs.Extent.{Extent, clipped, PartOf}
 use Rattle.wire.specs.Number.{be, beAt}
 use Rattle.wire.specs.Refusal.{truncated, tooLong, listLimit}
@@ -21,9 +21,10 @@ use Rattle.wire.proofs.NumberLaws.{padded-cells}
 use Rattle.wire.proofs.WalkLaws.{Sound, all-ind}
 use Rattle.attributes.specs.Attribute.{isExtended, lengthSize, headSize, Attribute, sizeOf, attributeFront, NoState, attributeOf}
 use Rattle.attributes.specs.Promises.{valueAt, standing, foundAt, attributeAt, firstOf}
-use Rattle.attributes.specs.Private.{allThere, sizeIn, Inside}
+use Rattle.attributes.specs.Private.{wholeIf, frontOf, Inside}
 use Rattle.attributes.specs.declared.AttributeAnswer.{AttributeAnswer}
 use Rattle.attributes.specs.declared.AttributeAnswer.the-variants as A
+use Rattle.attributes.specs.declared.FrontAnswer.the-variants.{Whole, Cut}
 
 -- ---- the octets before the value
 
@@ -74,41 +75,58 @@ module _ (s : List ℕ) where
       (λ h e. let z : _≡_ {A = ℕ} 0 1 = cc in absurd (omega (arith, z)))
       (λ h e. let k : truncated ≡ n = cc in sym k)
 
-  -- ---- its bytes in one number
+  -- ---- what stands at the front of bytes, as code reads it
 
-  pub sized : (n : ℕ) → n ≡ sizeIn (attributeOf tt s) → 0 < n → attributeOf tt s ≡ took n (attributeFront s) tt
-  sized n =
-      step-cases (λ (x : Step NoState Attribute). n ≡ sizeIn x → 0 < n → x ≡ took n (attributeFront s) tt) tt
-      (λ h e pos. ap (λ (u : ℕ). took u (attributeFront s) tt) (sym e))
-      (λ h e pos. absurd (omega arith))
+  module _ (place : ℕ) where
+    pub head-cut : length s < headSize (getD s 0 0) → Cut ≡ frontOf place (attributeOf tt s)
+    unfolding attributeFront
+    head-cut lt = step-cases (λ (x : Step NoState Attribute). Cut ≡ frontOf place x) tt (λ h. absurd (omega (arith, h, lt))) (λ h. refl)
 
-  pub unsized : (n : ℕ) → n ≡ sizeIn (attributeOf tt s) → n ≡ 0 → attributeOf tt s ≡ stop truncated
-  unsized n =
-      step-cases (λ (x : Step NoState Attribute). n ≡ sizeIn x → n ≡ 0 → x ≡ stop truncated) tt
-      (λ h e none. absurd (omega (arith, e, none, head-bounds (attributeFront s .flags))))
-      (λ h e none. refl)
+    whole-front : (head size : ℕ) → headSize (getD s 0 0) ≡ head → attributeFront s .size ≡ size → head ≤ length s
+        → wholeIf (getD s 0 0) (getD s 1 0) (place + head) size (length s - head) ≡ frontOf place (attributeOf tt s)
+    unfolding attributeFront wholeIf
+    whole-front head size h m le =
+        step-cases (λ (x : Step NoState Attribute). wholeIf (getD s 0 0) (getD s 1 0) (place + head) size (length s - head) ≡ frontOf place x) tt
+        (λ room.
+        let fits : size ≤ length s - head = omega (arith, room, h, m) in
+        let next : place + head + size ≡ place + (headSize (getD s 0 0) + attributeFront s .size) = omega (arith, h, m) in
+        let start : place + head ≡ place + headSize (getD s 0 0) = ap (λ (n : ℕ). place + n) (sym h) in
+        ap (λ (t : Bool). pick t (Whole (getD s 0 0) (getD s 1 0) (place + head) size (place + head + size)) Cut) (le-leb size (length s - head) fits)
+        ∙ ap₂ (λ (b n : ℕ). Whole (getD s 0 0) (getD s 1 0) b size n) start next
+        ∙ ap (λ (l : ℕ). Whole (getD s 0 0) (getD s 1 0) (place + headSize (getD s 0 0)) l (place + (headSize (getD s 0 0) + attributeFront s .size))) (sym m))
+        (λ cut.
+        let over : length s - head < size = omega (arith, cut, h, m, le) in
+        rw (lt-leb size (length s - head) over))
 
-  pub size-there : allThere (sizeOf (attributeFront s)) (length s) ≡ sizeIn (attributeOf tt s)
-  unfolding allThere
-  size-there =
-      step-cases (λ (x : Step NoState Attribute). allThere (sizeOf (attributeFront s)) (length s) ≡ sizeIn x) tt
-      (λ h. rw (le-leb (sizeOf (attributeFront s)) (length s) h))
-      (λ h. rw (lt-leb (sizeOf (attributeFront s)) (length s) h))
+    pub long-front : isExtended (getD s 0 0) ≡ true → 4 ≤ length s → wholeIf (getD s 0 0) (getD s 1 0) (place + 4) (beAt s 2 2) (length s - 4) ≡ frontOf place (attributeOf tt s)
+    unfolding attributeFront headSize lengthSize
+    long-front e le = whole-front 4 (beAt s 2 2) (long-head (getD s 0 0) e) (rw e) le
 
-  pub head-cut : length s < headSize (getD s 0 0) → 0 ≡ sizeIn (attributeOf tt s)
-  unfolding attributeFront
-  head-cut lt =
-      step-cases (λ (x : Step NoState Attribute). 0 ≡ sizeIn x) tt
-      (λ h. absurd (omega (arith, h, lt)))
-      (λ h. refl)
+    pub short-front : isExtended (getD s 0 0) ≡ false → 3 ≤ length s → wholeIf (getD s 0 0) (getD s 1 0) (place + 3) (getD s 2 0) (length s - 3) ≡ frontOf place (attributeOf tt s)
+    unfolding attributeFront headSize lengthSize beAt
+    short-front e le =
+        let one : be (getD s 2 0 ∷ []) ≡ getD s 2 0 = omega arith in
+        whole-front 3 (getD s 2 0) (short-head (getD s 0 0) e) (rw e (ap be (padded-cells s 2 1) ∙ one)) le
 
-  pub long-size : isExtended (getD s 0 0) ≡ true → sizeOf (attributeFront s) ≡ 4 + beAt s 2 2
-  unfolding attributeFront headSize lengthSize
-  long-size e = rw e
+    -- the step behind it
+    pub front-whole : (flags kind start size next : ℕ) → frontOf place (attributeOf tt s) ≡ Whole flags kind start size next
+        → (attributeOf tt s ≡ took (sizeOf (attributeFront s)) (attributeFront s) tt) × (attributeFront s .kind ≡ kind) × (place + sizeOf (attributeFront s) ≡ next)
+        × (standing place (attributeFront s) ≡ A.Attribute flags kind start size next)
+    unfolding standing
+    front-whole flags kind start size next =
+        step-cases
+        (λ (x : Step NoState Attribute). frontOf place x ≡ Whole flags kind start size next
+        → (x ≡ took (sizeOf (attributeFront s)) (attributeFront s) tt) × (attributeFront s .kind ≡ kind) × (place + sizeOf (attributeFront s) ≡ next)
+        × (standing place (attributeFront s) ≡ A.Attribute flags kind start size next))
+        tt
+        (λ h e. (refl, (cc), (cc), (cc)))
+        (λ h e. let z : _≡_ {A = ℕ} 0 1 = cc in absurd (omega (arith, z)))
 
-  pub short-size : isExtended (getD s 0 0) ≡ false → sizeOf (attributeFront s) ≡ 3 + getD s 2 0
-  unfolding attributeFront headSize lengthSize beAt
-  short-size e = rw e (let one : be (getD s 2 0 ∷ []) ≡ getD s 2 0 = omega arith in ap (λ (n : ℕ). 3 + n) (ap be (padded-cells s 2 1) ∙ one))
+    pub front-cut : frontOf place (attributeOf tt s) ≡ Cut → attributeOf tt s ≡ stop truncated
+    front-cut =
+        step-cases (λ (x : Step NoState Attribute). frontOf place x ≡ Cut → x ≡ stop truncated) tt
+        (λ h e. let z : _≡_ {A = ℕ} 0 1 = cc in absurd (omega (arith, z)))
+        (λ h e. refl)
 
 pub attribute-sound : Sound attributeOf
 attribute-sound = record {
@@ -149,49 +167,33 @@ module _ (s : List ℕ) where
     pub taken-at : (used : ℕ) (a : Attribute) → place < length s → attributeOf tt (drop place s) ≡ took used a tt → standing place a ≡ attributeAt s place
     taken-at used a h e = sym (at-place h ∙ ap (foundAt place) e)
 
-  -- of the attribute at a place, from its bytes in one number: its head and all of it are there
-  pub size-bounds : (place n : ℕ) → place ≤ length s → n ≡ sizeIn (attributeOf tt (drop place s)) → 0 < n
-      → (headSize (getD s place 0) ≤ n) × (3 ≤ n) × (place + n ≤ length s)
-  unfolding attributeFront
-  size-bounds place n h e pos =
-      let t = attribute-taken (drop place s) tt tt n (attributeFront (drop place s)) (sized (drop place s) n e pos) in
-      let f : getD (drop place s) 0 0 ≡ getD s place 0 = getD-drop place s 0 0 ∙ ap (λ (j : ℕ). getD s j 0) (add-zero place) in
-      let b : headSize (getD s place 0) + attributeFront (drop place s) .size ≡ n = ap (λ (x : ℕ). headSize x + attributeFront (drop place s) .size) (sym f) ∙ t .size in
-      (omega (arith, b), omega (arith, b, head-bounds (getD s place 0)), omega (arith, t .room, length-drop place s))
-
-  pub kind-at : (place : ℕ) → getD s (place + 1) 0 ≡ attributeFront (drop place s) .kind
-  unfolding attributeFront
-  kind-at place = sym (getD-drop place s 1 0)
-
-  -- as code reads it
-  pub read-at : (place n head : ℕ) → length s ≤ listLimit → place < length s → n ≡ sizeIn (attributeOf tt (drop place s)) → 0 < n → head ≡ headSize (getD s place 0)
-      → A.Attribute (getD s place 0) (getD s (place + 1) 0) (place + head) (n - head) (place + n) ≡ attributeAt s place
-  unfolding attributeFront standing
-  read-at place n head short h e pos he =
-      let t : List ℕ = drop place s in
-      let a : Attribute = attributeFront t in
-      let step = sized t n e pos in
-      let flags : getD s place 0 ≡ getD t 0 0 = sym (getD-drop place s 0 0 ∙ ap (λ (j : ℕ). getD s j 0) (add-zero place)) in
-      let kind : getD s (place + 1) 0 ≡ getD t 1 0 = kind-at place in
-      let head-is : head ≡ headSize (getD t 0 0) = he ∙ ap headSize flags in
-      let size : headSize (getD t 0 0) + a .size ≡ n = attribute-taken t tt tt n a step .size in
-      let start : place + head ≡ place + headSize (getD t 0 0) = ap (λ (k : ℕ). place + k) head-is in
-      let long : n - head ≡ a .size = omega (arith, size, head-is) in
-      let next : place + n ≡ place + (headSize (getD t 0 0) + a .size) = ap (λ (k : ℕ). place + k) (sym size) in
-      let same : A.Attribute (getD s place 0) (getD s (place + 1) 0) (place + head) (n - head) (place + n) ≡ standing place a = cc in
-      same ∙ taken-at short place n a h step
+  -- by cases: too long, none left, taken or cut
+  pub at-cases : (place : ℕ) (P : AttributeAnswer → Type 0) → (listLimit < length s → P (A.Refused tooLong)) → (length s ≤ listLimit → length s ≤ place → P A.Absent)
+      → ((used : ℕ) (a : Attribute) → length s ≤ listLimit → place < length s → attributeOf tt (drop place s) ≡ took used a tt → P (standing place a))
+      → (length s ≤ listLimit → place < length s → attributeOf tt (drop place s) ≡ stop truncated → P (A.Refused truncated))
+      → P (attributeAt s place)
+  unfolding attributeAt
+  at-cases place P long end there cut =
+      pick-leb P (length s) listLimit _ _
+      (λ short. pick-leb P (length s) place _ _
+      (λ le. end short le)
+      (λ lt. step-cases (drop place s) (λ (x : Step NoState Attribute). attributeOf tt (drop place s) ≡ x → P (foundAt place x)) tt
+      (λ room e. there _ _ short lt e)
+      (λ _ e. cut short lt e)
+      refl))
+      long
 
   -- what is found lies in the section
   pub attribute-inside : (place : ℕ) → Inside (attributeAt s place) (length s)
-  unfolding attributeAt standing
+  unfolding standing
   attribute-inside place =
-      pick-leb (λ (x : AttributeAnswer). Inside x (length s)) (length s) listLimit _ _
-      (λ short. pick-leb (λ (x : AttributeAnswer). Inside x (length s)) (length s) place _ _
+      at-cases place (λ (x : AttributeAnswer). Inside x (length s))
       (λ _. omega arith)
-      (λ h. step-cases (drop place s) (λ (x : Step NoState Attribute). Inside (foundAt place x) (length s)) tt
-      (λ room. omega (arith, room, length-drop place s))
-      (λ _. omega arith)))
-      (λ _. omega arith)
+      (λ _ _. omega arith)
+      (λ used a short lt e.
+      let t = attribute-taken (drop place s) tt tt used a e in
+      omega (arith, t .size, t .room, length-drop place s))
+      (λ _ _ _. omega arith)
 
   -- the first of a type is the attribute at some place: at the end where there is none
   pub first-at : (kind : ℕ) → length s ≤ listLimit → (place : ℕ) × (firstOf kind 0 (readAll attributeOf tt s .rows) ≡ attributeAt s place)

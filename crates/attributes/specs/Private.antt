@@ -1,20 +1,22 @@
--- What only private functions' contracts name: the bytes of an attribute in one number, and a value that lies in its section.
+-- What only private functions' contracts name: what stands at the front of bytes, and a value that lies in its section.
 use Prim.Native.Nat.{ℕ, _+_, _≤_}
 use lib.Dec.{leb}
 use Rattle.wire.specs.Choice.{pick}
 use Rattle.wire.specs.Walk.{Step, took, stop}
-use Rattle.attributes.specs.Attribute.{Attribute, NoState}
+use Rattle.attributes.specs.Attribute.{headSize, Attribute, sizeOf, NoState}
 use Rattle.attributes.specs.Promises.{valueAt}
 use Rattle.attributes.specs.declared.AttributeAnswer.{AttributeAnswer}
+use Rattle.attributes.specs.declared.FrontAnswer.{FrontAnswer}
+use Rattle.attributes.specs.declared.FrontAnswer.the-variants.{Whole, Cut}
 
--- so many where they are there, and else 0
-unfoldable pub allThere : ℕ → ℕ → ℕ
-allThere size there = pick (leb size there) size 0
+-- an attribute whose value has so many bytes from a place on, where so many are left
+unfoldable pub wholeIf : ℕ → ℕ → ℕ → ℕ → ℕ → FrontAnswer
+wholeIf flags kind start size left = pick (leb size left) (Whole flags kind start size (start + size)) Cut
 
--- how many bytes a step took, 0 where it refused
-abbrev pub sizeIn : Step NoState Attribute → ℕ
-sizeIn (took used a st) = used
-sizeIn (stop n) = 0
+-- what a step found in bytes that stand at a place
+abbrev pub frontOf : ℕ → Step NoState Attribute → FrontAnswer
+frontOf place (took used a st) = Whole (a .flags) (a .kind) (place + headSize (a .flags)) (a .size) (place + sizeOf a)
+frontOf place (stop n) = Cut
 
 -- the value lies within so many bytes
 abbrev pub Inside : AttributeAnswer → ℕ → Type 0

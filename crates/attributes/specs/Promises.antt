@@ -1,7 +1,6 @@
 -- What the calls on an attribute section answer, from the bytes and from the reading of them that `Attribute` defines.
 use Prim.Native.Nat.{ℕ, _+_, max}
 use mathlib.Core.List.{List, [], _∷_}
-use mathlib.Core.Bool.{Bool}
 use lib.ListN.{length, drop}
 use lib.Dec.{leb, ltb, eqb}
 use Rattle.wire.specs.Answer.{Answer, given, refusal, valueIn, flag, answerBy}
@@ -51,13 +50,13 @@ firstOf kind place (a ∷ rows) = pick (eqb (a .kind) kind) (standing place a) (
 unfoldable pub countOf : ℕ → List Attribute → ℕ
 countOf kind rows = tally (λ a. flag (eqb (a .kind) kind)) rows
 
--- RFC 7606 section 3: MP_REACH_NLRI or MP_UNREACH_NLRI is there more than once
-unfoldable pub repeated : List Attribute → Bool
-repeated rows = ltb 1 (max (countOf mpReachNlri rows) (countOf mpUnreachNlri rows))
+-- RFC 7606 section 3: 15 where MP_REACH_NLRI or MP_UNREACH_NLRI is there more than once, so often as given, and else another number
+unfoldable pub verdictOf : ℕ → ℕ → ℕ → ℕ
+verdictOf reach unreach otherwise = pick (ltb 1 (max reach unreach)) repeatedMpNlri otherwise
 
 -- the section's verdict: an attribute that is cut stands after all that are read, so 15 among these comes before its 2
 unfoldable pub judged : Reading Attribute → ℕ
-judged r = pick (repeated (r .rows)) repeatedMpNlri (r .verdict)
+judged r = verdictOf (countOf mpReachNlri (r .rows)) (countOf mpUnreachNlri (r .rows)) (r .verdict)
 
 -- 1 first; then the verdict; then the first of the type
 unfoldable pub findAnswer : List ℕ → ℕ → AttributeAnswer

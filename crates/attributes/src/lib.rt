@@ -1,15 +1,16 @@
 // The attribute section of an UPDATE (RFC 4271 section 4.3), attribute by attribute: the one at a place, and the first of a type (RFC 7606
 // section 3). No value is looked into.
 ghost use mathlib.Core.Path.{_≡_};
-ghost use Prim.Native.Nat.{min};
+ghost use Prim.Native.Nat.{_+_, max, _≤_};
 ghost use lib.ListN.{length};
 ghost use lib.Dec.{eqb};
 ghost use Rattle.wire.specs.Answer.{flag};
 ghost use Rattle.wire.specs.Choice.{pick};
 ghost use Rattle.wire.specs.Extent.{PartOf};
-ghost use Rattle.attributes.specs.Attribute.{isExtended, headSize, attributeOf};
-ghost use Rattle.attributes.specs.Promises.{valueAt, attributeAt, findAnswer};
-ghost use Rattle.attributes.specs.Private.{allThere, sizeIn, Inside};
+ghost use Rattle.wire.specs.Refusal.{listLimit};
+ghost use Rattle.attributes.specs.Attribute.{isExtended, attributeOf};
+ghost use Rattle.attributes.specs.Promises.{valueAt, attributeAt, verdictOf, findAnswer};
+ghost use Rattle.attributes.specs.Private.{wholeIf, frontOf, Inside};
 use wire::refusal;
 
 pub mod kind;
@@ -36,6 +37,18 @@ pub enum AttributeAnswer {
     Refused(u8),
 }
 
+// What stands at the front of a section: an attribute, with where its value starts and where it ends, or not all of one.
+enum FrontAnswer {
+    Whole {
+        flags: u8,
+        kind: u8,
+        start: usize,
+        length: usize,
+        next: usize,
+    },
+    Cut,
+}
+
 // Whether the length has two bytes.
 fn is_extended(flags: u8) -> bool
     ensures { λ r. ⌜ r ≡ isExtended flags ⌝ }
@@ -43,66 +56,79 @@ fn is_extended(flags: u8) -> bool
     flags / EXTENDED_LENGTH % 2 == 1
 }
 
-// The bytes before the value.
-fn head_size(flags: u8) -> usize
-    ensures { λ r. ⌜ r ≡ headSize flags ⌝ }
+// An attribute whose value has so many bytes from a place on, where so many are left.
+fn whole(flags: u8, kind: u8, start: usize, length: usize, left: usize) -> FrontAnswer
+    requires { ⌜ start + left ≤ listLimit ⌝ }
+    ensures { λ r. ⌜ r ≡ wholeIf flags kind start length left ⌝ }
 {
-    if is_extended(flags) {
-        LONG_HEAD
-    } else {
-        SHORT_HEAD
+    if left < length {
+        return FrontAnswer::Cut;
+    }
+    FrontAnswer::Whole {
+        flags,
+        kind,
+        start,
+        length,
+        next: start + length,
     }
 }
 
-// So many bytes where they are there, and else 0.
-fn all_there(size: usize, there: usize) -> usize
-    ensures { λ r. ⌜ r ≡ allThere size there ⌝ }
-{
-    if there < size {
-        return 0;
-    }
-    size
-}
-
-// The bytes of the attribute at the front, 0 where it is cut.
-fn item_size(s: &[u8]) -> usize
-    ensures { λ r. ⌜ r ≡ sizeIn (attributeOf tt (now (s .entry))) ⌝ }
+// The attribute at the front of bytes that stand at a place. Each length computes its own end: the next attribute waits for it.
+fn front(s: &[u8], place: usize) -> FrontAnswer
+    requires { ⌜ place + length (now s) ≤ listLimit ⌝ }
+    ensures { λ r. ⌜ r ≡ frontOf place (attributeOf tt (now (s .entry))) ⌝ }
 {
     if s.len() < SHORT_HEAD {
-        return 0;
+        return FrontAnswer::Cut;
     }
-    if is_extended(s[0]) {
+    let flags = s[0];
+    if is_extended(flags) {
         if s.len() < LONG_HEAD {
-            return 0;
+            return FrontAnswer::Cut;
         }
-        return all_there(LONG_HEAD + wire::u16_at(&s[2..4], 0) as usize, s.len());
+        return whole(
+            flags,
+            s[1],
+            place + LONG_HEAD,
+            wire::u16_at(&s[2..4], 0) as usize,
+            s.len() - LONG_HEAD,
+        );
     }
-    all_there(SHORT_HEAD + s[2] as usize, s.len())
+    whole(
+        flags,
+        s[1],
+        place + SHORT_HEAD,
+        s[2] as usize,
+        s.len() - SHORT_HEAD,
+    )
 }
 
 // The attribute at a place of a section.
 pub fn attribute_at(section: &[u8], place: usize) -> AttributeAnswer
     ensures { λ r. ⌜ r ≡ attributeAt (now (section .entry)) place ⌝ }
 {
-    if wire::LIST_LIMIT < section.len() {
-        return AttributeAnswer::Refused(refusal::TOO_LONG);
-    }
-    if section.len() <= place {
+    if section.len() <= wire::LIST_LIMIT {
+        if place < section.len() {
+            return match front(&section[place..], place) {
+                FrontAnswer::Whole {
+                    flags,
+                    kind,
+                    start,
+                    length,
+                    next,
+                } => AttributeAnswer::Attribute {
+                    flags,
+                    kind,
+                    start,
+                    length,
+                    next,
+                },
+                FrontAnswer::Cut => AttributeAnswer::Refused(refusal::TRUNCATED),
+            };
+        }
         return AttributeAnswer::Absent;
     }
-    let size = item_size(&section[place..]);
-    if size == 0 {
-        return AttributeAnswer::Refused(refusal::TRUNCATED);
-    }
-    let flags = section[place];
-    let head = head_size(flags);
-    AttributeAnswer::Attribute {
-        flags,
-        kind: section[place + 1],
-        start: place + head,
-        length: size - head,
-        next: place + size,
-    }
+    AttributeAnswer::Refused(refusal::TOO_LONG)
 }
 
 // The value of an attribute of a section, and nothing where there is none.
@@ -137,11 +163,21 @@ fn is_kind(kind: u8, wanted: u8) -> usize
     if kind == wanted { 1 } else { 0 }
 }
 
-// The place of the first attribute of a type so far, where one stands at `at` or none does.
-fn first_place(first: usize, at: usize, same: bool) -> usize
-    ensures { λ r. ⌜ r ≡ pick same (min first at) first ⌝ }
+// How many bytes were left at the first attribute of a type so far, where one stands with so many left or none does; 0 where there was none.
+fn first_left(first: usize, left: usize, same: bool) -> usize
+    ensures { λ r. ⌜ r ≡ pick same (max first left) first ⌝ }
 {
-    if same { wire::least(first, at) } else { first }
+    if same { wire::most(first, left) } else { first }
+}
+
+// What is wrong with a section: 15 where one of the two types is there more than once, and else the number given.
+fn verdict(reach: usize, unreach: usize, otherwise: u8) -> u8
+    ensures { λ r. ⌜ r ≡ verdictOf reach unreach otherwise ⌝ }
+{
+    if 1 < wire::most(reach, unreach) {
+        return refusal::REPEATED_MP_NLRI;
+    }
+    otherwise
 }
 
 // The first attribute of a type, where the whole section is good: no attribute is cut, and MP_REACH_NLRI and MP_UNREACH_NLRI stand there once at
@@ -152,25 +188,34 @@ pub fn find_attribute(section: &[u8], kind: u8) -> AttributeAnswer
     if wire::LIST_LIMIT < section.len() {
         return AttributeAnswer::Refused(refusal::TOO_LONG);
     }
-    let mut at: usize = 0;
     let mut reach: usize = 0;
     let mut unreach: usize = 0;
-    let mut first = section.len();
-    while at < section.len() {
-        let size = item_size(&section[at..]);
-        if size == 0 {
-            return AttributeAnswer::Refused(refusal::TRUNCATED);
+    let mut first: usize = 0;
+    let mut rest = &section[..];
+    while 0 < rest.len() {
+        match front(rest, 0) {
+            FrontAnswer::Whole {
+                flags: _,
+                kind: found,
+                start: _,
+                length: _,
+                next,
+            } => {
+                reach = reach + is_kind(found, kind::MP_REACH_NLRI);
+                unreach = unreach + is_kind(found, kind::MP_UNREACH_NLRI);
+                first = first_left(first, rest.len(), found == kind);
+                rest = &rest[next..];
+            }
+            FrontAnswer::Cut => {
+                return AttributeAnswer::Refused(verdict(reach, unreach, refusal::TRUNCATED));
+            }
         }
-        let found = section[at + 1];
-        reach = reach + is_kind(found, kind::MP_REACH_NLRI);
-        unreach = unreach + is_kind(found, kind::MP_UNREACH_NLRI);
-        if 1 < wire::most(reach, unreach) {
-            return AttributeAnswer::Refused(refusal::REPEATED_MP_NLRI);
-        }
-        first = first_place(first, at, found == kind);
-        at = at + size;
     }
-    attribute_at(section, first)
+    let number = verdict(reach, unreach, 0);
+    if number != 0 {
+        return AttributeAnswer::Refused(number);
+    }
+    attribute_at(section, section.len() - first)
 }
 
 // The value of the first attribute of a type, and nothing where there is none.
