@@ -1,7 +1,7 @@
 -- One attribute of an UPDATE's attribute section, and a section of them. RFC 4271 section 4.3: a flags octet, a type octet, a length of one octet,
 -- or of two where the Extended Length bit of the flags is set, and that many octets of value.
 use Prim.Native.Nat.{ℕ, _+_, _/_, _%_}
-use mathlib.Core.List.{List, []}
+use mathlib.Core.List.{List}
 use mathlib.Core.Bool.{Bool}
 use lib.ListN.{length, getD}
 use lib.Dec.{leb, eqb}

@@ -1,15 +1,15 @@
+use borrow.Author.Tests.{le-leb, lt-leb}
+use Rattle.attributes.specs.Private.{allThere}
 use Rattle.attributes.proofs.all_there.Statement.{statement}
 use Rattle.attributes.proofs.all_there.Tie as tie
-use Rattle.attributes.proofs.all_there.Reads as reads
-use Rattle.attributes.proofs.all_there.Lts as lts
 
--- src/lib.rt:62:9
 returns : tie.Need-returns
-returns c = ?
+unfolding allThere
+returns c = simp (lt-leb _ _ (c .if1 .taken))
 
--- src/lib.rt:58:1
 returns-2 : tie.Need-returns-2
-returns-2 c = ?
+unfolding allThere
+returns-2 c = simp (le-leb _ _ (c .if1 .left))
 
 pub all-there-spec : {M : Type 1} → statement M
 all-there-spec = tie.close (tie.spec returns returns-2)

@@ -1,19 +1,13 @@
 use borrow.Author.Needs.{needs}
 use Rattle.attributes.proofs.first_place.Statement.{statement}
 use Rattle.attributes.proofs.first_place.Tie as tie
-use Rattle.attributes.proofs.first_place.Reads as reads
-use Rattle.attributes.proofs.first_place.Lts as lts
-use Rattle.wire.proofs.least.Reads as least-reads
 
--- src/lib.rt:144:15
 least-requires : tie.Need-least-requires
 least-requires c κs = search needs
 
--- src/lib.rt:141:1
 returns : tie.Need-returns
-returns c = ?
+returns c = simp (c .before .if1 .taken, c .least .ensures)
 
--- src/lib.rt:141:1
 returns-2 : tie.Need-returns-2
 returns-2 c = search needs
 

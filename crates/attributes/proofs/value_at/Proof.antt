@@ -1,22 +1,16 @@
+use Rattle.attributes.proofs.AttributeLaws.{attribute-inside, value-by}
 use borrow.Author.Needs.{needs}
 use Rattle.attributes.proofs.value_at.Statement.{statement}
 use Rattle.attributes.proofs.value_at.Tie as tie
-use Rattle.attributes.proofs.value_at.Reads as reads
-use Rattle.attributes.proofs.value_at.Lts as lts
-use Rattle.attributes.proofs.attribute_at.Reads as attribute-at-reads
-use Rattle.attributes.proofs.value_of.Reads as value-of-reads
 
--- src/lib.rt:130:23
 attribute-at-requires : tie.Need-attribute-at-requires
 attribute-at-requires c κs = search needs
 
--- src/lib.rt:130:5
 value-of-requires : tie.Need-value-of-requires
-value-of-requires c κs = ?
+value-of-requires c κs = rw (c .attribute-at .ensures) (attribute-inside (c .before .before .args .section .now) (c .before .before .args .place))
 
--- src/lib.rt:127:1
 returns : tie.Need-returns
-returns c = ?
+returns c = value-by (c .before .before .before .args .section) _ _ _ (c .before .attribute-at .ensures) (c .value-of .ensures)
 
 pub value-at-spec : {M : Type 1} → statement M
 value-at-spec = tie.close (tie.spec attribute-at-requires value-of-requires returns)

@@ -1,0 +1,4 @@
+pub mod AttributeLaws
+pub mod FormedLaws
+pub mod SearchTurn
+pub mod Tight
