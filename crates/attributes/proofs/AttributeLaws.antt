@@ -181,17 +181,33 @@ module _ (s : List ℕ) where
       let same : A.Attribute (getD s place 0) (getD s (place + 1) 0) (place + head) (n - head) (place + n) ≡ standing place a = cc in
       same ∙ taken-at short place n a h step
 
+  -- by cases: too long, none left, taken or cut
+  pub at-cases : (place : ℕ) (P : AttributeAnswer → Type 0) → (listLimit < length s → P (A.Refused tooLong)) → (length s ≤ listLimit → length s ≤ place → P A.Absent)
+      → ((used : ℕ) (a : Attribute) → length s ≤ listLimit → place < length s → attributeOf tt (drop place s) ≡ took used a tt → P (standing place a))
+      → (length s ≤ listLimit → place < length s → attributeOf tt (drop place s) ≡ stop truncated → P (A.Refused truncated))
+      → P (attributeAt s place)
+  unfolding attributeAt
+  at-cases place P long end there cut =
+      pick-leb P (length s) listLimit _ _
+      (λ short. pick-leb P (length s) place _ _
+      (λ le. end short le)
+      (λ lt. step-cases (drop place s) (λ (x : Step NoState Attribute). attributeOf tt (drop place s) ≡ x → P (foundAt place x)) tt
+      (λ room e. there _ _ short lt e)
+      (λ _ e. cut short lt e)
+      refl))
+      long
+
   -- what is found lies in the section
   pub attribute-inside : (place : ℕ) → Inside (attributeAt s place) (length s)
-  unfolding attributeAt standing
+  unfolding standing
   attribute-inside place =
-      pick-leb (λ (x : AttributeAnswer). Inside x (length s)) (length s) listLimit _ _
-      (λ short. pick-leb (λ (x : AttributeAnswer). Inside x (length s)) (length s) place _ _
+      at-cases place (λ (x : AttributeAnswer). Inside x (length s))
       (λ _. omega arith)
-      (λ h. step-cases (drop place s) (λ (x : Step NoState Attribute). Inside (foundAt place x) (length s)) tt
-      (λ room. omega (arith, room, length-drop place s))
-      (λ _. omega arith)))
-      (λ _. omega arith)
+      (λ _ _. omega arith)
+      (λ used a short lt e.
+      let t = attribute-taken (drop place s) tt tt used a e in
+      omega (arith, t .size, t .room, length-drop place s))
+      (λ _ _ _. omega arith)
 
   -- the first of a type is the attribute at some place: at the end where there is none
   pub first-at : (kind : ℕ) → length s ≤ listLimit → (place : ℕ) × (firstOf kind 0 (readAll attributeOf tt s .rows) ≡ attributeAt s place)

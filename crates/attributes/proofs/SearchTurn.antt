@@ -36,11 +36,11 @@ light kind st st′ s used a e = let t = attribute-sound .takes st st′ s used 
 
 -- ---- the verdict
 
-judged-once : (r : Reading Attribute) → max (countOf mpReachNlri (r .rows)) (countOf mpUnreachNlri (r .rows)) ≤ 1 → judged r ≡ r .verdict
+pub judged-once : (r : Reading Attribute) → max (countOf mpReachNlri (r .rows)) (countOf mpUnreachNlri (r .rows)) ≤ 1 → judged r ≡ r .verdict
 unfolding judged repeated
 judged-once r h = rw (le-ltb _ _ h)
 
-judged-twice : (r : Reading Attribute) → 1 < max (countOf mpReachNlri (r .rows)) (countOf mpUnreachNlri (r .rows)) → judged r ≡ repeatedMpNlri
+pub judged-twice : (r : Reading Attribute) → 1 < max (countOf mpReachNlri (r .rows)) (countOf mpUnreachNlri (r .rows)) → judged r ≡ repeatedMpNlri
 unfolding judged repeated
 judged-twice r h = rw (lt-ltb _ _ h)
 
@@ -49,12 +49,12 @@ module _ (s : List ℕ) (kind : ℕ) where
   unfolding findAnswer
   find-long h = rw (lt-leb (length s) listLimit h)
 
-  find-refused : (n : ℕ) → length s ≤ listLimit → judged (sectionOf s) ≡ n → 0 < n → A.Refused n ≡ findAnswer s kind
+  pub find-refused : (n : ℕ) → length s ≤ listLimit → judged (sectionOf s) ≡ n → 0 < n → A.Refused n ≡ findAnswer s kind
   unfolding findAnswer
   find-refused zero h e pos = absurd (omega arith)
   find-refused (suc n) h e pos = rw (le-leb (length s) listLimit h, e)
 
-  find-first : length s ≤ listLimit → judged (sectionOf s) ≡ 0 → firstOf kind 0 (sectionOf s .rows) ≡ findAnswer s kind
+  pub find-first : length s ≤ listLimit → judged (sectionOf s) ≡ 0 → firstOf kind 0 (sectionOf s .rows) ≡ findAnswer s kind
   unfolding findAnswer
   find-first h e = rw (le-leb (length s) listLimit h, e)
 

@@ -13,6 +13,12 @@ use Rattle.wire.specs.Cutting.{Each, none, one, joined, Cutting}
 use Rattle.wire.proofs.NumberLaws.{bytes-take, bytes-drop}
 use Rattle.wire.proofs.WalkLaws.{Sound, all-nil, all-took, all-ind, pieces-nil, pieces-took}
 
+-- items laid end to end, some and those after them
+pub joined-append : (items items′ : List (List ℕ)) → joined (items ++ items′) ≡ joined items ++ joined items′
+unfolding joined
+joined-append [] items′ = refl
+joined-append (item ∷ items) items′ = ap (λ (l : List ℕ). item ++ l) (joined-append items items′) ∙ sym (append-assoc item (joined items) (joined items′))
+
 -- ---- reading
 
 -- a well-formed item at the front is taken whole and for its value, whatever follows it; and what is taken is well formed

@@ -1,8 +1,8 @@
 -- Laws of reading item by item, over any step.
 -- Assumes nothing.
-use Prim.Native.Nat.{ℕ, zero, suc, _-_, _*_, _≤_, _<_}
+use Prim.Native.Nat.{ℕ, zero, suc, _+_, _-_, _*_, _≤_, _<_}
 use mathlib.Core.Path.{_≡_, refl, sym, ap, subst}
-use mathlib.Core.List.{List, [], _∷_}
+use mathlib.Core.List.{List, [], _∷_, _++_}
 use native.Mathlib.Nat.{not-suc-le-zero, le-refl, mul-zero, mul-suc}
 use native.Mathlib.Numerals.{sub-one}
 use native.Mathlib.Omega.{arith}
@@ -95,6 +95,11 @@ pub tally-flat : {A : Type 0} (emit : A → List ℕ) (rows : List A) → tally 
 unfolding tally flat
 tally-flat emit [] = refl
 tally-flat emit (a ∷ rows) = omega (arith, tally-flat emit rows, length-append (emit a) (flat emit rows))
+
+pub tally-append : {A : Type 0} (weight : A → ℕ) (rows rows′ : List A) → tally weight (rows ++ rows′) ≡ tally weight rows + tally weight rows′
+unfolding tally
+tally-append weight [] rows′ = omega arith
+tally-append weight (a ∷ rows) rows′ = omega (arith, tally-append weight rows rows′)
 
 -- values of k places each
 pub flat-length : {A : Type 0} (emit : A → List ℕ) (k : ℕ) → ((a : A) → length (emit a) ≡ k) → (rows : List A) → length (flat emit rows) ≡ k * length rows
