@@ -2,7 +2,7 @@
 
 use super::private::{Inside, PrivateCalls};
 use super::warnings;
-use crate::error::{EncodingError, ParserError};
+use crate::error::{BgpValidationWarning, EncodingError, ParserError};
 use crate::models::*;
 use crate::parser::bgp::attributes::parse_attributes;
 use crate::parser::bgp::messages::{parse_bgp_message, parse_bgp_update_message};
@@ -41,6 +41,13 @@ pub const ALL: &[(&str, fn())] = &[
         "an_attribute_that_the_crate_refuses_does_not_refuse_the_update",
         an_attribute_that_the_crate_refuses_does_not_refuse_the_update,
     ),
+    ("every_repeat_of_an_attribute_is_kept_with_a_warning", every_repeat_of_an_attribute_is_kept_with_a_warning),
+    ("a_cut_last_attribute_is_dropped_with_a_logged_warning", a_cut_last_attribute_is_dropped_with_a_logged_warning),
+    ("one_or_two_last_bytes_of_a_section_are_ignored", one_or_two_last_bytes_of_a_section_are_ignored),
+    (
+        "three_last_bytes_of_a_long_attribute_refuse_the_section",
+        three_last_bytes_of_a_long_attribute_refuse_the_section,
+    ),
     (
         "an_aggregator_with_a_16_byte_address_is_written_and_then_refused",
         an_aggregator_with_a_16_byte_address_is_written_and_then_refused,
@@ -55,6 +62,13 @@ fn message(claimed: u16, kind: u8, body: &[u8]) -> Bytes {
 fn read_message(data: &mut Bytes) -> (Result<BgpMessage, ParserError>, Vec<String>) {
     RECORDER.call_once(warnings::record_from_now_on);
     warnings::during(|| parse_bgp_message(data, false, &AsnLength::Bits32))
+}
+
+/// The attributes of a section, and what was logged.
+fn read_section(section: &[u8]) -> (Result<Attributes, ParserError>, Vec<String>) {
+    RECORDER.call_once(warnings::record_from_now_on);
+    let bytes = Bytes::copy_from_slice(section);
+    warnings::during(|| parse_attributes(bytes, &AsnLength::Bits16, false, None, None, None))
 }
 
 /// One test, so that no other call's warnings come between.
@@ -86,6 +100,7 @@ fn lists_and_values_have_no_greatest_size() {
     let path =
         crate::parser::bgp::attributes::parse_as_path(Bytes::from([[2u8, 0]; 32_768].concat()), &AsnLength::Bits16);
     assert_eq!(path.unwrap().segments.len(), 32_768);
+    assert_eq!(read_section(&[0; 65_538]).0.unwrap().inner.len(), 21_846);
     let body = [vec![0; 5], [8u8, 10].repeat(32_756)].concat();
     assert_eq!(body.len(), 65_517);
     assert!(parse_bgp_update_message(Bytes::from(body), false, &AsnLength::Bits32).is_ok());
@@ -181,9 +196,47 @@ fn an_as_number_remembers_its_width_but_is_compared_by_value() {
 }
 
 fn an_attribute_that_the_crate_refuses_does_not_refuse_the_update() {
-    let section = Bytes::from_static(&[0x40, 2, 1, 2]);
-    let attributes = parse_attributes(section, &AsnLength::Bits16, false, None, None, None).unwrap();
+    let attributes = read_section(&[0x40, 2, 1, 2]).0.unwrap();
     assert!(attributes.as_path().is_none() && attributes.has_validation_warnings());
+}
+
+/// MP_REACH_NLRI and MP_UNREACH_NLRI too; the crate's search gives the first.
+fn every_repeat_of_an_attribute_is_kept_with_a_warning() {
+    for attr_type in [AttrType::ORIGIN, AttrType::MP_REACHABLE_NLRI, AttrType::MP_UNREACHABLE_NLRI] {
+        let kind = u8::from(attr_type);
+        let attributes = read_section(&[0x80, kind, 0, 0xC0, kind, 0]).0.unwrap();
+        assert_eq!(attributes.inner.len(), 2);
+        let repeat = BgpValidationWarning::DuplicateAttribute { attr_type };
+        assert!(attributes.validation_warnings().contains(&repeat));
+        assert_eq!(attributes.get_attr(attr_type).unwrap().flag.bits(), 0x80);
+    }
+}
+
+/// What is kept does not tell, and `has_attr` says that it is there.
+fn a_cut_last_attribute_is_dropped_with_a_logged_warning() {
+    let (attributes, warned) = read_section(&[0x40, 1, 1]);
+    let attributes = attributes.unwrap();
+    assert!(attributes.inner.is_empty() && !attributes.has_validation_warnings());
+    assert_eq!(warned.len(), 1);
+    assert!(attributes.has_attr(AttrType::ORIGIN) && attributes.get_attr(AttrType::ORIGIN).is_none());
+    let second = read_section(&[0x80, 14, 0, 0x80, 14, 1]).0.unwrap();
+    let repeat = BgpValidationWarning::DuplicateAttribute { attr_type: AttrType::MP_REACHABLE_NLRI };
+    assert_eq!(second.inner.len(), 1);
+    assert!(second.validation_warnings().contains(&repeat), "a cut one is a repeat too");
+}
+
+fn one_or_two_last_bytes_of_a_section_are_ignored() {
+    for section in [&[0x40][..], &[0x40, 1], &[0x10, 1]] {
+        let (attributes, warned) = read_section(section);
+        let attributes = attributes.unwrap();
+        assert!(attributes.inner.is_empty() && !attributes.has_validation_warnings() && warned.is_empty());
+    }
+}
+
+fn three_last_bytes_of_a_long_attribute_refuse_the_section() {
+    for section in [&[0x10, 0, 0][..], &[0x40, 1, 1, 0, 0x10, 0, 0]] {
+        assert!(read_section(section).0.is_err());
+    }
 }
 
 fn an_aggregator_with_a_16_byte_address_is_written_and_then_refused() {

@@ -101,14 +101,6 @@ fn attributes(section: &[u8]) -> Option<Vec<Attribute<'_>>> {
 /// Types that are asked for in every section, whether they are there or not.
 const ALWAYS: [u8; 4] = [0, ATTRIBUTE_MP_REACH, ATTRIBUTE_MP_UNREACH, 255];
 
-/// A walk over a section, at its end and past it, and a search for every type of it and for some others.
-fn section_requests(section: &[u8], attributes: &[Attribute]) -> Vec<Request> {
-    let places = attributes.iter().map(|attribute| attribute.place).chain([section.len(), section.len() + 1]);
-    let kinds: BTreeSet<u8> = attributes.iter().map(|attribute| attribute.kind).chain(ALWAYS).collect();
-    let walked = places.map(|place| walk(section, place as u32));
-    walked.chain(kinds.into_iter().map(|kind| search(section, kind))).collect()
-}
-
 impl Capture {
     fn from_line(line: &str) -> Result<Capture, String> {
         let mut capture = Capture {
@@ -166,8 +158,17 @@ impl Capture {
         for attribute in &attributes {
             requests.extend(self.attribute_requests(attribute)?);
         }
-        requests.extend(section_requests(section, &attributes));
+        requests.extend(self.section_requests(section, &attributes));
         Some(requests)
+    }
+
+    /// A walk over a section, at its end and past it, and a search for every type of it and for some others.
+    fn section_requests(&self, section: &[u8], attributes: &[Attribute]) -> Vec<Request> {
+        let places = attributes.iter().map(|attribute| attribute.place).chain([section.len(), section.len() + 1]);
+        let kinds: BTreeSet<u8> = attributes.iter().map(|attribute| attribute.kind).chain(ALWAYS).collect();
+        let walks = places.map(|place| walk(section, place as u32));
+        let searches = kinds.into_iter().map(|kind| search(section, kind));
+        walks.chain(searches).map(|request| Request { settings: self.settings(), ..request }).collect()
     }
 
     fn attribute_requests(&self, attribute: &Attribute) -> Option<Vec<Request>> {
