@@ -55,7 +55,7 @@ fn found(section: &[u8], kind: u8) -> Numbers {
     )
 }
 
-// The ops that lend no store.
+// The ops that lend no store, on part one; op 18 has a second.
 fn plain(h: Head, s: &[u8], two: &[u8]) -> Numbers {
     let op = h.op;
     let settings = h.settings;

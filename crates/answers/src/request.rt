@@ -10,7 +10,7 @@ pub const HEAD_SIZE: usize = 18;
 pub const ROOM_LIMIT: usize = 400000;
 
 // The last op; the first is 1.
-pub const LAST_OP: u8 = 19;
+const LAST_OP: u8 = 19;
 
 // What stands before the three parts: op, settings, the places lent in two stores, the lengths of the parts, an argument.
 pub struct Head {
