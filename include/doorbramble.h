@@ -1,4 +1,5 @@
-/* Doorbramble for C: slot records read; BGP messages, UPDATE bodies, route lists, AS_PATH and AGGREGATOR read and written.
+/* Doorbramble for C: slot records and attribute sections read; BGP messages, UPDATE bodies, route lists, AS_PATH and AGGREGATOR read and
+ * written.
  *
  * The functions are those of the static library that `rt staticlib firmware` writes, target/staticlib/libfirmware.a. Each is proved to
  * give the answer that its contract in crates/firmware/src names, for every input, and to end. None keeps a pointer, allocates, or
@@ -49,11 +50,12 @@ extern "C" {
 /* of this header: the major number rises when a caller that was compiled before would break, the minor one when calls are added.
  * doorbramble_version() is that of the library. */
 #define DOORBRAMBLE_VERSION_MAJOR 1
-#define DOORBRAMBLE_VERSION_MINOR 0
+#define DOORBRAMBLE_VERSION_MINOR 1
 
 /* ---- refusal numbers */
 
-/* a list or value read, or one to write, is over 65,535 bytes; an UPDATE body, read or to write, is over 65,516 */
+/* a list, value or attribute section read, or a list or value to write, is over 65,535 bytes; an UPDATE body, read or to write, is over
+ * 65,516 */
 #define DOORBRAMBLE_TOO_LONG 1
 /* there are fewer bytes than the field needs */
 #define DOORBRAMBLE_TRUNCATED 2
@@ -81,6 +83,8 @@ extern "C" {
 #define DOORBRAMBLE_WIDE_NUMBER 13
 /* a row, or a path, cannot be written: see "Rows to write" and doorbramble_encode_as_path */
 #define DOORBRAMBLE_NOT_WRITABLE 14
+/* an attribute section that is searched has a second MP_REACH_NLRI or a second MP_UNREACH_NLRI */
+#define DOORBRAMBLE_REPEATED_MP_NLRI 15
 
 /* ---- message types, settings, sizes */
 
@@ -107,7 +111,8 @@ extern "C" {
 #define DOORBRAMBLE_KEPT_LIMIT 65535
 /* the bytes of a message's header: its body starts there */
 #define DOORBRAMBLE_HEADER_SIZE 19
-/* the most bytes of a list or of an attribute's value, and of an UPDATE body; the most rows of a body, in both sections together */
+/* the most bytes of a list, of an attribute section or of an attribute's value, and of an UPDATE body; the most rows of a body, in both
+ * sections together */
 #define DOORBRAMBLE_LIST_LIMIT 65535
 #define DOORBRAMBLE_BODY_LIMIT 65516
 #define DOORBRAMBLE_BODY_ROWS 65512
@@ -183,6 +188,34 @@ uint64_t doorbramble_encode_bgp_update_message(const uint32_t *withdrawn, size_t
                                                size_t attributes_len, const uint32_t *announced, size_t announced_len,
                                                uint8_t add_path, uint8_t *out, size_t out_len);
 
+/* ---- attributes */
+
+/* types: two whose values have calls below, and two of which a section that is searched has no second */
+#define DOORBRAMBLE_AS_PATH 2
+#define DOORBRAMBLE_AGGREGATOR 7
+#define DOORBRAMBLE_MP_REACH_NLRI 14
+#define DOORBRAMBLE_MP_UNREACH_NLRI 15
+
+/* The attribute that starts at a place of an attribute section, 0 for the first: a byte of flags, one of its type, its value's length in one
+ * byte or, where the flags have 0x10 set, in two, and the value. Answer: attribute_found; where the value stands in the section, offset and
+ * length; attribute_kind and attribute_flags; attribute_next, the place of the next attribute. None is left at the section's end and past it:
+ * all are 0. One that repeats an earlier one is answered as any other. Refusals: 1 for the section, wherever the place is; then 2 where the
+ * attribute is not all there. Each of a section, as doorbramble_attribute_part found it:
+ *
+ *     uint64_t found = doorbramble_attribute_at(section, size, 0);
+ *     while (doorbramble_attribute_found(found)) {
+ *         use(doorbramble_attribute_kind(found), section + doorbramble_offset(found), doorbramble_length(found));
+ *         found = doorbramble_attribute_at(section, size, doorbramble_attribute_next(found));
+ *     }
+ *     if (doorbramble_refusal(found) != 0)
+ *         refuse(found); */
+uint64_t doorbramble_attribute_at(const uint8_t *section, size_t section_len, size_t place);
+
+/* The first attribute of a type in a section, all of which is judged first. Answer: as above; where the type is absent, all are 0.
+ * Refusals: 1; then in byte order 2 for an attribute that is not all there, and 15 for a second MP_REACH_NLRI or a second MP_UNREACH_NLRI
+ * that is, whatever type is searched for. A second of any other type is passed over. */
+uint64_t doorbramble_find_attribute(const uint8_t *section, size_t section_len, uint8_t kind);
+
 /* ---- route lists */
 
 /* How many routes a list has. Answer: rows. Refusals: 1, then 2 and 7 in byte order. */
@@ -255,6 +288,13 @@ static inline int doorbramble_trailing(uint64_t answer) { return (doorbramble_fi
 /* of a part */
 static inline unsigned doorbramble_offset(uint64_t answer) { return doorbramble_field_a(answer); }
 static inline unsigned doorbramble_length(uint64_t answer) { return doorbramble_field_b(answer); }
+
+/* of an attribute, whose value is such a part: 1 where there is one; its type and its flags; the place of the next one. Each is 0 where there
+ * is none, or a refusal: 0 as the next place is the first again, so a loop asks attribute_found. */
+static inline int doorbramble_attribute_found(uint64_t answer) { return doorbramble_offset(answer) != 0; }
+static inline unsigned doorbramble_attribute_kind(uint64_t answer) { return doorbramble_field_c_low(answer); }
+static inline unsigned doorbramble_attribute_flags(uint64_t answer) { return doorbramble_field_c_high(answer); }
+static inline unsigned doorbramble_attribute_next(uint64_t answer) { return doorbramble_offset(answer) + doorbramble_length(answer); }
 
 /* of an UPDATE body; a verdict is 0 where the section is good, and else a refusal number */
 static inline unsigned doorbramble_withdrawn_rows(uint64_t answer) { return doorbramble_field_a(answer); }

@@ -1,4 +1,4 @@
-/* Reads the slot records of a file and prints the routes of each UPDATE in them.
+/* Reads the slot records of a file and prints the routes of each UPDATE in them, and the types of its attributes.
  *
  * usage: list_slot FILE     `-` is standard input
  *
@@ -43,6 +43,8 @@ static const char *reason(unsigned refusal) {
         return "prefix length over 32";
     case DOORBRAMBLE_ONE_BYTE_SECTION:
         return "section of one nonzero byte";
+    case DOORBRAMBLE_REPEATED_MP_NLRI:
+        return "a second MP_REACH_NLRI or MP_UNREACH_NLRI";
     default:
         return "no such refusal here";
     }
@@ -67,9 +69,26 @@ static int print_section(const char *what, unsigned rows, unsigned verdict, cons
     return verdict == 0;
 }
 
+/* The types of the attributes of a section, repeats too, before one that is cut. Answers whether it is good: a search judges all of it,
+ * whatever type is searched for. */
+static int print_attributes(const uint8_t *section, unsigned size) {
+    uint64_t found = doorbramble_attribute_at(section, size, 0);
+    unsigned refusal = doorbramble_refusal(doorbramble_find_attribute(section, size, DOORBRAMBLE_MP_REACH_NLRI));
+    printf("attributes %u bytes%s", size, doorbramble_attribute_found(found) ? ":" : "");
+    while (doorbramble_attribute_found(found)) {
+        printf(" %u", doorbramble_attribute_kind(found));
+        found = doorbramble_attribute_at(section, size, doorbramble_attribute_next(found));
+    }
+    printf("\n");
+    if (refusal != 0)
+        printf("attributes refused %u: %s\n", refusal, reason(refusal));
+    return refusal == 0;
+}
+
 static int print_update(const uint8_t *body, size_t size, uint8_t settings) {
     uint64_t found = doorbramble_parse_bgp_update_message(body, size, settings, withdrawn, sizeof withdrawn / sizeof withdrawn[0],
                                                           announced, sizeof announced / sizeof announced[0]);
+    uint64_t attributes = doorbramble_attribute_part(body, size);
     unsigned refusal = doorbramble_refusal(found);
     int good;
     if (refusal != 0) {
@@ -77,7 +96,7 @@ static int print_update(const uint8_t *body, size_t size, uint8_t settings) {
         return 0;
     }
     good = print_section("withdrawn", doorbramble_withdrawn_rows(found), doorbramble_withdrawn_verdict(found), withdrawn);
-    printf("attributes %u bytes\n", doorbramble_length(doorbramble_attribute_part(body, size)));
+    good = print_attributes(body + doorbramble_offset(attributes), doorbramble_length(attributes)) && good;
     return print_section("announced", doorbramble_announced_rows(found), doorbramble_announced_verdict(found), announced) && good;
 }
 

@@ -187,6 +187,87 @@ static void updates(void) {
               accepted(4, 0, 0), (const uint8_t *)"\0\0\0", 4);
 }
 
+/* the type and the flags of an attribute, as a field */
+static uint64_t type_of(uint64_t kind, uint64_t flags) { return kind | flags << 8; }
+
+/* ORIGIN; AS_PATH, its length in two bytes; MP_REACH_NLRI; ORIGIN again; MP_UNREACH_NLRI */
+static const uint8_t section[] = {0x40, 1, 1, 0, 0x50, 2, 0, 4, 2, 1, 0xFD, 0xE9, 0x80, 14, 0, 0x40, 1, 1, 2, 0x80, 15, 0};
+
+static void attributes(void) {
+    static const uint8_t kinds[] = {1, 2, 14, 1, 15};
+    const uint64_t origin = type_of(1, 0x40), path = type_of(DOORBRAMBLE_AS_PATH, 0x50), reach = type_of(DOORBRAMBLE_MP_REACH_NLRI, 0x80);
+    uint64_t answer = doorbramble_attribute_at(section, 22, 4);
+    unsigned wrong = 0, i;
+
+    check_answer("attribute_at: two bytes of length", answer, accepted(8, 4, path));
+    expect("the fields of an attribute", doorbramble_attribute_found(answer) == 1 && doorbramble_offset(answer) == 8 &&
+                                             doorbramble_length(answer) == 4 && doorbramble_attribute_kind(answer) == 2 &&
+                                             doorbramble_attribute_flags(answer) == 0x50 && doorbramble_attribute_next(answer) == 12);
+    check_answer("attribute_at: the first", doorbramble_attribute_at(section, 22, 0), accepted(3, 1, origin));
+    check_answer("attribute_at: no value", doorbramble_attribute_at(section, 22, 12), accepted(15, 0, reach));
+    check_answer("attribute_at: a repeat", doorbramble_attribute_at(section, 22, 15), accepted(18, 1, origin));
+    check_answer("attribute_at: within another", doorbramble_attribute_at(section, 22, 1), accepted(4, 0, type_of(1, 1)));
+    answer = doorbramble_attribute_at(section, 22, 0);
+    for (i = 0; doorbramble_attribute_found(answer) && i < sizeof kinds; i++) {
+        wrong += doorbramble_attribute_kind(answer) != kinds[i];
+        answer = doorbramble_attribute_at(section, 22, doorbramble_attribute_next(answer));
+    }
+    expect("attribute_at: each of a section, and none is left", wrong == 0 && i == sizeof kinds && answer == 0);
+    check_answer("attribute_at: at the end", doorbramble_attribute_at(section, 22, 22), accepted(0, 0, 0));
+    check_answer("attribute_at: past the end", doorbramble_attribute_at(section, 22, 23), accepted(0, 0, 0));
+    check_answer("attribute_at: far past the end", doorbramble_attribute_at(section, 22, SIZE_MAX), accepted(0, 0, 0));
+    check_answer("attribute_at: of nothing", doorbramble_attribute_at(NULL, 0, 0), accepted(0, 0, 0));
+    check_answer("attribute_at: of nothing, past it", doorbramble_attribute_at(NULL, 0, SIZE_MAX), accepted(0, 0, 0));
+    for (i = 1; i < 4; i++)
+        check_answer("attribute_at: 2", doorbramble_attribute_at(section, i, 0), refused(DOORBRAMBLE_TRUNCATED));
+    for (i = 5; i < 12; i++)
+        check_answer("attribute_at: 2, two bytes of length", doorbramble_attribute_at(section, i, 4), refused(DOORBRAMBLE_TRUNCATED));
+    check_answer("attribute_at: one before a cut one", doorbramble_attribute_at(section, 11, 0), accepted(3, 1, origin));
+}
+
+/* each number of flags: the length has two bytes exactly where 0x10 is set; and each type, which a search finds where it stands */
+static void flags_and_types(void) {
+    unsigned wrong_flags = 0, wrong_types = 0, i, k;
+    for (i = 0; i < 256; i++) {
+        const uint8_t one_attribute[] = {(uint8_t)i, 9, 0, 1, 7}, other[] = {0, (uint8_t)i, 0};
+        wrong_flags +=
+            doorbramble_attribute_at(one_attribute, 5, 0) != (i & 0x10 ? accepted(4, 1, type_of(9, i)) : accepted(3, 0, type_of(9, i)));
+        for (k = 0; k < 256; k++)
+            wrong_types += doorbramble_find_attribute(other, 3, (uint8_t)k) != (k == i ? accepted(3, 0, type_of(k, 0)) : 0);
+    }
+    expect("attribute_at: flags of every number", wrong_flags == 0);
+    expect("find_attribute: types of every number", wrong_types == 0);
+}
+
+static void searches(void) {
+    /* MP_REACH_NLRI twice, and a byte; MP_UNREACH_NLRI twice, and a byte; MP_REACH_NLRI twice, the second cut */
+    static const uint8_t reach[] = {0x80, 14, 0, 0x90, 14, 0, 0, 0x40}, unreach[] = {0x80, 15, 0, 0x90, 15, 0, 0, 0x40};
+    static const uint8_t cut[] = {0x80, 14, 0, 0x80, 14, 1};
+    static const uint8_t wanted[] = {1, 7, DOORBRAMBLE_MP_REACH_NLRI, DOORBRAMBLE_MP_UNREACH_NLRI};
+    const uint64_t none = accepted(0, 0, 0), repeated = refused(DOORBRAMBLE_REPEATED_MP_NLRI), truncated = refused(DOORBRAMBLE_TRUNCATED);
+    unsigned i;
+
+    check_answer("find_attribute: the first of two", doorbramble_find_attribute(section, 22, 1), accepted(3, 1, type_of(1, 0x40)));
+    check_answer("find_attribute: AS_PATH", doorbramble_find_attribute(section, 22, DOORBRAMBLE_AS_PATH), accepted(8, 4, type_of(2, 0x50)));
+    check_answer("find_attribute: one MP_REACH_NLRI", doorbramble_find_attribute(section, 22, 14), accepted(15, 0, type_of(14, 0x80)));
+    check_answer("find_attribute: one MP_UNREACH_NLRI", doorbramble_find_attribute(section, 22, 15), accepted(22, 0, type_of(15, 0x80)));
+    check_answer("find_attribute: absent", doorbramble_find_attribute(section, 22, DOORBRAMBLE_AGGREGATOR), none);
+    check_answer("find_attribute: of nothing", doorbramble_find_attribute(NULL, 0, 1), none);
+    for (i = 0; i < sizeof wanted; i++) {
+        check_answer("find_attribute: 2 at the end", doorbramble_find_attribute(section, 21, wanted[i]), truncated);
+        check_answer("find_attribute: 2, a byte", doorbramble_find_attribute(section, 1, wanted[i]), truncated);
+        check_answer("find_attribute: 15, MP_REACH_NLRI", doorbramble_find_attribute(reach, 7, wanted[i]), repeated);
+        check_answer("find_attribute: 15, MP_UNREACH_NLRI", doorbramble_find_attribute(unreach, 7, wanted[i]), repeated);
+        check_answer("find_attribute: 15 before a later 2", doorbramble_find_attribute(reach, 8, wanted[i]), repeated);
+        check_answer("find_attribute: 2, the second is cut", doorbramble_find_attribute(cut, 6, wanted[i]), truncated);
+    }
+    expect("the fields of a refused attribute", !doorbramble_attribute_found(repeated) && doorbramble_attribute_kind(repeated) == 0 &&
+                                                    doorbramble_attribute_flags(repeated) == 0 &&
+                                                    doorbramble_attribute_next(repeated) == 0);
+    check_answer("attribute_at: a second MP_REACH_NLRI", doorbramble_attribute_at(reach, 7, 3), accepted(7, 0, type_of(14, 0x90)));
+    check_answer("attribute_at: a second MP_UNREACH_NLRI", doorbramble_attribute_at(unreach, 7, 3), accepted(7, 0, type_of(15, 0x90)));
+}
+
 static void lists(void) {
     static const uint8_t tagged[] = {0, 0, 0, 7, 8, 10};
     static const uint8_t wide[] = {0x40, 0x20, 0x01, 0x0D, 0xB8, 0, 0, 0, 1};
@@ -352,9 +433,29 @@ static void slots(void) {
 
 static void version(void) {
     uint64_t answer = doorbramble_version();
-    check_answer("version", answer, accepted(1, 0, 0));
+    check_answer("version", answer, accepted(1, 1, 0));
     expect("the version of the header", doorbramble_version_major(answer) == DOORBRAMBLE_VERSION_MAJOR &&
                                             doorbramble_version_minor(answer) == DOORBRAMBLE_VERSION_MINOR);
+}
+
+/* an attribute section of 65,535 bytes, and of one more */
+static void section_limit(void) {
+    static uint8_t zeros[65536], longest[65536] = {0x10, 14, 0xFF, 0xFB}, repeats[65536] = {0, 14, 0, 0, 14, 0};
+    const uint64_t too_long = refused(DOORBRAMBLE_TOO_LONG), value = accepted(4, 65531, type_of(14, 0x10));
+
+    check_answer("attribute_at: the longest value", doorbramble_attribute_at(longest, 65535, 0), value);
+    check_answer("find_attribute: the longest value", doorbramble_find_attribute(longest, 65535, 14), value);
+    check_answer("attribute_at: 2, a byte less", doorbramble_attribute_at(longest, 65534, 0), refused(DOORBRAMBLE_TRUNCATED));
+    check_answer("attribute_at: a value at the end", doorbramble_attribute_at(zeros, 65535, 65532), accepted(65535, 0, 0));
+    check_answer("attribute_at: 1", doorbramble_attribute_at(longest, 65536, 0), too_long);
+    check_answer("attribute_at: 1, however little is left", doorbramble_attribute_at(zeros, 65536, 65533), too_long);
+    check_answer("attribute_at: 1, and none would be left", doorbramble_attribute_at(zeros, 65536, SIZE_MAX), too_long);
+    check_answer("find_attribute: 21,845 attributes", doorbramble_find_attribute(zeros, 65535, 0), accepted(3, 0, 0));
+    check_answer("find_attribute: absent among 21,845", doorbramble_find_attribute(zeros, 65535, 1), accepted(0, 0, 0));
+    check_answer("find_attribute: 2 after 21,844", doorbramble_find_attribute(zeros, 65534, 0), refused(DOORBRAMBLE_TRUNCATED));
+    check_answer("find_attribute: 1 before 2", doorbramble_find_attribute(zeros, 65536, 0), too_long);
+    check_answer("find_attribute: 1 before 15", doorbramble_find_attribute(repeats, 65536, 0), too_long);
+    check_answer("find_attribute: 15 at the limit", doorbramble_find_attribute(repeats, 65535, 0), refused(DOORBRAMBLE_REPEATED_MP_NLRI));
 }
 
 /* the limits of 65,535 and 65,516 bytes, a body of the most rows, and a segment of 256 numbers */
@@ -386,12 +487,16 @@ int main(void) {
     messages();
     lengths();
     updates();
+    attributes();
+    flags_and_types();
+    searches();
     lists();
     rows();
     paths();
     aggregators();
     slots();
     version();
+    section_limit();
     limits();
     printf("%u checks, %u failed\n", checks, failures);
     return failures == 0 ? 0 : 1;

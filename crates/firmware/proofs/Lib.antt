@@ -3,6 +3,7 @@ pub mod MessageBounds
 pub mod ListBounds
 pub mod UpdateBounds
 pub mod PathBounds
+pub mod AttributeBounds
 pub mod AggregatorBounds
 pub mod SlotBounds
 pub mod Tight

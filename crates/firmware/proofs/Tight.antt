@@ -10,6 +10,8 @@ use Rattle.firmware.proofs.update.doorbramble_announced_part.Reads as a
 use Rattle.firmware.proofs.update.doorbramble_count_bgp_update_message.Reads as count_bgp_update_message
 use Rattle.firmware.proofs.update.doorbramble_parse_bgp_update_message.Reads as parse_bgp_update_message
 use Rattle.firmware.proofs.update.doorbramble_encode_bgp_update_message.Reads as encode_bgp_update_message
+use Rattle.firmware.proofs.attribute.doorbramble_attribute_at.Reads as attribute_at
+use Rattle.firmware.proofs.attribute.doorbramble_find_attribute.Reads as find_attribute
 use Rattle.firmware.proofs.list.doorbramble_count_nlri_list.Reads as count_nlri_list
 use Rattle.firmware.proofs.list.doorbramble_parse_nlri_list.Reads as parse_nlri_list
 use Rattle.firmware.proofs.list.doorbramble_encode_nlri_prefixes.Reads as encode_nlri_prefixes
@@ -47,6 +49,12 @@ tight-parse-bgp-update-message κs a z z′ e e′ p q = (p .0 ∙ sym (q .0), p
 
 pub tight-encode-bgp-update-message : (κs : _) (a : _) (z z′ : _) (e e′ : _) → encode_bgp_update_message.Learnt κs a z e → encode_bgp_update_message.Learnt κs a z′ e′ → (z ≡ z′) × (now (e .1 .1 .1 .1 .0) ≡ now (e′ .1 .1 .1 .1 .0))
 tight-encode-bgp-update-message κs a z z′ e e′ p q = (p .0 ∙ sym (q .0), p .1 ∙ sym (q .1))
+
+pub tight-attribute-at : (κs : _) (a : _) (z z′ : _) (e e′ : _) → attribute_at.Learnt κs a z e → attribute_at.Learnt κs a z′ e′ → z ≡ z′
+tight-attribute-at κs a z z′ e e′ p q = p ∙ sym q
+
+pub tight-find-attribute : (κs : _) (a : _) (z z′ : _) (e e′ : _) → find_attribute.Learnt κs a z e → find_attribute.Learnt κs a z′ e′ → z ≡ z′
+tight-find-attribute κs a z z′ e e′ p q = p ∙ sym q
 
 pub tight-count-nlri-list : (κs : _) (a : _) (z z′ : _) (e e′ : _) → count_nlri_list.Learnt κs a z e → count_nlri_list.Learnt κs a z′ e′ → z ≡ z′
 tight-count-nlri-list κs a z z′ e e′ p q = p ∙ sym q

@@ -9,6 +9,8 @@ use Rattle.wire.specs.Extent.{Extent}
 use Rattle.wire.specs.Refusal.{noRoom}
 use Rattle.messages.specs.Header.{messageMeaning}
 use Rattle.messages.specs.declared.MessageAnswer.{MessageAnswer}
+use Rattle.attributes.specs.Promises.{attributeMeaning}
+use Rattle.attributes.specs.declared.AttributeAnswer.{AttributeAnswer}
 use Rattle.updates.specs.Body.{partsMeaning}
 use Rattle.updates.specs.Update.{updateMeaning}
 use Rattle.updates.specs.declared.PartsAnswer.{PartsAnswer}
@@ -38,6 +40,14 @@ abbrev pub updateFields : UpdateAnswer → Fields
 updateFields a =
     fields (valueIn 0 (updateMeaning a)) (valueIn 2 (updateMeaning a))
     (valueIn 1 (updateMeaning a) + 256 * valueIn 3 (updateMeaning a)) (numberIn (updateMeaning a))
+
+-- ---- attributes
+
+-- where its value starts, the value's length, and its type with its flags; 0 each where there is none
+abbrev pub attributeFields : AttributeAnswer → Fields
+attributeFields a =
+    fields (valueIn 3 (attributeMeaning a)) (valueIn 4 (attributeMeaning a)) (valueIn 2 (attributeMeaning a) + 256 * valueIn 1 (attributeMeaning a))
+    (numberIn (attributeMeaning a))
 
 -- ---- AGGREGATOR
 
@@ -96,7 +106,7 @@ abbrev pub versionMajor : ℕ
 versionMajor = 1
 
 abbrev pub versionMinor : ℕ
-versionMinor = 0
+versionMinor = 1
 
 abbrev pub versionFields : Fields
 versionFields = fields versionMajor versionMinor 0 0

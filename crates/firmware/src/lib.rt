@@ -7,6 +7,7 @@ use wire::WriteAnswer;
 use words::word;
 
 pub mod aggregator;
+pub mod attribute;
 pub mod list;
 pub mod message;
 pub mod path;
