@@ -8,17 +8,18 @@ use native.Mathlib.Decide.{decLe}
 use native.Mathlib.Omega.{arith}
 use denote.Ref.{RefT, now}
 use lib.ListN.{length, drop}
+use lib.Dec.{ltb}
+use Rattle.wire.specs.Answer.{valueIn, flag}
 use Rattle.wire.specs.Cutting.{Each, joined, Cutting}
 use Rattle.wire.specs.Extent.{nothing, PartOf}
 use Rattle.wire.specs.Refusal.{tooLong, truncated, repeatedMpNlri, listLimit}
 use Rattle.wire.specs.Walk.{readAll}
 use Rattle.wire.proofs.CuttingLaws as Cuttings
 use Rattle.attributes.specs.Attribute.{attributeFront, attributeOf}
-use Rattle.attributes.specs.Promises.{valueAt, attributeAt, firstOf, findAnswer}
+use Rattle.attributes.specs.Promises.{attributeMeaning, valueAt, attributeAt, firstOf, findAnswer}
 use Rattle.attributes.specs.WellFormed.{WellFormed, kindOf, valueOf, itemAt, itemsFrom, Other, Once, Front}
 use Rattle.attributes.specs.declared.AttributeAnswer.{AttributeAnswer}
 use Rattle.attributes.specs.declared.AttributeAnswer.the-variants as A
-use Rattle.attributes.proofs.AttributeLaws as AttributeLaws
 use Rattle.attributes.proofs.FormedLaws.{decides}
 use Rattle.attributes.proofs.SearchTurn.{find-long}
 use Rattle.attributes.proofs.SectionLaws as Laws
@@ -26,6 +27,11 @@ use Rattle.attributes.proofs.attribute_at.Reads as attribute_at
 use Rattle.attributes.proofs.value_at.Reads as value_at
 use Rattle.attributes.proofs.find_attribute.Reads as find_attribute
 use Rattle.attributes.proofs.find_value.Reads as find_value
+use Rattle.words.specs.Word.{wordOf}
+use Rattle.firmware.specs.Fields.{attributeFields}
+use Rattle.firmware.proofs.AttributeBounds.{attribute-by-fields, find-by-fields}
+use Rattle.firmware.proofs.attribute.doorbramble_attribute_at.Reads as c_attribute_at
+use Rattle.firmware.proofs.attribute.doorbramble_find_attribute.Reads as c_find_attribute
 
 -- ---- the words of the statements
 
@@ -69,13 +75,13 @@ asked-is s at answer a = sym (a .call ∙ ap₂ attributeAt (a .of-section) (a .
 walked-reading : (s : List ℕ) (at : ℕ) (told : List AttributeAnswer) (n : ℕ) → Walked s at told n → length s ≤ listLimit
     → (told ≡ Laws.standingFrom at (readAll attributeOf tt (drop at s) .rows)) × (n ≡ readAll attributeOf tt (drop at s) .verdict)
 unfolding Laws.standingFrom
-walked-reading s at [] n (none-left at a) short =
+walked-reading s _ _ _ (none-left at a) short =
     let e = sym (Laws.walk-end s at (asked-is s at _ a) .1) in
     (ap (λ r. Laws.standingFrom at (r .rows)) e, ap (λ r. r .verdict) e)
-walked-reading s at [] n (refused at n a) short =
+walked-reading s _ _ _ (refused at n a) short =
     let e = sym (Laws.walk-stop s at n (asked-is s at _ a) .1 short) in
     (ap (λ r. Laws.standingFrom at (r .rows)) e, ap (λ r. r .verdict) e)
-walked-reading s at (told ∷ rest) n (listed at flags kind start size next rest n a w) short =
+walked-reading s _ _ _ (listed at flags kind start size next rest n a w) short =
     let l = Laws.walk-next s at flags kind start size next (asked-is s at _ a) in
     let e = sym (l .reading) in
     let again = walked-reading s next rest n w short in (
@@ -85,9 +91,9 @@ walked-reading s at (told ∷ rest) n (listed at flags kind start size next rest
 
 -- a section that is walked to its end is not too long
 walked-short : (s : List ℕ) (at : ℕ) (told : List AttributeAnswer) → Walked s at told 0 → length s ≤ listLimit
-walked-short s at [] (none-left at a) = Laws.walk-end s at (asked-is s at _ a) .0
-walked-short s at [] (refused at n a) = absurd (let pos = Laws.walk-stop s at 0 (asked-is s at _ a) .0 in omega (arith, pos))
-walked-short s at (told ∷ rest) (listed at flags kind start size next rest n a w) = Laws.walk-next s at flags kind start size next (asked-is s at _ a) .short
+walked-short s _ _ (none-left at a) = Laws.walk-end s at (asked-is s at _ a) .0
+walked-short s _ _ (refused at n a) = absurd (let pos = Laws.walk-stop s at 0 (asked-is s at _ a) .0 in omega (arith, pos))
+walked-short s _ _ (listed at flags kind start size next rest n a w) = Laws.walk-next s at flags kind start size next (asked-is s at _ a) .short
 
 pub walked-cut : (s : List ℕ) (told : List AttributeAnswer) → Walked s 0 told 0 → (items : List (List ℕ)) × Cut s items × (told ≡ itemsFrom 0 items) × (length s ≤ listLimit)
 walked-cut s told w =
@@ -178,13 +184,36 @@ module _ (κs : _) (given : _) (value : _) (exit : _) (call : value_at.Learnt κ
   value-there before item after c short e =
       its-value (given .0) (attributeAt (section given) (place given)) value before item after c (ap (attributeAt (section given)) e ∙ Laws.item-at (section given) before item after c short) call
 
-  -- and nothing where there is no attribute
-  pub no-value-there : (at-end : length (section given) ≤ place given) → length (section given) ≤ listLimit → PartOf (given .0) nothing value
-  no-value-there at-end short = subst (λ (x : AttributeAnswer). PartOf (given .0) (valueAt x) value) (sym (AttributeLaws.none-left (section given) short (place given) at-end)) call
+  -- whatever the call for the attribute answers, its value: nothing where there is none
+  pub value-as-told : (answer : AttributeAnswer) → Asked (section given) (place given) answer → PartOf (given .0) (valueAt answer) value
+  value-as-told answer a = subst (λ (x : AttributeAnswer). PartOf (given .0) (valueAt x) value) (asked-is (section given) (place given) answer a) call
 
--- of the first item of a type, and nothing where it is absent or the section is refused
+-- of the first item of a type
 module _ (κs : _) (given : _) (value : _) (exit : _) (call : find_value.Learnt κs given value exit) where
   pub value-found : (before : List (List ℕ)) (item : List ℕ) (after : List (List ℕ)) → Cut (section given) (before ++ (item ∷ after)) → Once (before ++ (item ∷ after))
       → length (section given) ≤ listLimit → Each (Other (kind given)) before → kindOf item ≡ kind given → ItsValue (given .0) before item value
   value-found before item after c h short others is =
       its-value (given .0) (findAnswer (section given) (kind given)) value before item after c (told-find (section given) (kind given) _ (first short before item after c h others is)) call
+
+  pub value-as-found : (answer : AttributeAnswer) → Told (section given) (kind given) answer → PartOf (given .0) (valueAt answer) value
+  value-as-found answer t = subst (λ (x : AttributeAnswer). PartOf (given .0) (valueAt x) value) (told-find (section given) (kind given) answer t) call
+
+-- ---- 5. The calls for C tell the same answers, and what the header's functions take from the fields of a word is right: there is an attribute exactly
+-- where its value does not start at 0, and the next stands where its value ends.
+
+abbrev pub InFields : AttributeAnswer → ℕ → Type 0
+InFields answer word =
+    (word ≡ wordOf (attributeFields answer)) × (valueIn 0 (attributeMeaning answer) ≡ flag (ltb 0 (attributeFields answer .a)))
+    × (valueIn 5 (attributeMeaning answer) ≡ attributeFields answer .a + attributeFields answer .b)
+
+module _ (κs : _) (given : _) (word : _) (exit : _) (call : c_attribute_at.Learnt κs given word exit) where
+  pub c-attribute : (answer : AttributeAnswer) → Asked (section given) (place given) answer → InFields answer word
+  c-attribute answer a =
+      let f = attribute-by-fields (section given) (place given) in
+      subst (λ (x : AttributeAnswer). InFields x word) (asked-is (section given) (place given) answer a) (call, f .found, f .next)
+
+module _ (κs : _) (given : _) (word : _) (exit : _) (call : c_find_attribute.Learnt κs given word exit) where
+  pub c-found : (answer : AttributeAnswer) → Told (section given) (kind given) answer → InFields answer word
+  c-found answer t =
+      let f = find-by-fields (section given) (kind given) in
+      subst (λ (x : AttributeAnswer). InFields x word) (told-find (section given) (kind given) answer t) (call, f .found, f .next)
