@@ -12,17 +12,18 @@ use Rattle.wire.specs.Extent.{within}
 use lib.Dec.{eqb}
 use Rattle.wire.specs.Answer.{flag}
 use Rattle.wire.specs.Cutting.{Each, none, one, joined, Cutting}
-use Rattle.wire.specs.Refusal.{truncated, repeatedMpNlri, listLimit}
-use Rattle.wire.specs.Walk.{Reading, readAll, tally}
+use Rattle.wire.specs.Refusal.{tooLong, truncated, repeatedMpNlri, listLimit}
+use Rattle.wire.specs.Walk.{took, stop, Reading, whole, refused, more, readAll, tally}
 use Rattle.wire.proofs.ChoiceLaws.{pick-eqb}
 use Rattle.wire.proofs.CuttingLaws.{joined-append, item-long, front-read, cut-read, read-front}
 use Rattle.wire.proofs.WalkLaws.{tally-append, all-ind}
 use Rattle.attributes.specs.Attribute.{mpReachNlri, mpUnreachNlri, headSize, Attribute, sizeOf, attributeFront, attributeOf, sectionOf}
 use Rattle.attributes.specs.Promises.{valueAt, standing, attributeAt, firstOf, countOf, judged, findAnswer}
-use Rattle.attributes.specs.WellFormed.{WellFormed, kindOf, valueOf, itemAt, itemsFrom, Other, times, Once}
+use Rattle.attributes.specs.WellFormed.{WellFormed, kindOf, valueOf, itemAt, itemsFrom, Other, times, Once, Front}
 use Rattle.attributes.specs.declared.AttributeAnswer.{AttributeAnswer}
 use Rattle.attributes.specs.declared.AttributeAnswer.the-variants as A
-use Rattle.attributes.proofs.AttributeLaws.{attribute-sound, attribute-names, taken-at, first-here, first-later}
+use Rattle.wire.proofs.Turn.{turn-fits, turn-next, turn-end, turn-stop}
+use Rattle.attributes.proofs.AttributeLaws.{attribute-sound, attribute-names, taken-at, first-here, first-later, attribute-taken, at-cases}
 use Rattle.attributes.proofs.FormedLaws.{formed-size, decides}
 use Rattle.attributes.proofs.SearchTurn.{judged-once, judged-twice, find-refused, find-first}
 
@@ -137,14 +138,8 @@ module _ (s : List ℕ) where
       (λ st st′ t used a pos e again. again)
       tt s
 
-  -- items at the front of a section
-  pub record Front (items : List (List ℕ)) : Type 0 where
-    pub each : Each WellFormed items
-    pub rest : List ℕ
-    pub whole : joined items ++ rest ≡ s
-
-  -- have each type no more often than it is read
-  front-times : (kind : ℕ) (items : List (List ℕ)) → Front items → times kind items ≤ countOf kind (readAll attributeOf tt s .rows)
+  -- items at the front have each type no more often than it is read
+  front-times : (kind : ℕ) (items : List (List ℕ)) → Front s items → times kind items ≤ countOf kind (readAll attributeOf tt s .rows)
   unfolding countOf
   front-times kind items f =
       let r = front-read attributeOf WellFormed attributeFront decides tt items (f .rest) (f .each) in
@@ -152,7 +147,7 @@ module _ (s : List ℕ) where
       omega (arith, rows, tally-append (λ a. flag (eqb (a .kind) kind)) (map attributeFront items) (readAll attributeOf tt (f .rest) .rows), times-count kind items)
 
   -- all that is read is such a front, and the whole where the verdict is 0
-  read-is-front : (items : List (List ℕ)) × Front items × (map attributeFront items ≡ readAll attributeOf tt s .rows) × (readAll attributeOf tt s .verdict ≡ 0 → Cutting WellFormed s items)
+  read-is-front : (items : List (List ℕ)) × Front s items × (map attributeFront items ≡ readAll attributeOf tt s .rows) × (readAll attributeOf tt s .verdict ≡ 0 → Cutting WellFormed s items)
   read-is-front =
       let f = read-front attributeOf WellFormed attributeFront decides tt s in (
         f .0,
@@ -162,14 +157,14 @@ module _ (s : List ℕ) where
       )
 
   -- a cutting is a front
-  pub cut-front : (items : List (List ℕ)) → Cutting WellFormed s items → Front items
+  pub cut-front : (items : List (List ℕ)) → Cutting WellFormed s items → Front s items
   cut-front items c = record { each = c .each; rest = []; whole = append-nil (joined items) ∙ c .whole }
 
   module _ (short : length s ≤ listLimit) (kind : ℕ) where
     -- ---- what the search answers
 
     -- a second one of the two types at the front
-    pub second-found : (items : List (List ℕ)) → Front items → (Once items → ⊥) → findAnswer s kind ≡ A.Refused repeatedMpNlri
+    pub second-found : (items : List (List ℕ)) → Front s items → (Once items → ⊥) → findAnswer s kind ≡ A.Refused repeatedMpNlri
     unfolding sectionOf
     second-found items f twice =
         sym (find-refused s kind repeatedMpNlri short (judged-twice (sectionOf s) more) (omega arith))
@@ -196,14 +191,14 @@ module _ (s : List ℕ) where
 
     -- by cases: refused by a second one; cut; or good
     pub find-cases : (P : AttributeAnswer → Type 0)
-        → ((items : List (List ℕ)) → Front items → (Once items → ⊥) → P (A.Refused repeatedMpNlri))
-        → (((items : List (List ℕ)) → Cutting WellFormed s items → ⊥) → ((items : List (List ℕ)) → Front items → Once items) → P (A.Refused truncated))
+        → ((items : List (List ℕ)) → Front s items → (Once items → ⊥) → P (A.Refused repeatedMpNlri))
+        → (((items : List (List ℕ)) → Cutting WellFormed s items → ⊥) → ((items : List (List ℕ)) → Front s items → Once items) → P (A.Refused truncated))
         → ((items : List (List ℕ)) → Cutting WellFormed s items → Once items → P (firstOf kind 0 (map attributeFront items)))
         → P (findAnswer s kind)
     unfolding sectionOf
     find-cases P second cut good =
         elim (decLe (max (countOf mpReachNlri (readAll attributeOf tt s .rows)) (countOf mpUnreachNlri (readAll attributeOf tt s .rows))) 1) [
-          | yes le ↦ verdict-by (λ (v : ℕ). readAll attributeOf tt s .verdict ≡ v → P (findAnswer s kind)) (whole le) (broken le) refl
+          | yes le ↦ verdict-by (λ (v : ℕ). readAll attributeOf tt s .verdict ≡ v → P (findAnswer s kind)) (good-read le) (broken le) refl
           | no gt ↦ twice (lt-of-not-le gt)
         ]
       where
@@ -215,8 +210,8 @@ module _ (s : List ℕ) where
             let two : Once (read-is-front .0) → ⊥ = λ o. omega (arith, more, o .0, o .1, same mpReachNlri, same mpUnreachNlri) in
             subst P (sym (second-found (read-is-front .0) (read-is-front .1) two)) (second (read-is-front .0) (read-is-front .1) two)
 
-        whole : max (countOf mpReachNlri (readAll attributeOf tt s .rows)) (countOf mpUnreachNlri (readAll attributeOf tt s .rows)) ≤ 1 → readAll attributeOf tt s .verdict ≡ 0 → P (findAnswer s kind)
-        whole le v =
+        good-read : max (countOf mpReachNlri (readAll attributeOf tt s .rows)) (countOf mpUnreachNlri (readAll attributeOf tt s .rows)) ≤ 1 → readAll attributeOf tt s .verdict ≡ 0 → P (findAnswer s kind)
+        good-read le v =
             let c = read-is-front .3 v in
             let o : Once (read-is-front .0) = (omega (arith, le, same mpReachNlri), omega (arith, le, same mpUnreachNlri)) in
             subst P (sym (found-is (read-is-front .0) c o)) (good (read-is-front .0) c o)
@@ -228,3 +223,56 @@ module _ (s : List ℕ) where
             (cut
             (λ items c. let e : readAll attributeOf tt s .verdict ≡ 0 = ap (λ (r : Reading Attribute). r .verdict) (cut-read attributeOf WellFormed attributeFront decides tt s items c) in omega (arith, v, e))
             (λ items f. (omega (arith, le, front-times mpReachNlri items f), omega (arith, le, front-times mpUnreachNlri items f))))
+
+-- ---- a walk over a section, attribute by attribute
+
+module _ (s : List ℕ) (at : ℕ) where
+  -- none left
+  pub walk-end : attributeAt s at ≡ A.Absent → (length s ≤ listLimit) × (readAll attributeOf tt (drop at s) ≡ whole)
+  unfolding standing
+  walk-end =
+      at-cases s at (λ (x : AttributeAnswer). x ≡ A.Absent → (length s ≤ listLimit) × (readAll attributeOf tt (drop at s) ≡ whole))
+      (λ _ e. let z : _≡_ {A = ℕ} 0 1 = cc in absurd (omega (arith, z)))
+      (λ short le e. (short, turn-end attributeOf attribute-sound s tt at le))
+      (λ used a short lt t e. let z : _≡_ {A = ℕ} 0 1 = cc in absurd (omega (arith, z)))
+      (λ short lt t e. let z : _≡_ {A = ℕ} 0 1 = cc in absurd (omega (arith, z)))
+
+  -- a refusal has a number, and is that of the reading where the section is not too long
+  pub walk-stop : (n : ℕ) → attributeAt s at ≡ A.Refused n → (0 < n) × (length s ≤ listLimit → readAll attributeOf tt (drop at s) ≡ refused n)
+  unfolding standing
+  walk-stop n =
+      at-cases s at (λ (x : AttributeAnswer). x ≡ A.Refused n → (0 < n) × (length s ≤ listLimit → readAll attributeOf tt (drop at s) ≡ refused n))
+      (λ long e. let k : tooLong ≡ n = cc in (omega (arith, k), λ short. absurd (omega (arith, long, short))))
+      (λ short le e. let z : _≡_ {A = ℕ} 0 1 = cc in absurd (omega (arith, z)))
+      (λ used a short lt t e. let z : _≡_ {A = ℕ} 0 1 = cc in absurd (omega (arith, z)))
+      (λ short lt t e. let k : truncated ≡ n = cc in (omega (arith, k), λ _. turn-stop attributeOf attribute-sound s tt at n lt (t ∙ ap stop k)))
+
+  -- one that is listed, and the rest from the next place on
+  pub record Next (flags kind start size next : ℕ) : Type 0 where
+    pub a : Attribute
+    pub told : standing at a ≡ A.Attribute flags kind start size next
+    pub there : at + sizeOf a ≡ next
+    pub on : (at < next) × (next ≤ length s)
+    pub short : length s ≤ listLimit
+    pub reading : readAll attributeOf tt (drop at s) ≡ more a (readAll attributeOf tt (drop next s))
+
+  pub walk-next : (flags kind start size next : ℕ) → attributeAt s at ≡ A.Attribute flags kind start size next → Next flags kind start size next
+  unfolding standing
+  walk-next flags kind start size next =
+      at-cases s at (λ (x : AttributeAnswer). x ≡ A.Attribute flags kind start size next → Next flags kind start size next)
+      (λ _ e. let z : _≡_ {A = ℕ} 0 1 = cc in absurd (omega (arith, z)))
+      (λ short le e. let z : _≡_ {A = ℕ} 0 1 = cc in absurd (omega (arith, z)))
+      (λ used a short lt t e.
+      let there : at + sizeOf a ≡ next = cc in
+      let all : sizeOf a ≡ used = attribute-taken (drop at s) tt tt used a t .size in
+      let fits = turn-fits attributeOf attribute-sound s tt at tt used a t (omega (arith, lt)) in
+      let same : at + used ≡ next = omega (arith, there, all) in
+      record {
+        a = a;
+        told = e;
+        there = there;
+        on = (omega (arith, same, fits), omega (arith, same, fits));
+        short = short;
+        reading = turn-next attributeOf attribute-sound s tt at tt used a t ∙ ap (λ (n : ℕ). more a (readAll attributeOf tt (drop n s))) same;
+      })
+      (λ short lt t e. let z : _≡_ {A = ℕ} 0 1 = cc in absurd (omega (arith, z)))

@@ -6,6 +6,7 @@ use mathlib.Core.List.{List, [], _∷_, _++_}
 use lib.ListN.{length, getD, drop}
 use lib.Dec.{eqb}
 use Rattle.wire.specs.Answer.{flag}
+use Rattle.wire.specs.Cutting.{Each, joined}
 use Rattle.wire.specs.Number.{be}
 use Rattle.wire.specs.Walk.{tally}
 use Rattle.attributes.specs.Attribute.{mpReachNlri, mpUnreachNlri, lengthSize, headSize}
@@ -47,3 +48,9 @@ times kind items = tally (λ item. flag (eqb (kindOf item) kind)) items
 
 abbrev pub Once : List (List ℕ) → Type 0
 Once items = (times mpReachNlri items ≤ 1) × (times mpUnreachNlri items ≤ 1)
+
+-- items at the front of a section, and what follows them
+pub record Front (s : List ℕ) (items : List (List ℕ)) : Type 0 where
+  pub each : Each WellFormed items
+  pub rest : List ℕ
+  pub whole : joined items ++ rest ≡ s

@@ -2,6 +2,7 @@ pub mod Refusals
 pub mod Cut
 pub mod Routes
 pub mod Paths
+pub mod Attributes
 pub mod Updates
 pub mod Written
 pub mod Slots

@@ -1,5 +1,5 @@
--- Every number and every order of two checks that document 01 fixes, and the lister's case, as one table over the definitions with one claim: definition and code
--- cannot be changed to the same wrong number. A line holds what the definitions say of an input to what the document says.
+-- Every number and every order of two checks that documents 01 and 02 fix, and the lister's case, as one table over the definitions with one claim: definition and code
+-- cannot be changed to the same wrong number. A line holds what the definitions say of an input to what the documents say.
 -- Assumes nothing.
 use Prim.Native.Nat.{ℕ, _-_}
 use mathlib.Core.Path.{_≡_, refl}
@@ -7,7 +7,7 @@ use mathlib.Core.List.{List, [], _∷_, _++_}
 use mathlib.Core.Bool.{Bool, true, false, _&&_}
 use lib.ListN.{length, replicate}
 use lib.Dec.{eqb}
-use Rattle.wire.specs.Answer.{given, refusal, numberIn, writeMeaning, limited}
+use Rattle.wire.specs.Answer.{given, refusal, numberIn, valueIn, writeMeaning, limited}
 use Rattle.wire.specs.Number.{be, beAt, toBe}
 use Rattle.wire.specs.Refusal as refusals
 use Rattle.wire.specs.Walk.{readAll, walk, flat, tally}
@@ -36,6 +36,10 @@ use Rattle.path_writer.specs.Write.{mostNumbers, segmentBytes, addsUp, allFit, 
 use Rattle.path_writer.specs.Promises as pathWriter
 use Rattle.messages.specs.Header.{markerSize, headerSize, messageLimit, extendedLimit, leastLength, mostLength, crateLimit, isOutside, isUnknown, allFF, messageMeaning, messageOf, strictWithin, strictOf}
 use Rattle.messages.specs.Written as messageWriter
+use Rattle.attributes.specs.Attribute.{isExtended, lengthSize, headSize, attributeFront, attributeOf}
+use Rattle.attributes.specs.Attribute as attribute
+use Rattle.attributes.specs.Promises.{attributeMeaning, standing, attributeAt, firstOf, countOf, verdictOf, judged, findAnswer}
+use Rattle.attributes.specs.declared.AttributeAnswer.the-variants as A
 use Rattle.updates.specs.Body.{partsMeaning, partsOf, withdrawnOf, announcedOf}
 use Rattle.updates.specs.Update.{countUpdate}
 use Rattle.update_writer.specs.Body.{bodySized, bodyAnswer}
@@ -45,7 +49,7 @@ use Rattle.slot_table.specs.Line.{digits, fieldsText, sectionText, entryOf, ent
 use Rattle.slot_table.specs.Table.{linesOf, endingText}
 use Rattle.slot_table.specs.declared.Ending.the-variants as Ending
 use Rattle.words.specs.Word.{fields, inFields, wordOf}
-use Rattle.firmware.specs.Fields.{messageFields, updateFields, slotFields, versionFields, aggregatorSize, rowWords, pairWords, keptLimit, bodyRows}
+use Rattle.firmware.specs.Fields.{messageFields, updateFields, slotFields, attributeFields, versionFields, aggregatorSize, rowWords, pairWords, keptLimit, bodyRows}
 use Rattle.messages.specs.declared.MessageAnswer.the-variants.{Message}
 use Rattle.routes.specs.declared.ListAnswer.the-variants as L
 use Rattle.updates.specs.declared.UpdateAnswer.the-variants.{Update}
@@ -53,7 +57,7 @@ use Rattle.words.specs.Settings.{familyOf, formOf, asnLengthOf, settingsOf}
 
 -- ---- a table of numbers
 
--- what the definitions say, and what the document says
+-- what the definitions say, and what the documents say
 pub record Line : Type 0 where
   pub found : ℕ
   pub fixed : ℕ
@@ -88,6 +92,7 @@ refusalNumbers =
     ∷ line refusals.longSegment 12
     ∷ line refusals.wideNumber 13
     ∷ line refusals.notWritable 14
+    ∷ line refusals.repeatedMpNlri 15
     ∷ line refusals.listLimit 65535
     ∷ line refusals.bodyLimit 65516
     ∷ []
@@ -419,6 +424,98 @@ pathsAndAggregators =
     ∷ line (aggregatorInto Bits32 65536 8) 0
     ∷ []
 
+-- ---- document 02, K1: "Open the attribute section"
+
+-- what the attribute at a place is told as: whether there is one, flags, type, where its value starts, its length, the next place
+abbrev pub told : ℕ → List ℕ → ℕ → ℕ
+told i s place = valueIn i (attributeMeaning (attributeAt s place))
+
+abbrev pub refusedAt : List ℕ → ℕ → ℕ
+refusedAt s place = numberIn (attributeMeaning (attributeAt s place))
+
+-- where the value of the first of a type starts, 0 where there is none
+abbrev pub foundFrom : ℕ → List ℕ → ℕ
+foundFrom kind s = valueIn 3 (attributeMeaning (findAnswer s kind))
+
+abbrev pub searchRefused : ℕ → List ℕ → ℕ
+searchRefused kind s = numberIn (attributeMeaning (findAnswer s kind))
+
+-- an ORIGIN of one byte and an AS_PATH of two, whose length has two bytes
+abbrev pub originAndPath : List ℕ
+originAndPath = 0x40 ∷ 0x01 ∷ 0x01 ∷ 0x00 ∷ 0x50 ∷ 0x02 ∷ 0x00 ∷ 0x02 ∷ 0xAA ∷ 0xBB ∷ []
+
+-- an empty MP_REACH_NLRI and an empty MP_UNREACH_NLRI
+abbrev pub reach : List ℕ
+reach = 0x80 ∷ 0x0E ∷ 0x00 ∷ []
+
+abbrev pub unreach : List ℕ
+unreach = 0x80 ∷ 0x0F ∷ 0x00 ∷ []
+
+abbrev pub attributes : List Line
+attributes =
+    line attribute.asPath 2
+    ∷ line attribute.aggregator 7
+    ∷ line attribute.mpReachNlri 14
+    ∷ line attribute.mpUnreachNlri 15
+    -- the walker: the attribute at a place, and none at the end and past it
+    ∷ line (told 0 originAndPath 0) 1
+    ∷ line (told 1 originAndPath 0) 0x40
+    ∷ line (told 2 originAndPath 0) 1
+    ∷ line (told 3 originAndPath 0) 3
+    ∷ line (told 4 originAndPath 0) 1
+    ∷ line (told 5 originAndPath 0) 4
+    ∷ line (told 1 originAndPath 4) 0x50
+    ∷ line (told 2 originAndPath 4) 2
+    ∷ line (told 3 originAndPath 4) 8
+    ∷ line (told 4 originAndPath 4) 2
+    ∷ line (told 5 originAndPath 4) 10
+    ∷ line (told 0 originAndPath 10) 0
+    ∷ line (refusedAt originAndPath 10) 0
+    ∷ line (told 0 originAndPath 11) 0
+    ∷ line (refusedAt originAndPath 11) 0
+    ∷ line (told 5 [] 0) 0
+    ∷ line (refusedAt [] 0) 0
+    -- two length bytes exactly where 0x10 is set
+    ∷ line (told 3 (0xEF ∷ 0x01 ∷ 0x01 ∷ 0x00 ∷ []) 0) 3
+    ∷ line (told 3 (0x10 ∷ 0x01 ∷ 0x00 ∷ 0x00 ∷ []) 0) 4
+    ∷ line (told 4 (0x10 ∷ 0x01 ∷ (0x01 ∷ 0x00 ∷ zeros 256)) 0) 256
+    -- 2 where the head or the value is cut
+    ∷ line (refusedAt (0x40 ∷ []) 0) 2
+    ∷ line (refusedAt (0x40 ∷ 0x01 ∷ []) 0) 2
+    ∷ line (refusedAt (0x40 ∷ 0x01 ∷ 0x01 ∷ []) 0) 2
+    ∷ line (refusedAt (0x40 ∷ 0x01 ∷ 0x00 ∷ []) 0) 0
+    ∷ line (refusedAt (0x50 ∷ 0x01 ∷ 0x00 ∷ []) 0) 2
+    ∷ line (refusedAt (0x50 ∷ 0x01 ∷ 0x00 ∷ 0x00 ∷ []) 0) 0
+    -- 1 of the whole section, before 2 and before none left
+    ∷ line (refusedAt (zeros 65535) 65533) 2
+    ∷ line (refusedAt (zeros 65536) 65534) 1
+    ∷ line (refusedAt (zeros 65536) 65536) 1
+    -- repeats are listed: 15 is the search's alone
+    ∷ line (told 5 (reach ++ reach) 3) 6
+    -- the search: the first of a type, or absent; a second ORIGIN is passed over
+    ∷ line (foundFrom 1 originAndPath) 3
+    ∷ line (foundFrom 2 originAndPath) 8
+    ∷ line (foundFrom 3 originAndPath) 0
+    ∷ line (searchRefused 3 originAndPath) 0
+    ∷ line (foundFrom 1 (originAndPath ++ originAndPath)) 3
+    ∷ line (foundFrom 2 (reach ++ (originAndPath ++ originAndPath))) 11
+    ∷ line (searchRefused 1 []) 0
+    -- 15 for a second of either, whatever type is searched; one of each is none
+    ∷ line (searchRefused 1 (reach ++ unreach)) 0
+    ∷ line (foundFrom 15 (reach ++ unreach)) 6
+    ∷ line (searchRefused 1 (reach ++ reach)) 15
+    ∷ line (searchRefused 14 (reach ++ reach)) 15
+    ∷ line (searchRefused 15 (unreach ++ (reach ++ unreach))) 15
+    -- in byte order: a second one that is all there before a cut attribute; one that is cut is 2
+    ∷ line (searchRefused 14 (reach ++ (reach ++ (0x40 ∷ [])))) 15
+    ∷ line (searchRefused 14 (reach ++ (0x80 ∷ 0x0E ∷ 0x01 ∷ []))) 2
+    ∷ line (searchRefused 14 (reach ++ (unreach ++ (0x40 ∷ [])))) 2
+    -- 1 before both
+    ∷ line (searchRefused 14 (reach ++ (reach ++ zeros 65530))) 1
+    ∷ line (searchRefused 1 (0x50 ∷ 0x01 ∷ 0xFF ∷ 0xFB ∷ zeros 65531)) 0
+    ∷ line (searchRefused 1 (0x50 ∷ 0x01 ∷ 0xFF ∷ 0xFC ∷ zeros 65531)) 2
+    ∷ []
+
 -- ---- the limit of a list and of a path to write: 1 over 65,535 bytes, before 11
 
 abbrev pub limits : List Line
@@ -488,7 +585,11 @@ settings =
     ∷ line keptLimit 65535
     ∷ line bodyRows 65512
     -- version 1.0 of the calls for C
-    ∷ line (wordOf versionFields) 0x1
+    ∷ line (wordOf versionFields) 0x10001
+    -- an attribute: where its value starts, its length, its type and its flags
+    ∷ line (wordOf (attributeFields (A.Attribute 0x50 2 8 3 11))) 0x500200030008
+    ∷ line (wordOf (attributeFields A.Absent)) 0
+    ∷ line (wordOf (attributeFields (A.Refused 15))) 0xF000000000000
     -- other answers: their values in order
     ∷ line (wordOf (inFields (given (1 ∷ 2 ∷ 3 ∷ [])))) 0x300020001
     ∷ line (wordOf (inFields (refusal 11))) 0xB000000000000
@@ -533,11 +634,11 @@ lister =
     ∷ []
 
 abbrev pub table : List Line
-table = refusalNumbers ++ (headers ++ (bodies ++ (lists ++ (pathsAndAggregators ++ (limits ++ (settings ++ lister))))))
+table = refusalNumbers ++ (headers ++ (bodies ++ (lists ++ (pathsAndAggregators ++ (attributes ++ (limits ++ (settings ++ lister)))))))
 
 -- every line of the table holds
 pub numbers : agree table ≡ true
-unfolding agree zeros beAt readAll walk flat modeOf wordAt rowOf itemRow prefixOf inForm guessForm stepOf listOf sectionOf routes.countAnswer routes.readAnswer fourWords rowBytes allZero writable frontRow writeStep writing bytesOf measured routeWriter.writeAnswer limited span aggregatorOf aggregatorBytes aggregatorWritten typeFault numbersOf segmentAt segmentOf pathOf paths.countAnswer paths.readAnswer segmentBytes addsUp allFit writeFault lentOf lentPath pathBytes pathWriter.lentBytes pathWriter.encodeAnswer leastLength mostLength crateLimit isOutside isUnknown allFF messageOf strictWithin messageWriter.writeMessage partsOf withdrawnOf announcedOf countUpdate bodySized bodyAnswer wordOf familyOf formOf asnLengthOf tally found slotOf digits fieldsText sectionText entryOf entryText lineOf stopText headingText linesOf endingText
+unfolding agree zeros beAt readAll walk flat modeOf wordAt rowOf itemRow prefixOf inForm guessForm stepOf listOf sectionOf routes.countAnswer routes.readAnswer fourWords rowBytes allZero writable frontRow writeStep writing bytesOf measured routeWriter.writeAnswer limited span aggregatorOf aggregatorBytes aggregatorWritten typeFault numbersOf segmentAt segmentOf pathOf paths.countAnswer paths.readAnswer segmentBytes addsUp allFit writeFault lentOf lentPath pathBytes pathWriter.lentBytes pathWriter.encodeAnswer leastLength mostLength crateLimit isOutside isUnknown allFF messageOf strictWithin messageWriter.writeMessage isExtended lengthSize headSize attributeFront attributeOf attribute.sectionOf standing attributeAt firstOf countOf verdictOf judged findAnswer partsOf withdrawnOf announcedOf countUpdate bodySized bodyAnswer wordOf familyOf formOf asnLengthOf tally found slotOf digits fieldsText sectionText entryOf entryText lineOf stopText headingText linesOf endingText
 numbers = refl
 
 -- the limit of a list and of a path to write is of their bytes, whatever they are

@@ -2,51 +2,36 @@
 -- from them as include/doorbramble.h does it.
 -- Assumes nothing.
 use Prim.Native.Nat.{ℕ, _+_, _≤_, _<_}
-use mathlib.Core.Path.{_≡_, refl}
+use mathlib.Core.Path.{_≡_, refl, ap}
 use mathlib.Core.List.{List}
 use native.Mathlib.Omega.{arith}
 use borrow.Author.Tests.{lt-ltb}
-use lib.ListN.{length, drop, length-drop}
+use lib.ListN.{length, getD, drop, length-drop}
 use lib.Dec.{ltb}
 use Rattle.wire.specs.Answer.{valueIn, flag}
 use Rattle.wire.specs.Number.{Bytes}
-use Rattle.wire.specs.Refusal.{truncated, tooLong, listLimit}
-use Rattle.wire.specs.Walk.{Step}
-use Rattle.wire.proofs.ChoiceLaws.{pick-leb}
+use Rattle.wire.specs.Refusal.{truncated, tooLong}
 use Rattle.wire.proofs.NumberLaws.{bytes-drop}
-use Rattle.attributes.specs.Attribute.{headSize, Attribute, sizeOf, attributeFront, NoState, attributeOf}
-use Rattle.attributes.specs.Promises.{attributeMeaning, standing, foundAt, attributeAt, findAnswer}
+use Rattle.attributes.specs.Attribute.{headSize, Attribute, sizeOf, attributeFront}
+use Rattle.attributes.specs.Promises.{attributeMeaning, standing, attributeAt, findAnswer}
 use Rattle.attributes.specs.declared.AttributeAnswer.{AttributeAnswer}
-use Rattle.attributes.specs.declared.AttributeAnswer.the-variants as A
-use Rattle.attributes.proofs.AttributeLaws.{head-bounds}
+use Rattle.attributes.proofs.AttributeLaws.{head-bounds, attribute-taken, at-cases}
 use Rattle.attributes.proofs.SearchTurn.{find-by}
 use Rattle.words.specs.Word.{Narrow}
 use Rattle.words.proofs.WordLaws.{refused-narrow}
 use Rattle.firmware.specs.Fields.{attributeFields}
 
--- what holds of none, of every refusal and of one that is all there holds of the attribute at a place
-at-cases : (s : List ℕ) (place : ℕ) (P : AttributeAnswer → Type 0) → P A.Absent → ((n : ℕ) → P (A.Refused n))
-    → (length s ≤ listLimit → place + sizeOf (attributeFront (drop place s)) ≤ length s → P (standing place (attributeFront (drop place s))))
-    → P (attributeAt s place)
-unfolding attributeAt attributeOf
-at-cases s place P none bad good =
-    let t : List ℕ = drop place s in
-    pick-leb P (length s) listLimit _ (A.Refused tooLong)
-    (λ short. pick-leb P (length s) place A.Absent _ (λ _. none)
-    (λ before. pick-leb (λ (x : Step NoState Attribute). P (foundAt place x)) (sizeOf (attributeFront t)) (length t) _ _
-    (λ room. good short (omega (arith, room, before, length-drop place s)))
-    (λ _. bad truncated)))
-    (λ _. bad tooLong)
-
 pub attribute-narrow : (s : List ℕ) (place : ℕ) → Bytes s → Narrow (attributeFields (attributeAt s place))
 unfolding standing attributeFront
 attribute-narrow s place b =
-    at-cases s place (λ a. Narrow (attributeFields a)) (refused-narrow 0) refused-narrow
-    (λ short room. record {
-      a = omega (arith, short, room);
-      b = omega (arith, short, room);
-      c = omega (arith, bytes-drop place s b 0, bytes-drop place s b 1);
-    })
+    at-cases s place (λ a. Narrow (attributeFields a)) (λ _. refused-narrow tooLong) (λ _ _. refused-narrow 0)
+    (λ used a short before e.
+    let t = attribute-taken (drop place s) tt tt used a e in
+    let flags : getD (drop place s) 0 0 ≡ a .flags = ap (λ (x : Attribute). x .flags) (t .is) in
+    let kind : getD (drop place s) 1 0 ≡ a .kind = ap (λ (x : Attribute). x .kind) (t .is) in
+    let end : place + sizeOf a ≤ length s = omega (arith, t .size, t .room, length-drop place s) in
+    record { a = omega (arith, end); b = omega (arith, end); c = omega (arith, flags, kind, bytes-drop place s b 0, bytes-drop place s b 1) })
+    (λ _ _ _. refused-narrow truncated)
 
 pub find-narrow : (s : List ℕ) (kind : ℕ) → Bytes s → Narrow (attributeFields (findAnswer s kind))
 find-narrow s kind b = find-by s kind (λ a. Narrow (attributeFields a)) refused-narrow (λ place. attribute-narrow s place b)
@@ -61,10 +46,11 @@ pub record ByFields (a : AttributeAnswer) : Type 0 where
 pub attribute-by-fields : (s : List ℕ) (place : ℕ) → ByFields (attributeAt s place)
 unfolding standing
 attribute-by-fields s place =
-    let flags : ℕ = attributeFront (drop place s) .flags in
-    let past : 0 < place + headSize flags = omega (arith, head-bounds flags) in
-    at-cases s place ByFields (record { found = refl; next = refl }) (λ n. record { found = refl; next = refl })
-    (λ _ _. record { found = rw (lt-ltb 0 (place + headSize flags) past); next = omega arith })
+    at-cases s place ByFields (λ _. record { found = refl; next = refl }) (λ _ _. record { found = refl; next = refl })
+    (λ used a _ _ _.
+    let past : 0 < place + headSize (a .flags) = omega (arith, head-bounds (a .flags)) in
+    record { found = rw (lt-ltb 0 (place + headSize (a .flags)) past); next = omega arith })
+    (λ _ _ _. record { found = refl; next = refl })
 
 pub find-by-fields : (s : List ℕ) (kind : ℕ) → ByFields (findAnswer s kind)
 find-by-fields s kind = find-by s kind ByFields (λ n. record { found = refl; next = refl }) (attribute-by-fields s)
