@@ -1,6 +1,6 @@
 -- What the calls answer of a section that can be cut into attributes, and of one that cannot.
 -- Assumes nothing.
-use Prim.Native.Nat.{ℕ, _+_, _-_, max, _≤_, _<_}
+use Prim.Native.Nat.{ℕ, _+_, max, _≤_, _<_}
 use mathlib.Core.Path.{_≡_, refl, sym, ap, ap₂, subst, _∙_}
 use mathlib.Core.List.{List, [], _∷_, _++_, map, append-nil}
 use native.Mathlib.Nat.{lt-of-not-le}

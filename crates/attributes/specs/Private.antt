@@ -9,7 +9,7 @@ use Rattle.attributes.specs.declared.AttributeAnswer.{AttributeAnswer}
 use Rattle.attributes.specs.declared.FrontAnswer.{FrontAnswer}
 use Rattle.attributes.specs.declared.FrontAnswer.the-variants.{Whole, Cut}
 
--- an attribute whose value has so many bytes from a place on, where so many are left
+-- an attribute by its head, where so many bytes are left from the start of its value on
 unfoldable pub wholeIf : ℕ → ℕ → ℕ → ℕ → ℕ → FrontAnswer
 wholeIf flags kind start size left = pick (leb size left) (Whole flags kind start size (start + size)) Cut
 

@@ -1,6 +1,6 @@
 -- The bytes of an attribute as RFC 4271 section 4.3 has them, over bytes alone and apart from any reader: `Cutting` of wire over `WellFormed` is
 -- what it is to cut a section into attributes.
-use Prim.Native.Nat.{ℕ, _+_, _-_, _≤_}
+use Prim.Native.Nat.{ℕ, _+_, _≤_}
 use mathlib.Core.Path.{_≡_}
 use mathlib.Core.List.{List, [], _∷_, _++_}
 use lib.ListN.{length, getD, drop}

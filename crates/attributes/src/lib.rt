@@ -56,7 +56,7 @@ fn is_extended(flags: u8) -> bool
     flags / EXTENDED_LENGTH % 2 == 1
 }
 
-// An attribute whose value has so many bytes from a place on, where so many are left.
+// An attribute by its head, where so many bytes are left from the start of its value on.
 fn whole(flags: u8, kind: u8, start: usize, length: usize, left: usize) -> FrontAnswer
     requires { ⌜ start + left ≤ listLimit ⌝ }
     ensures { λ r. ⌜ r ≡ wholeIf flags kind start length left ⌝ }
@@ -73,7 +73,7 @@ fn whole(flags: u8, kind: u8, start: usize, length: usize, left: usize) -> Front
     }
 }
 
-// The attribute at the front of bytes that stand at a place. Each length computes its own end: the next attribute waits for it.
+// The attribute at the front of bytes that stand at a place. Each kind of head has its own sum for the end: what reads the next attribute waits for it.
 fn front(s: &[u8], place: usize) -> FrontAnswer
     requires { ⌜ place + length (now s) ≤ listLimit ⌝ }
     ensures { λ r. ⌜ r ≡ frontOf place (attributeOf tt (now (s .entry))) ⌝ }
@@ -163,7 +163,7 @@ fn is_kind(kind: u8, wanted: u8) -> usize
     if kind == wanted { 1 } else { 0 }
 }
 
-// How many bytes were left at the first attribute of a type so far, where one stands with so many left or none does; 0 where there was none.
+// How many bytes were left at the first attribute of a type, 0 where none has come: one that comes later has fewer left.
 fn first_left(first: usize, left: usize, same: bool) -> usize
     ensures { λ r. ⌜ r ≡ pick same (max first left) first ⌝ }
 {
