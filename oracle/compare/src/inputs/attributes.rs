@@ -45,17 +45,20 @@ const SECTIONS: &[&str] = &[
     "800E00 4001FF 800E00",
     "400105 800E00 800E00",
     "40010100 800E00 5001",
+    // a claimed end that 16 bits do not hold
+    "5001FFFF00",
+    "40010100 5001FFF8 00",
 ];
 
 /// Types that are asked for: some there, and some absent.
 const KINDS: [u8; 6] = [0, 1, 4, 14, 15, 17];
 
-/// Each section walked from every byte of it on, at its end and past it, and searched.
+/// Each section walked from every byte of it on, at its end and past it, also by 65,536 and at the greatest place, and searched.
 fn rules() -> Vec<Request> {
     let mut requests = vec![];
     for section in SECTIONS.iter().map(|text| hex(text)) {
         let end = section.len() as u32;
-        let places = (0..=end + 1).chain([end + 65_536, u32::MAX]);
+        let places = (0..=end + 1).chain([65_536, u32::MAX]);
         requests.extend(places.map(|place| walk(&section, place)));
         requests.extend(KINDS.map(|kind| search(&section, kind)));
     }
