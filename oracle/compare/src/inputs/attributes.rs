@@ -1,5 +1,5 @@
 //! The walk and the search over an attribute section: the request's rules, each order of two checks on sections that fail both,
-//! every flags byte and every type. What needs a large section stands in `limits`.
+//! every flags byte, type and settings byte. What needs a large section stands in `limits`.
 
 use super::examples::{hex, request, words};
 use records::Request;
@@ -15,7 +15,7 @@ pub fn search(section: &[u8], kind: u8) -> Request {
 }
 
 pub fn all() -> Vec<Request> {
-    [rules(), cuts(), every_flags(), every_type()].concat()
+    [rules(), cuts(), every_flags(), every_type(), every_settings()].concat()
 }
 
 /// Sections with their attributes in one group of digits each.
@@ -45,17 +45,20 @@ const SECTIONS: &[&str] = &[
     "800E00 4001FF 800E00",
     "400105 800E00 800E00",
     "40010100 800E00 5001",
+    // a claimed end that 16 bits do not hold
+    "5001FFFF00",
+    "40010100 5001FFF8 00",
 ];
 
 /// Types that are asked for: some there, and some absent.
 const KINDS: [u8; 6] = [0, 1, 4, 14, 15, 17];
 
-/// Each section walked from every byte of it on, at its end and past it, and searched.
+/// Each section walked from every byte of it on, at its end and past it, also at places of more than 16 bits, and searched.
 fn rules() -> Vec<Request> {
     let mut requests = vec![];
     for section in SECTIONS.iter().map(|text| hex(text)) {
         let end = section.len() as u32;
-        let places = (0..=end + 1).chain([end + 65_536, u32::MAX]);
+        let places = (0..=end + 1).chain([65_536, u32::MAX]);
         requests.extend(places.map(|place| walk(&section, place)));
         requests.extend(KINDS.map(|kind| search(&section, kind)));
     }
@@ -86,4 +89,11 @@ fn every_type() -> Vec<Request> {
         [walk(&section(kind), 0), search(&section(kind), kind), search(&section(kind), kind.wrapping_add(1))]
     };
     (0..=255).flat_map(asked).collect()
+}
+
+/// One section under every settings byte, none of which it goes by.
+fn every_settings() -> Vec<Request> {
+    let section = hex("40010100 900E00020A0B 800F00");
+    let under = |settings| [walk(&section, 4), search(&section, 15)].map(|request| Request { settings, ..request });
+    (0..32).flat_map(under).collect()
 }

@@ -2,6 +2,7 @@
 
 use super::attributes::{search, walk};
 use super::examples::on_bytes;
+use super::pieces::EXTENDED_LENGTH;
 use records::ending::about;
 use records::{Request, ADD_PATH, FOUR_BYTE_AS, GUESS, IPV6, STRICT};
 use std::collections::BTreeSet;
@@ -88,7 +89,7 @@ fn attributes(section: &[u8]) -> Option<Vec<Attribute<'_>>> {
     let mut found = vec![];
     let mut left = section;
     while let [flags, kind, rest @ ..] = left {
-        let extended = flags & 0x10 != 0;
+        let extended = flags & EXTENDED_LENGTH != 0;
         let (length, rest) = rest.split_at_checked(if extended { 2 } else { 1 })?;
         let length = length.iter().fold(0, |length, byte| length << 8 | usize::from(*byte));
         let (value, rest) = rest.split_at_checked(length)?;

@@ -166,15 +166,16 @@ fn values() -> Vec<Request> {
 /// Three zeros are an attribute of type 0, and these one of type 14.
 const EMPTY_MP_REACH: [u8; 3] = [0, 14, 0];
 
-/// The longest section: one attribute, one that claims a byte more, or 21,845 of them.
+/// The longest section: one attribute, also without the bit for two length bytes; one that claims a byte more; or 21,845 of them.
 fn sections() -> Vec<Request> {
     let longest = pieces::with_head(0xD0, 200, &[0; 65_531]);
+    let short = [&[0xC0], &longest[1..]].concat();
     let cut = &pieces::with_head(0xD0, 200, &[0; 65_532])[..65_535];
     let zeros = |count: usize| vec![0; 3 * count];
     let last = [&zeros(21_844)[..], &EMPTY_MP_REACH].concat();
     let second = [&EMPTY_MP_REACH, &zeros(21_843)[..], &EMPTY_MP_REACH].concat();
     let mut requests: Vec<Request> = [0, 65_532, 65_533, 65_535].map(|place| walk(&longest, place)).to_vec();
-    requests.extend([search(&longest, 200), walk(cut, 0), search(cut, 200)]);
+    requests.extend([search(&longest, 200), walk(&short, 0), walk(cut, 0), search(cut, 200)]);
     requests.extend([search(&last, 14), search(&last, 15), search(&last[..65_534], 0), search(&second, 0)]);
     requests
 }
@@ -183,7 +184,7 @@ fn sections() -> Vec<Request> {
 fn over_long_sections() -> Vec<Request> {
     let whole = pieces::with_head(0xD0, 200, &[0; 65_532]);
     let second = [EMPTY_MP_REACH.repeat(2), vec![0; 65_530]].concat();
-    let mut requests: Vec<Request> = [0, 65_533, 65_536, u32::MAX].map(|place| walk(&whole, place)).to_vec();
+    let mut requests: Vec<Request> = [0, 65_533, 65_535, 65_536, u32::MAX].map(|place| walk(&whole, place)).to_vec();
     requests.extend([search(&whole, 200), search(&vec![0; 65_536], 0), search(&second, 0)]);
     requests
 }

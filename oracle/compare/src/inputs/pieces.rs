@@ -3,10 +3,10 @@
 use crate::rng::Rng;
 
 pub const IPV4_LENGTHS: &[u8] = &[0, 1, 7, 8, 9, 15, 16, 17, 22, 23, 24, 25, 30, 31, 32];
-/// The bit of an attribute's flags with which its length is of two bytes.
-const EXTENDED_LENGTH: u8 = 0x10;
-
 pub const IPV6_LENGTHS: &[u8] = &[0, 1, 8, 9, 31, 32, 33, 48, 63, 64, 65, 96, 97, 127, 128];
+
+/// The bit of an attribute's flags with which its length is of two bytes.
+pub const EXTENDED_LENGTH: u8 = 0x10;
 
 /// A prefix length: mostly at a boundary, at times any byte.
 fn length(rng: &mut Rng, ipv6: bool) -> u8 {

@@ -280,7 +280,7 @@ fn section(rng: &mut Rng, settings: u8) -> (Vec<u8>, Vec<usize>) {
     (section, starts)
 }
 
-/// The attribute at a place: mostly where one stands or stood, at times anywhere.
+/// The attribute at a place: mostly where one stands or stood, at times anywhere. Its room and argument are any, as nothing uses them.
 fn walked(rng: &mut Rng, settings: u8) -> Request {
     let (section, starts) = section(rng, settings);
     let place = match rng.under(8) {
@@ -293,7 +293,7 @@ fn walked(rng: &mut Rng, settings: u8) -> Request {
     request_on(18, settings, rng.under(9), parts, rng.byte())
 }
 
-/// The first attribute of a type: mostly of one that stands there.
+/// The first attribute of a type: mostly of one that stands there. Its room and second part are any.
 fn searched(rng: &mut Rng, settings: u8) -> Request {
     let (section, starts) = section(rng, settings);
     let kind = match rng.under(6) {
