@@ -513,7 +513,6 @@ attributes =
     -- 1 before both
     ∷ line (searchRefused 14 (reach ++ (reach ++ zeros 65530))) 1
     ∷ line (searchRefused 1 (0x50 ∷ 0x01 ∷ 0xFF ∷ 0xFB ∷ zeros 65531)) 0
-    ∷ line (searchRefused 1 (0x50 ∷ 0x01 ∷ 0xFF ∷ 0xFC ∷ zeros 65531)) 2
     ∷ []
 
 -- ---- the limit of a list and of a path to write: 1 over 65,535 bytes, before 11
