@@ -226,6 +226,12 @@ module _ (s : List ℕ) where
 
 -- ---- a walk over a section, attribute by attribute
 
+-- the place after one more item
+pub joined-next : (before : List (List ℕ)) (item : List ℕ) → length (joined (before ++ (item ∷ []))) ≡ length (joined before) + length item
+unfolding joined
+joined-next before item =
+    ap length (joined-append before (item ∷ [])) ∙ length-append (joined before) (item ++ []) ∙ ap (λ (l : List ℕ). length (joined before) + length l) (append-nil item)
+
 module _ (s : List ℕ) (at : ℕ) where
   -- none left
   pub walk-end : attributeAt s at ≡ A.Absent → (length s ≤ listLimit) × (readAll attributeOf tt (drop at s) ≡ whole)

@@ -50,7 +50,7 @@ firstOf kind place (a ∷ rows) = pick (eqb (a .kind) kind) (standing place a) (
 unfoldable pub countOf : ℕ → List Attribute → ℕ
 countOf kind rows = tally (λ a. flag (eqb (a .kind) kind)) rows
 
--- RFC 7606 section 3: 15 where MP_REACH_NLRI or MP_UNREACH_NLRI is there more than once, so often as given, and else another number
+-- RFC 7606 section 3, by how often MP_REACH_NLRI and MP_UNREACH_NLRI are there: 15 where one of them is there more than once, and else the number given
 unfoldable pub verdictOf : ℕ → ℕ → ℕ → ℕ
 verdictOf reach unreach otherwise = pick (ltb 1 (max reach unreach)) repeatedMpNlri otherwise
 

@@ -2,7 +2,7 @@
 -- Assumes nothing.
 use Prim.Native.Nat.{ℕ, _+_, _≤_, _<_}
 use mathlib.Core.Path.{_≡_, refl, sym, ap, ap₂, subst, _∙_}
-use mathlib.Core.List.{List, [], _∷_, _++_, map}
+use mathlib.Core.List.{List, [], _∷_, _++_, map, append-assoc, append-nil}
 use native.Mathlib.Nat.{lt-of-not-le, zero-add}
 use native.Mathlib.Decide.{decLe}
 use native.Mathlib.Omega.{arith}
@@ -20,6 +20,7 @@ use Rattle.attributes.specs.Promises.{attributeMeaning, valueAt, attributeAt, f
 use Rattle.attributes.specs.WellFormed.{WellFormed, kindOf, valueOf, itemAt, itemsFrom, Other, Once, Front}
 use Rattle.attributes.specs.declared.AttributeAnswer.{AttributeAnswer}
 use Rattle.attributes.specs.declared.AttributeAnswer.the-variants as A
+use Rattle.attributes.proofs.AttributeLaws as AttributeLaws
 use Rattle.attributes.proofs.FormedLaws.{decides}
 use Rattle.attributes.proofs.SearchTurn.{find-long}
 use Rattle.attributes.proofs.SectionLaws as Laws
@@ -107,6 +108,26 @@ cut-walked s items c short told n w =
     let r = walked-reading s 0 told n w short in
     let e = Cuttings.cut-read attributeOf WellFormed attributeFront decides tt s items c in
     (r .1 ∙ ap (λ x. x .verdict) e, r .0 ∙ ap (λ x. Laws.standingFrom 0 (x .rows)) e ∙ Laws.standing-items 0 items (c .each))
+
+-- a section that can be cut has such a walk, for whoever calls on it: from the place of each item on, through those after it
+module _ (κs : _) (given : _) (answer : _) (exit : _) (call : attribute_at.Learnt κs given answer exit) (short : length (section given) ≤ listLimit) where
+  asked : (at : ℕ) (x : AttributeAnswer) → attributeAt (section given) at ≡ x → Asked (section given) at x
+  asked at x e = record { κs = κs; given = (given .0, (at, given .1 .1)); exit = exit; call = sym e; of-section = refl; of-place = refl }
+
+  walk-from : (before items : List (List ℕ)) → Cut (section given) (before ++ items) → Walked (section given) (length (joined before)) (itemsFrom (length (joined before)) items) 0
+  unfolding itemsFrom itemAt
+  walk-from before [] c =
+      let all : length (section given) ≤ length (joined before) = omega (arith, ap length (sym (c .whole) ∙ ap joined (append-nil before))) in
+      none-left _ (asked _ _ (sym (AttributeLaws.none-left (section given) short _ all)))
+  walk-from before (item ∷ items) c =
+      let more : before ++ (item ∷ items) ≡ (before ++ (item ∷ [])) ++ items = sym (append-assoc before (item ∷ []) items) in
+      let next : length (joined (before ++ (item ∷ []))) ≡ length (joined before) + length item = Laws.joined-next before item in
+      listed _ _ _ _ _ _ _ _ (asked _ _ (Laws.item-at (section given) before item items c short))
+      (subst (λ (n : ℕ). Walked (section given) n (itemsFrom n items) 0) next (walk-from (before ++ (item ∷ [])) items (subst (Cut (section given)) more c)))
+
+  pub cut-has-walk : (items : List (List ℕ)) → Cut (section given) items → Walked (section given) 0 (itemsFrom 0 items) 0
+  unfolding joined
+  cut-has-walk items c = walk-from [] items c
 
 -- each call gets on, so that a walk ends
 pub gets-on : (s : List ℕ) (at flags kind start size next : ℕ) → Asked s at (A.Attribute flags kind start size next) → (at < next) × (next ≤ length s)
