@@ -13,7 +13,10 @@ use Rattle.wire.specs.Walk.{took, Reading, more, readAll, flat}
 use Rattle.wire.proofs.WalkLaws.{all-nil, all-took, all-ind}
 use Rattle.wire.specs.Cutting.{Each, none, one}
 use Rattle.wire.proofs.Parts.{two-more}
-use Rattle.paths.specs.Segment.{Segment, Rule, pairOf, asnsOf}
+use Rattle.wire.proofs.CuttingLaws.{each-map}
+use Rattle.paths.specs.Segment.{Segment, Rule, knownType, ruleOf, pairOf, asnsOf}
+use Rattle.paths.specs.declared.PathRule.{PathRule}
+use Rattle.paths.proofs.FormedLaws.{rule-known}
 use Rattle.path_writer.specs.Write.{addsUp, allFit, mostNumbers, lentOf, lentPath}
 use Rattle.path_writer.proofs.WriteLaws.{fit-append, holds, adds-pair, fault-none, none-fault, lent-took, took-lent, lent-names, lent-sound}
 
@@ -113,3 +116,14 @@ module _ (rule : Rule) (w : ℕ) where
             ∙ ap (more g) (ih .0),
         rw (le-leb (length (asnsOf g)) (length (asnsOf g ++ flat asnsOf rows)) le, rest) (ih .1),
       )
+
+-- ---- what a rule lets be written, the crate's lets be written, as the same segments
+
+pub lent-alike : (rule : PathRule) (w : ℕ) (pairs numbers : List ℕ) → addsUp pairs (length numbers) ≡ true → lentPath (ruleOf rule) w pairs numbers .verdict ≡ 0
+    → lentPath knownType w pairs numbers ≡ lentPath (ruleOf rule) w pairs numbers
+lent-alike rule w pairs numbers adds good =
+    let rows : List Segment = lentPath (ruleOf rule) w pairs numbers .rows in
+    let back = lent-back (ruleOf rule) w pairs numbers adds good in
+    let each : Each (WritableSegment knownType w) rows =
+    each-map (λ g h. record { fine = rule-known rule (g .kind) (length (g .asns)) (h .fine); short = h .short; fit = h .fit }) rows (back .0) in
+    ap₂ (lentPath knownType w) (sym (back .1)) (sym (back .2)) ∙ lend knownType w rows each .0 ∙ ap (λ (n : ℕ). record { rows = rows; verdict = n }) (sym good)

@@ -21,9 +21,10 @@ use Rattle.wire.specs.Walk.{Step, took, stop, flat}
 use Rattle.wire.proofs.WalkLaws.{Sound}
 use Rattle.asns.specs.Asn.{span}
 use Rattle.wire.specs.Answer.{answerBy}
+use Rattle.wire.proofs.AnswerLaws.{either-none, either-first}
 use Rattle.paths.specs.Segment.{Segment, Rule, pairOf, asnsOf}
 use Rattle.asns.proofs.AsnLaws.{span-add}
-use Rattle.path_writer.specs.Write.{segmentBytes, addsUp, allFit, mostNumbers, either, writeFault, lentSegment, lentOf, pathBytes}
+use Rattle.path_writer.specs.Write.{segmentBytes, addsUp, allFit, mostNumbers, writeFault, lentSegment, lentOf, pathBytes}
 
 -- ---- what a test says
 
@@ -152,18 +153,15 @@ path-length w (g ∷ rows) =
 
 pub fault-none : (rule : Rule) (w k c : ℕ) (ns : List ℕ) → writeFault rule w k c ns ≡ 0 → (rule k c ≡ 0) × (c ≤ mostNumbers) × (allFit w ns ≡ true)
 unfolding writeFault
-fault-none rule w k c ns = by (rule k c)
+fault-none rule w k c ns e = let f = either-none (rule k c) _ e in let b = numbers-fine (f .1) in (f .0, b .0, b .1)
   where
     inner : (t : Bool) → pick t 0 wideNumber ≡ 0 → t ≡ true
-    inner true e = refl
-    inner false e = absurd (omega (arith, e))
+    inner true f = refl
+    inner false f = absurd (omega (arith, f))
 
-    by : (r : ℕ) → either r (pick (leb c mostNumbers) (pick (allFit w ns) 0 wideNumber) longSegment) ≡ 0 → (r ≡ 0) × (c ≤ mostNumbers) × (allFit w ns ≡ true)
-    by zero e =
-        let b : (c ≤ mostNumbers) × (allFit w ns ≡ true) =
-        pick-leb (λ (x : ℕ). x ≡ 0 → (c ≤ mostNumbers) × (allFit w ns ≡ true)) c mostNumbers _ _ (λ h f. (h, inner (allFit w ns) f)) (λ _ f. absurd (omega (arith, f))) e in
-        (refl, b .0, b .1)
-    by (suc r) e = absurd (omega (arith, e))
+    numbers-fine : pick (leb c mostNumbers) (pick (allFit w ns) 0 wideNumber) longSegment ≡ 0 → (c ≤ mostNumbers) × (allFit w ns ≡ true)
+    numbers-fine =
+        pick-leb (λ (x : ℕ). x ≡ 0 → (c ≤ mostNumbers) × (allFit w ns ≡ true)) c mostNumbers _ _ (λ h f. (h, inner (allFit w ns) f)) (λ _ f. absurd (omega (arith, f)))
 
 pub none-fault : (rule : Rule) (w k c : ℕ) (ns : List ℕ) → rule k c ≡ 0 → c ≤ mostNumbers → allFit w ns ≡ true → writeFault rule w k c ns ≡ 0
 unfolding writeFault
@@ -173,8 +171,7 @@ none-fault rule w k c ns r h e = rw (r, le-leb c mostNumbers h, e)
 module _ (rule : Rule) (w k c : ℕ) (ns : List ℕ) where
   pub fault-rule : (n : ℕ) → n ≡ rule k c → 0 < n → n ≡ writeFault rule w k c ns
   unfolding writeFault
-  fault-rule zero e pos = absurd (not-suc-le-zero pos)
-  fault-rule (suc n) e pos = rw (← e)
+  fault-rule n e pos = either-first (rule k c) _ n e pos
 
   pub fault-long : 0 ≡ rule k c → mostNumbers < c → longSegment ≡ writeFault rule w k c ns
   unfolding writeFault

@@ -8,7 +8,7 @@ use Rattle.wire.specs.Choice.{pick}
 use Rattle.wire.specs.Number.{toBe}
 use Rattle.wire.specs.Refusal.{longSegment, wideNumber, notWritable}
 use Rattle.wire.specs.Walk.{Step, took, stop, Reading, readAll, flat}
-use Rattle.wire.specs.Answer.{answerBy}
+use Rattle.wire.specs.Answer.{answerBy, either}
 use Rattle.paths.specs.Segment.{Segment, Rule}
 
 -- the bytes of a segment: its type, its count, and its numbers of w bytes each
@@ -29,11 +29,6 @@ allFit w (v ∷ vs) = pick (ltb v (256 ^ w)) (allFit w vs) false
 -- the count byte's largest value
 abbrev pub mostNumbers : ℕ
 mostNumbers = 255
-
--- the first of two faults, 0 where there is none
-abbrev pub either : ℕ → ℕ → ℕ
-either zero n = n
-either (suc m) n = suc m
 
 -- what stands against writing a segment: the rule; then the count, 12; then a number, 13
 unfoldable pub writeFault : Rule → ℕ → ℕ → ℕ → List ℕ → ℕ

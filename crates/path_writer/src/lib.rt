@@ -9,10 +9,11 @@ ghost use Rattle.wire.specs.Number.{toBe};
 ghost use Rattle.wire.specs.Store.{laid, PutAhead};
 ghost use Rattle.wire.specs.Walk.{flat};
 ghost use Rattle.asns.specs.Asn.{widthOf};
-ghost use Rattle.paths.specs.Segment.{knownType};
+ghost use Rattle.paths.specs.Segment.{knownType, ruleOf};
 ghost use Rattle.path_writer.specs.Write.{addsUp, allFit, writeFault, lentPath};
 ghost use Rattle.path_writer.specs.Promises.{lentBytes, encodeAnswer, encodeLeft};
 use asns::AsnLength;
+use paths::PathRule;
 use wire::WriteAnswer;
 use wire::refusal;
 
@@ -77,13 +78,14 @@ fn segment_fault(
     numbers: &[u32],
     from: usize,
     width: AsnLength,
+    rule: PathRule,
     fit: bool,
 ) -> u8
     requires { ⌜ from + count ≤ length (now numbers) ⌝ }
     requires { ⌜ fit ≡ allFit (widthOf width) (now numbers) ⌝ }
-    ensures { λ r. ⌜ r ≡ writeFault knownType (widthOf width) kind count (take count (drop from (now (numbers .entry)))) ⌝ }
+    ensures { λ r. ⌜ r ≡ writeFault (ruleOf rule) (widthOf width) kind count (take count (drop from (now (numbers .entry)))) ⌝ }
 {
-    let fault = paths::type_fault(kind);
+    let fault = paths::rule_fault(kind, count, rule);
     if fault != 0 {
         return fault;
     }
@@ -100,16 +102,16 @@ fn segment_fault(
 }
 
 // The refusal of the first segment that cannot be written, 0 where there is none.
-fn first_fault(pairs: &[u32], numbers: &[u32], width: AsnLength, fit: bool) -> u8
+fn first_fault(pairs: &[u32], numbers: &[u32], width: AsnLength, rule: PathRule, fit: bool) -> u8
     requires { ⌜ addsUp (now pairs) (length (now numbers)) ≡ true ⌝ }
     requires { ⌜ fit ≡ allFit (widthOf width) (now numbers) ⌝ }
-    ensures { λ r. ⌜ r ≡ lentPath knownType (widthOf width) (now (pairs .entry)) (now (numbers .entry)) .verdict ⌝ }
+    ensures { λ r. ⌜ r ≡ lentPath (ruleOf rule) (widthOf width) (now (pairs .entry)) (now (numbers .entry)) .verdict ⌝ }
 {
     let mut at: usize = 0;
     let mut from: usize = 0;
     while at < pairs.len() {
         let count = pairs[at + 1];
-        let fault = segment_fault(pairs[at], count, numbers, from, width, fit);
+        let fault = segment_fault(pairs[at], count, numbers, from, width, rule, fit);
         if fault != 0 {
             return fault;
         }
@@ -120,14 +122,15 @@ fn first_fault(pairs: &[u32], numbers: &[u32], width: AsnLength, fit: bool) -> u
 }
 
 // The same. The numbers are looked at all at once, and again in their segments only where one does not fit.
-fn path_fault(pairs: &[u32], numbers: &[u32], width: AsnLength) -> u8
+fn path_fault(pairs: &[u32], numbers: &[u32], width: AsnLength, rule: PathRule) -> u8
     requires { ⌜ addsUp (now pairs) (length (now numbers)) ≡ true ⌝ }
-    ensures { λ r. ⌜ r ≡ lentPath knownType (widthOf width) (now (pairs .entry)) (now (numbers .entry)) .verdict ⌝ }
+    ensures { λ r. ⌜ r ≡ lentPath (ruleOf rule) (widthOf width) (now (pairs .entry)) (now (numbers .entry)) .verdict ⌝ }
 {
     first_fault(
         pairs,
         numbers,
         width,
+        rule,
         all_fit(numbers, 0, numbers.len(), width),
     )
 }
@@ -228,7 +231,8 @@ fn put_ahead(
     put_numbers(numbers, from, n, width, out, to);
 }
 
-// The bytes of a lent path that can be written and has room, `total` in all.
+// The bytes of a lent path that can be written and has room, `total` in all. Both rules have the same: what the strict one lets be written, the
+// crate's does.
 fn write_segments(pairs: &[u32], numbers: &[u32], width: AsnLength, out: &mut [u8], total: usize)
     requires { ⌜ addsUp (now pairs) (length (now numbers)) ≡ true ⌝ }
     requires { ⌜ lentPath knownType (widthOf width) (now pairs) (now numbers) .verdict ≡ 0 ⌝ }
@@ -253,15 +257,16 @@ pub fn encode_as_path(
     pairs: &[u32],
     numbers: &[u32],
     width: AsnLength,
+    rule: PathRule,
     out: &mut [u8],
 ) -> WriteAnswer
-    ensures answer { λ r. ⌜ r ≡ encodeAnswer knownType (widthOf width) (now (pairs .entry)) (now (numbers .entry)) (length (now (out .entry))) ⌝ }
-    ensures out { λ _. ⌜ now (out .exit) ≡ encodeLeft knownType (widthOf width) (now (pairs .entry)) (now (numbers .entry)) (now (out .entry)) ⌝ }
+    ensures answer { λ r. ⌜ r ≡ encodeAnswer (ruleOf rule) (widthOf width) (now (pairs .entry)) (now (numbers .entry)) (length (now (out .entry))) ⌝ }
+    ensures out { λ _. ⌜ now (out .exit) ≡ encodeLeft (ruleOf rule) (widthOf width) (now (pairs .entry)) (now (numbers .entry)) (now (out .entry)) ⌝ }
 {
     if !adds_up(pairs, numbers.len()) {
         return WriteAnswer::Refused(refusal::NOT_WRITABLE);
     }
-    let fault = path_fault(pairs, numbers, width);
+    let fault = path_fault(pairs, numbers, width, rule);
     if fault != 0 {
         return WriteAnswer::Refused(fault);
     }

@@ -5,8 +5,14 @@ use Prim.Native.Nat.{ℕ, zero, suc, _+_, _*_, _≤_}
 use mathlib.Core.Path.{_≡_, refl, sym, ap, ap₂, subst, _∙_}
 use mathlib.Core.List.{List, [], _∷_, _++_, map}
 use native.Mathlib.Omega.{arith}
+use borrow.Author.Tests.{le-leb}
 use lib.ListN.{length, getD, take, drop, length-append, length-drop}
 use lib.Seq.{take-append-le, drop-append-le, length-take-le}
+use lib.Dec.{leb}
+use Rattle.wire.specs.Choice.{pick}
+use Rattle.wire.proofs.ChoiceLaws.{pick-leb}
+use Rattle.wire.specs.Refusal.{emptySegment}
+use Rattle.wire.proofs.AnswerLaws.{either-none, either-second}
 use Rattle.wire.specs.Number.{be, beAt}
 use Rattle.wire.proofs.NumberLaws.{padded-take}
 use Rattle.wire.proofs.Parts.{take-two-more}
@@ -15,8 +21,10 @@ use Rattle.wire.specs.Cutting.{Each, none, one}
 use Rattle.wire.proofs.CuttingLaws.{Decides}
 use Rattle.asns.specs.Asn.{span}
 use Rattle.asns.proofs.AsnLaws.{span-is}
-use Rattle.paths.specs.Segment.{Segment, numbersOf, Rule, knownType, NoState, segmentAt, segmentOf, pairOf, asnsOf}
-use Rattle.paths.specs.WellFormed.{Known, WellFormed, numbersIn, headOf, asNumbers}
+use Rattle.paths.specs.Segment.{Segment, numbersOf, Rule, typeFault, knownType, nonEmpty, ruleOf, NoState, segmentAt, segmentOf, pairOf, asnsOf}
+use Rattle.paths.specs.WellFormed.{Known, NonEmpty, Allowed, WellFormed, numbersIn, headOf, asNumbers}
+use Rattle.paths.specs.declared.PathRule.{PathRule}
+use Rattle.paths.specs.declared.PathRule.the-variants.{Crate, Strict}
 use Rattle.paths.proofs.SegmentLaws.{length-numbers, type-known, known-type, Taken, segment-taken, segment-sound, taken-segment}
 
 -- ---- a rule, and the idea of a segment that it is for
@@ -26,9 +34,35 @@ pub record RuleFor (rule : Rule) (allowed : ℕ → ℕ → Type 0) : Type 0 whe
   pub sound : (kind count : ℕ) → rule kind count ≡ 0 → allowed kind count
   pub whole : (kind count : ℕ) → allowed kind count → rule kind count ≡ 0
 
--- the reader's rule finds no fault exactly where the type is one of the RFCs'
-pub known : RuleFor knownType Known
+-- the crate's rule finds no fault exactly where the type is one of the RFCs'
+known : RuleFor knownType Known
 known = record { sound = λ kind count e. type-known kind e; whole = λ kind count h. known-type kind (h .0) (h .1) }
+
+-- and the strict one exactly where there is a number too
+some-number : (count : ℕ) → pick (leb 1 count) 0 emptySegment ≡ 0 → 1 ≤ count
+some-number count = pick-leb (λ (x : ℕ). x ≡ 0 → 1 ≤ count) 1 count _ _ (λ h _. h) (λ _ e. absurd (omega (arith, e)))
+
+non-empty : RuleFor nonEmpty NonEmpty
+non-empty = record {
+  sound = λ kind count e. let f = either-none (typeFault kind) _ e in (type-known kind (f .0), some-number count (f .1));
+  whole = λ kind count h. sym (either-second (typeFault kind) _ 0 (sym (known-type kind (h .0 .0) (h .0 .1))) (rw (le-leb 1 count (h .1)) refl));
+}
+
+pub ruled : (rule : PathRule) → RuleFor (ruleOf rule) (Allowed rule)
+ruled Crate = known
+ruled Strict = non-empty
+
+-- what a rule allows, the crate's does
+pub allowed-known : (rule : PathRule) (kind count : ℕ) → Allowed rule kind count → Known kind count
+allowed-known Crate kind count a = a
+allowed-known Strict kind count a = a .0
+
+pub rule-known : (rule : PathRule) (kind count : ℕ) → ruleOf rule kind count ≡ 0 → knownType kind count ≡ 0
+rule-known rule kind count e = known .whole kind count (allowed-known rule kind count (ruled rule .sound kind count e))
+
+-- a well-formed segment by one idea of types and counts is one by a wider
+pub wider-formed : {allowed wider : ℕ → ℕ → Type 0} → ((kind count : ℕ) → allowed kind count → wider kind count) → (w : ℕ) (item : List ℕ) → WellFormed allowed w item → WellFormed wider w item
+wider-formed f w item g = record { kind = g .kind; count = g .count; body = g .body; parts = g .parts; meant = f (g .kind) (g .count) (g .meant); long = g .long }
 
 -- ---- numbers
 

@@ -1,5 +1,6 @@
 pub mod SegmentLaws
 pub mod FormedLaws
+pub mod RuleLaws
 pub mod NumberTurn
 pub mod PromiseLaws
 pub mod PathTurn

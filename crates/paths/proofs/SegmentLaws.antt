@@ -11,18 +11,21 @@ use lib.ListN.{length, getD, drop}
 use lib.Dec.{leb}
 use lib.Seq.{drop-drop}
 use Rattle.wire.specs.Choice.{pick}
-use Rattle.wire.specs.Refusal.{truncated}
+use Rattle.wire.specs.Refusal.{truncated, emptySegment}
 use Rattle.wire.proofs.ChoiceLaws.{pick-leb}
 use Rattle.asns.proofs.AsnLaws.{span-many}
-use Rattle.wire.specs.Answer.{answerBy}
+use Rattle.wire.specs.Answer.{answerBy, either}
+use Rattle.wire.proofs.AnswerLaws.{either-zero, either-first, either-second}
 use Rattle.wire.specs.Number.{beAt}
 use Rattle.wire.specs.Walk.{Step, took, stop}
 use Rattle.wire.proofs.WalkLaws.{Sound}
 use Rattle.wire.proofs.Turn.{Light}
-use Rattle.paths.specs.Private.{shortFault, countIn}
+use Rattle.paths.specs.Private.{fewestBy, fewFault, shortFault, countIn}
+use Rattle.paths.specs.declared.PathRule.{PathRule}
+use Rattle.paths.specs.declared.PathRule.the-variants.{Crate, Strict}
 use Rattle.paths.specs.declared.SegmentAnswer.the-variants.{Numbers, Refused}
 use Rattle.asns.specs.Asn.{span}
-use Rattle.paths.specs.Segment.{Segment, numbersOf, Rule, typeFault, NoState, segmentAt, segmentOf, asnsOf}
+use Rattle.paths.specs.Segment.{Segment, numbersOf, Rule, typeFault, ruleOf, NoState, segmentAt, segmentOf, asnsOf}
 
 -- ---- numbers
 
@@ -57,6 +60,23 @@ type-known kind =
 pub known-type : (kind : ℕ) → 1 ≤ kind → kind ≤ 4 → typeFault kind ≡ 0
 unfolding typeFault
 known-type kind h k = rw (le-leb 1 kind h, le-leb kind 4 k)
+
+-- ---- the rule that a call is given: the type, then the count
+
+module _ (rule : PathRule) (kind count : ℕ) where
+  rule-is : either (typeFault kind) (fewFault count (fewestBy rule)) ≡ ruleOf rule kind count
+  unfolding fewFault
+  rule-is = by rule
+    where
+      by : (r : PathRule) → either (typeFault kind) (pick (leb (fewestBy r) count) 0 emptySegment) ≡ ruleOf r kind count
+      by Crate = rw (le-leb 0 count (omega arith)) (either-zero (typeFault kind))
+      by Strict = refl
+
+  pub rule-type : (n : ℕ) → n ≡ typeFault kind → 0 < n → n ≡ ruleOf rule kind count
+  rule-type n e pos = either-first _ _ n e pos ∙ rule-is
+
+  pub rule-count : (n : ℕ) → 0 ≡ typeFault kind → n ≡ fewFault count (fewestBy rule) → n ≡ ruleOf rule kind count
+  rule-count n e f = either-second _ _ n e f ∙ rule-is
 
 -- ---- whether a segment is all there
 

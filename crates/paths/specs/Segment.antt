@@ -6,10 +6,12 @@ use lib.ListN.{length, getD, drop}
 use lib.Dec.{leb}
 use Rattle.wire.specs.Choice.{pick}
 use Rattle.wire.specs.Number.{beAt}
-use Rattle.wire.specs.Refusal.{truncated, segmentType}
-use Rattle.wire.specs.Answer.{answerBy}
+use Rattle.wire.specs.Refusal.{truncated, segmentType, emptySegment}
+use Rattle.wire.specs.Answer.{answerBy, either}
 use Rattle.asns.specs.Asn.{span}
 use Rattle.wire.specs.Walk.{Step, took, stop, Reading, readAll}
+use Rattle.paths.specs.declared.PathRule.{PathRule}
+use Rattle.paths.specs.declared.PathRule.the-variants.{Crate, Strict}
 
 -- a segment: its type, and its AS numbers in order
 pub record Segment : Type 0 where
@@ -35,9 +37,18 @@ confedSet = 4
 unfoldable pub typeFault : ℕ → ℕ
 typeFault kind = pick (leb asSet kind) (pick (leb kind confedSet) 0 segmentType) segmentType
 
--- the rule of this reading: a known type, and every count
+-- the crate's rule: a known type, and every count
 abbrev pub knownType : Rule
 knownType kind count = typeFault kind
+
+-- the strict rule: the same, and then a count that is not 0, since a segment of length zero is malformed (RFC 7606 section 7.2)
+abbrev pub nonEmpty : Rule
+nonEmpty kind count = either (typeFault kind) (pick (leb 1 count) 0 emptySegment)
+
+-- the rule that a call is given
+abbrev pub ruleOf : PathRule → Rule
+ruleOf Crate = knownType
+ruleOf Strict = nonEmpty
 
 -- a path is read in one state
 abbrev pub NoState : Type 0

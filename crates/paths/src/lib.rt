@@ -7,8 +7,8 @@ ghost use lib.ListN.{length, drop};
 ghost use Rattle.wire.specs.Store.{laid, PutAhead};
 ghost use Rattle.wire.specs.Walk.{flat};
 ghost use Rattle.asns.specs.Asn.{widthOf, span};
-ghost use Rattle.paths.specs.Segment.{numbersOf, typeFault, knownType, pairOf, asnsOf, segmentOf, pathOf};
-ghost use Rattle.paths.specs.Private.{shortFault, countIn};
+ghost use Rattle.paths.specs.Segment.{numbersOf, typeFault, knownType, ruleOf, pairOf, asnsOf, segmentOf, pathOf};
+ghost use Rattle.paths.specs.Private.{fewestBy, fewFault, shortFault, countIn};
 ghost use Rattle.paths.specs.Promises.{countAnswer, readAnswer, pairsAfter, numbersAfter};
 use asns::AsnLength;
 use wire::refusal;
@@ -17,6 +17,12 @@ use wire::refusal;
 const AS_SET: u32 = 1;
 
 const CONFED_SET: u32 = 4;
+
+// Which segments a path may have: the crate takes one of no numbers, the strict rule does not (RFC 7606 section 7.2).
+pub enum PathRule {
+    Crate,
+    Strict,
+}
 
 // A path: its segments and their numbers, or a refusal number.
 pub enum PathAnswer {
@@ -31,7 +37,7 @@ enum SegmentAnswer {
 }
 
 // What is wrong with a segment of that type, 0 where nothing is: types are 1 to 4.
-pub fn type_fault(kind: u32) -> u8
+fn type_fault(kind: u32) -> u8
     ensures { λ r. ⌜ r ≡ typeFault kind ⌝ }
 {
     if kind < AS_SET {
@@ -41,6 +47,38 @@ pub fn type_fault(kind: u32) -> u8
         return refusal::SEGMENT_TYPE;
     }
     0
+}
+
+// The fewest numbers of a segment.
+fn fewest_by(rule: PathRule) -> u32
+    ensures { λ r. ⌜ r ≡ fewestBy rule ⌝ }
+{
+    match rule {
+        PathRule::Crate => 0,
+        PathRule::Strict => 1,
+    }
+}
+
+// What is wrong with so many numbers where there are to be so many at least, 0 where nothing is.
+fn few_fault(count: u32, fewest: u32) -> u8
+    ensures { λ r. ⌜ r ≡ fewFault count fewest ⌝ }
+{
+    if count < fewest {
+        return refusal::EMPTY_SEGMENT;
+    }
+    0
+}
+
+// What is wrong with a segment of that type and count, 0 where nothing is: the type, 9; the count, 16.
+pub fn rule_fault(kind: u32, count: u32, rule: PathRule) -> u8
+    ensures { λ r. ⌜ r ≡ ruleOf rule kind count ⌝ }
+{
+    let unknown = type_fault(kind);
+    let few = few_fault(count, fewest_by(rule));
+    if unknown != 0 {
+        return unknown;
+    }
+    few
 }
 
 // What is wrong where so many bytes are there of so many, 0 where nothing is.
@@ -53,9 +91,9 @@ fn short_fault(there: usize, size: usize) -> u8
     0
 }
 
-// How many numbers the segment at the front has: type and count there, 2; the numbers there, 2; the type, 9.
-fn segment_count(s: &[u8], width: AsnLength) -> SegmentAnswer
-    ensures { λ r. ⌜ r ≡ countIn (segmentOf knownType (widthOf width) tt (now (s .entry))) ⌝ }
+// How many numbers the segment at the front has: type and count there, 2; the numbers there, 2; then the rule, 9 and 16.
+fn segment_count(s: &[u8], width: AsnLength, rule: PathRule) -> SegmentAnswer
+    ensures { λ r. ⌜ r ≡ countIn (segmentOf (ruleOf rule) (widthOf width) tt (now (s .entry))) ⌝ }
 {
     if s.len() < 2 {
         return SegmentAnswer::Refused(refusal::TRUNCATED);
@@ -63,7 +101,7 @@ fn segment_count(s: &[u8], width: AsnLength) -> SegmentAnswer
     let count = s[1];
     let size = 2 + asns::numbers_size(count as u16, width);
     let short = short_fault(s.len(), size);
-    let fault = type_fault(wire::wide(s[0]));
+    let fault = rule_fault(wire::wide(s[0]), wire::wide(count), rule);
     if short != 0 {
         return SegmentAnswer::Refused(short);
     }
@@ -74,8 +112,8 @@ fn segment_count(s: &[u8], width: AsnLength) -> SegmentAnswer
 }
 
 // How many segments and numbers a path has.
-pub fn count_as_path(value: &[u8], width: AsnLength) -> PathAnswer
-    ensures { λ r. ⌜ r ≡ countAnswer (now (value .entry)) (pathOf knownType (widthOf width) (now (value .entry))) ⌝ }
+pub fn count_as_path(value: &[u8], width: AsnLength, rule: PathRule) -> PathAnswer
+    ensures { λ r. ⌜ r ≡ countAnswer (now (value .entry)) (pathOf (ruleOf rule) (widthOf width) (now (value .entry))) ⌝ }
 {
     if wire::LIST_LIMIT < value.len() {
         return PathAnswer::Refused(refusal::TOO_LONG);
@@ -84,7 +122,7 @@ pub fn count_as_path(value: &[u8], width: AsnLength) -> PathAnswer
     let mut segments: usize = 0;
     let mut numbers: usize = 0;
     while at < value.len() {
-        match segment_count(&value[at..], width) {
+        match segment_count(&value[at..], width, rule) {
             SegmentAnswer::Numbers(count) => {
                 at = at + (2 + asns::numbers_size(count as u16, width));
                 segments = segments + 1;
@@ -183,7 +221,8 @@ fn put_ahead(
     put_numbers(value, at, n, width, numbers, to);
 }
 
-// The segments of a good path that has room, with `total` numbers. No test of a segment is made again.
+// The segments of a good path that has room, with `total` numbers. No test of a segment is made again, so it is the same for both rules: what the
+// strict one takes, the crate takes the same.
 fn fill(value: &[u8], width: AsnLength, pairs: &mut [u32], numbers: &mut [u32], total: usize)
     requires { ⌜ pathOf knownType (widthOf width) (now value) .verdict ≡ 0 ⌝ }
     requires { ⌜ length (flat pairOf (pathOf knownType (widthOf width) (now value) .rows)) ≤ length (now pairs) ⌝ }
@@ -209,14 +248,15 @@ fn fill(value: &[u8], width: AsnLength, pairs: &mut [u32], numbers: &mut [u32], 
 pub fn parse_as_path(
     value: &[u8],
     width: AsnLength,
+    rule: PathRule,
     pairs: &mut [u32],
     numbers: &mut [u32],
 ) -> PathAnswer
-    ensures answer { λ r. ⌜ r ≡ readAnswer (now (value .entry)) (pathOf knownType (widthOf width) (now (value .entry))) (length (now (pairs .entry))) (length (now (numbers .entry))) ⌝ }
-    ensures pairs { λ _. ⌜ now (pairs .exit) ≡ pairsAfter (now (value .entry)) (pathOf knownType (widthOf width) (now (value .entry))) (now (pairs .entry)) (length (now (numbers .entry))) ⌝ }
-    ensures numbers { λ _. ⌜ now (numbers .exit) ≡ numbersAfter (now (value .entry)) (pathOf knownType (widthOf width) (now (value .entry))) (length (now (pairs .entry))) (now (numbers .entry)) ⌝ }
+    ensures answer { λ r. ⌜ r ≡ readAnswer (now (value .entry)) (pathOf (ruleOf rule) (widthOf width) (now (value .entry))) (length (now (pairs .entry))) (length (now (numbers .entry))) ⌝ }
+    ensures pairs { λ _. ⌜ now (pairs .exit) ≡ pairsAfter (now (value .entry)) (pathOf (ruleOf rule) (widthOf width) (now (value .entry))) (now (pairs .entry)) (length (now (numbers .entry))) ⌝ }
+    ensures numbers { λ _. ⌜ now (numbers .exit) ≡ numbersAfter (now (value .entry)) (pathOf (ruleOf rule) (widthOf width) (now (value .entry))) (length (now (pairs .entry))) (now (numbers .entry)) ⌝ }
 {
-    match count_as_path(value, width) {
+    match count_as_path(value, width, rule) {
         PathAnswer::Path {
             segments,
             numbers: n,

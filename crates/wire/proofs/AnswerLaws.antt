@@ -1,14 +1,14 @@
 -- Laws of answers.
 -- Assumes nothing.
 use Prim.Native.Nat.{ℕ, zero, suc, _-_, _≤_, _<_}
-use mathlib.Core.Path.{_≡_, refl}
+use mathlib.Core.Path.{_≡_, refl, sym, ap, _∙_}
 use mathlib.Core.List.{List}
 use native.Mathlib.Nat.{not-suc-le-zero}
 use native.Mathlib.Omega.{arith}
 use borrow.Author.Tests.{le-leb, lt-leb}
 use lib.ListN.{length, take}
 use lib.Seq.{take-at}
-use Rattle.wire.specs.Answer.{filled, answerBy, unpacked, writeMeaning, limited}
+use Rattle.wire.specs.Answer.{filled, answerBy, either, unpacked, writeMeaning, limited}
 use Rattle.wire.specs.Refusal.{tooLong, noRoom, pastAll}
 use Rattle.wire.specs.declared.WriteAnswer.{WriteAnswer}
 use Rattle.wire.specs.declared.WriteAnswer.the-variants.{Bytes, Refused}
@@ -19,6 +19,27 @@ use Rattle.wire.proofs.ChoiceLaws.{pick-leb}
 pub answer-refused : {X : Type 0} (n : ℕ) (good : X) (refused : ℕ → X) → 0 < n → answerBy n good refused ≡ refused n
 answer-refused zero good refused h = absurd (not-suc-le-zero h)
 answer-refused (suc n) good refused h = refl
+
+-- ---- the first of two faults
+
+pub either-none : (m n : ℕ) → either m n ≡ 0 → (m ≡ 0) × (n ≡ 0)
+either-none zero n e = (refl, e)
+either-none (suc m) n e = absurd (omega (arith, e))
+
+pub either-zero : (m : ℕ) → either m 0 ≡ m
+either-zero zero = refl
+either-zero (suc m) = refl
+
+module _ (m n k : ℕ) where
+  pub either-first : k ≡ m → 0 < k → k ≡ either m n
+  either-first e pos = e ∙ sym (by m (omega (arith, e)))
+    where
+      by : (j : ℕ) → 0 < j → either j n ≡ j
+      by zero h = absurd (not-suc-le-zero h)
+      by (suc j) h = refl
+
+  pub either-second : 0 ≡ m → k ≡ n → k ≡ either m n
+  either-second e f = f ∙ ap (λ (j : ℕ). either j n) e
 
 -- ---- by one number
 

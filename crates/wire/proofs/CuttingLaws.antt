@@ -4,14 +4,15 @@
 use Prim.Native.Nat.{ℕ, _+_, _<_}
 use mathlib.Core.Path.{_≡_, refl, sym, ap, ap₂, _∙_}
 use mathlib.Core.List.{List, [], _∷_, _++_, map, append-assoc, append-nil}
+use mathlib.Core.Logic.{_⊎_, inl, inr, ⊎-elim}
 use native.Mathlib.Omega.{arith}
 use lib.ListN.{length, take, drop, length-append, take-append-drop}
 use lib.Seq.{take-append-seam, drop-append-seam}
 use Rattle.wire.specs.Number.{Bytes}
-use Rattle.wire.specs.Walk.{Step, took, Reading, more, readAll, pieces, flat}
-use Rattle.wire.specs.Cutting.{Each, none, one, joined, Cutting}
+use Rattle.wire.specs.Walk.{Step, took, stop, Reading, more, readAll, pieces, flat}
+use Rattle.wire.specs.Cutting.{Each, none, one, Some, here, later, joined, Cutting}
 use Rattle.wire.proofs.NumberLaws.{bytes-take, bytes-drop}
-use Rattle.wire.proofs.WalkLaws.{Sound, all-nil, all-took, all-ind, pieces-nil, pieces-took}
+use Rattle.wire.proofs.WalkLaws.{Sound, all-nil, all-stop, all-took, all-ind, pieces-nil, pieces-took}
 
 -- items laid end to end, some and those after them
 pub joined-append : (items items′ : List (List ℕ)) → joined (items ++ items′) ≡ joined items ++ joined items′
@@ -114,12 +115,44 @@ module _ {S A : Type 0} (step : S → List ℕ → Step S A) (Formed : List ℕ 
           record { each = f .2; whole = sym (append-nil (joined (f .0))) ∙ ap (λ (l : List ℕ). joined (f .0) ++ l) (sym (f .5 v)) ∙ f .3 },
         )
 
--- ---- writing
+-- ---- two ideas of an item, the wider of which allows all that the other does
 
 -- what holds of each follows from what holds of each
 pub each-map : {A : Type 0} {P Q : A → Type 0} (f : (a : A) → P a → Q a) (l : List A) → Each P l → Each Q l
 each-map f [] none = none
 each-map f (a ∷ l) (one p ps) = one (f a p) (each-map f l ps)
+
+pub cut-wider : {P Q : List ℕ → Type 0} (f : (item : List ℕ) → P item → Q item) (s : List ℕ) (items : List (List ℕ)) → Cutting P s items → Cutting Q s items
+cut-wider f s items c = record { each = each-map f items (c .each); whole = c .whole }
+
+module _ {S A : Type 0} (step : S → List ℕ → Step S A) (Formed : List ℕ → Type 0) (value : List ℕ → A) (decides : Decides step Formed value) (Wider : List ℕ → Type 0) where
+  -- what is read to its end by the narrower is read the same by the wider
+  pub wider-read : {S′ : Type 0} (step′ : S′ → List ℕ → Step S′ A) → Decides step′ Wider value → ((item : List ℕ) → Formed item → Wider item)
+      → (st : S) (st′ : S′) (s : List ℕ) → readAll step st s .verdict ≡ 0 → readAll step st s ≡ readAll step′ st′ s
+  wider-read step′ decides′ wider st st′ s v =
+      let c = read-cut step Formed value decides st s v in
+      cut-read step Formed value decides st s (c .0) (c .1) ∙ sym (cut-read step′ Wider value decides′ st′ s (c .0) (cut-wider wider s (c .0) (c .1)))
+
+  -- where an item of the wider is one of the narrower, or odd and refused by it with a number: items of the wider are all of the narrower,
+  -- or some are odd and the narrower refuses them with that number
+  module _ (Odd : List ℕ → Type 0) (n : ℕ) (sorted : (item : List ℕ) → Wider item → Formed item ⊎ Odd item)
+      (refuses : (st : S) (item rest : List ℕ) → Wider item → Odd item → (0 < length (item ++ rest)) × (step st (item ++ rest) ≡ stop n)) where
+    pub all-or-odd : (st : S) (items : List (List ℕ)) → Each Wider items → Each Formed items ⊎ (Some Odd items × (readAll step st (joined items) .verdict ≡ n))
+    unfolding joined
+    all-or-odd st [] none = inl none
+    all-or-odd st (item ∷ items) (one w ws) =
+        ⊎-elim
+        (λ (f : Formed item).
+        let t = decides .taken st item (joined items) f in
+        let long = item-long step Formed value decides st item f in
+        let on : readAll step st (item ++ joined items) .verdict ≡ readAll step (t .0) (joined items) .verdict =
+        ap (λ (r : Reading A). r .verdict) (all-took step st (t .0) (item ++ joined items) (length item) (value item) (omega (arith, long, length-append item (joined items))) long (t .1))
+        ∙ ap (λ (l : List ℕ). readAll step (t .0) l .verdict) (drop-append-seam item (joined items)) in
+        ⊎-elim (λ (fs : Each Formed items). inl (one f fs)) (λ o. inr (later (o .0), on ∙ o .1)) (all-or-odd (t .0) items ws))
+        (λ (o : Odd item). let r = refuses st item (joined items) w o in inr (here o, ap (λ (x : Reading A). x .verdict) (all-stop step st (item ++ joined items) n (r .0) (r .1))))
+        (sorted item w)
+
+-- ---- writing
 
 -- the places of values, one after another, are their items laid end to end
 pub flat-joined : {A : Type 0} (emit : A → List ℕ) (rows : List A) → flat emit rows ≡ joined (map emit rows)

@@ -46,6 +46,11 @@ abbrev pub answerBy : {X : Type 0} → ℕ → X → (ℕ → X) → X
 answerBy zero good refused = good
 answerBy (suc n) good refused = refused (suc n)
 
+-- the first of two faults, 0 where there is none
+abbrev pub either : ℕ → ℕ → ℕ
+either zero n = n
+either (suc m) n = suc m
+
 -- by one number: a refusal number, or a count from `pastAll` on
 unfoldable pub unpacked : {X : Type 0} → (ℕ → X) → (ℕ → X) → ℕ → X
 unpacked counted refused v = pick (leb pastAll v) (counted (v - pastAll)) (refused v)

@@ -8,6 +8,11 @@ pub data Each {A : Type 0} (P : A → Type 0) : List A → Type 0 where
   none : Each P []
   one : {a : A} {rest : List A} → P a → Each P rest → Each P (a ∷ rest)
 
+-- of some value of a list
+pub data Some {A : Type 0} (P : A → Type 0) : List A → Type 0 where
+  here : {a : A} {rest : List A} → P a → Some P (a ∷ rest)
+  later : {a : A} {rest : List A} → Some P rest → Some P (a ∷ rest)
+
 -- items laid end to end
 unfoldable pub joined : List (List ℕ) → List ℕ
 joined [] = []

@@ -61,9 +61,13 @@ notWritable = 14
 abbrev pub repeatedMpNlri : ℕ
 repeatedMpNlri = 15
 
+-- a segment of no numbers (strict)
+abbrev pub emptySegment : ℕ
+emptySegment = 16
+
 -- past every refusal number: an answer in one number is a refusal number, or a count from here on
 abbrev pub pastAll : ℕ
-pastAll = 16
+pastAll = 32
 
 -- ---- the limits behind number 1
 

@@ -30,5 +30,7 @@ pub const NOT_WRITABLE: u8 = 14;
 
 pub const REPEATED_MP_NLRI: u8 = 15;
 
+pub const EMPTY_SEGMENT: u8 = 16;
+
 // Past every refusal number. An answer in one number is a refusal number, or a count from here on.
-pub const PAST_ALL: usize = 16;
+pub const PAST_ALL: usize = 32;

@@ -3,19 +3,19 @@ use Prim.Native.Nat.{_+_, _-_, _≤_}
 use mathlib.Core.Path.{sym, _∙_}
 use lib.ListN.{length, getD}
 use Rattle.asns.specs.Asn.{widthOf}
-use Rattle.paths.specs.Segment.{knownType}
+use Rattle.paths.specs.Segment.{ruleOf}
 use Rattle.path_writer.proofs.WriteTurn.{Judged, judged-start, judged-fits, judged-next, judged-stop, judged-done}
 use Rattle.path_writer.proofs.first_fault.Statement.{statement}
 use Rattle.path_writer.proofs.first_fault.Tie as tie
 
 abbrev Inv-loop : tie.InvT-loop
-Inv-loop pairs numbers width fit at₀ from₀ at from = Judged knownType (widthOf width) pairs numbers at from
+Inv-loop pairs numbers width rule fit at₀ from₀ at from = Judged (ruleOf rule) (widthOf width) pairs numbers at from
 
 abbrev μ-loop : tie.MeasureT-loop
-μ-loop pairs numbers width fit at₀ from₀ at from = length pairs - at
+μ-loop pairs numbers width rule fit at₀ from₀ at from = length pairs - at
 
 loop-holds : tie.Need-loop-holds Inv-loop μ-loop
-loop-holds c = let a = c .before .before .args in judged-start knownType (widthOf (a .width)) (a .pairs .now) (a .numbers .now) (c .before .before .pre .0)
+loop-holds c = let a = c .before .before .args in judged-start (ruleOf (a .rule)) (widthOf (a .width)) (a .pairs .now) (a .numbers .now) (c .before .before .pre .0)
 
 -- the pair at the turn's place is there, and so are its numbers
 fits : (k : tie.In-loop Inv-loop μ-loop) →
@@ -25,7 +25,7 @@ fits : (k : tie.In-loop Inv-loop μ-loop) →
 fits k =
     let l = k .before in
     let a = l .before .before .before .args in
-    judged-fits knownType (widthOf (a .width)) (a .pairs .now) (a .numbers .now) (l .loop .at) (l .loop .from) (l .loop .inv) (k .loop-test .taken)
+    judged-fits (ruleOf (a .rule)) (widthOf (a .width)) (a .pairs .now) (a .numbers .now) (l .loop .at) (l .loop .from) (l .loop .inv) (k .loop-test .taken)
 
 add-count : tie.Need-add-count Inv-loop μ-loop
 add-count c = omega (arith, fits c)
@@ -49,7 +49,7 @@ returns : tie.Need-returns Inv-loop μ-loop
 returns c =
     let l = c .before .before .before .before .before in
     let a = l .before .before .before .args in
-    judged-stop knownType (widthOf (a .width)) (a .pairs .now) (a .numbers .now) (l .loop .at) (l .loop .from) (l .loop .inv) (c .before .before .before .before .loop-test .taken) _ (c .before .segment-fault .ensures) (omega (arith, c .if1 .taken))
+    judged-stop (ruleOf (a .rule)) (widthOf (a .width)) (a .pairs .now) (a .numbers .now) (l .loop .at) (l .loop .from) (l .loop .inv) (c .before .before .before .before .loop-test .taken) _ (c .before .segment-fault .ensures) (omega (arith, c .if1 .taken))
 
 cast-from : tie.Need-cast-from Inv-loop μ-loop
 cast-from c = omega (arith, fits (c .before .before .before .before))
@@ -67,13 +67,13 @@ loop-again : tie.Need-loop-again Inv-loop μ-loop
 loop-again c =
     let l = c .before .before .before .before .before in
     let a = l .before .before .before .args in
-    judged-next knownType (widthOf (a .width)) (a .pairs .now) (a .numbers .now) (l .loop .at) (l .loop .from) (l .loop .inv) (c .before .before .before .before .loop-test .taken) (sym (c .if1 .left) ∙ c .before .segment-fault .ensures)
+    judged-next (ruleOf (a .rule)) (widthOf (a .width)) (a .pairs .now) (a .numbers .now) (l .loop .at) (l .loop .from) (l .loop .inv) (c .before .before .before .before .loop-test .taken) (sym (c .if1 .left) ∙ c .before .segment-fault .ensures)
 
 returns-2 : tie.Need-returns-2 Inv-loop μ-loop
 returns-2 c =
     let l = c .before in
     let a = l .before .before .before .args in
-    judged-done knownType (widthOf (a .width)) (a .pairs .now) (a .numbers .now) (l .loop .at) (l .loop .from) (l .loop .inv) (c .loop-test .left)
+    judged-done (ruleOf (a .rule)) (widthOf (a .width)) (a .pairs .now) (a .numbers .now) (l .loop .at) (l .loop .from) (l .loop .inv) (c .loop-test .left)
 
 pub first-fault-spec : {M : Type 1} → statement M
 first-fault-spec =

@@ -4,23 +4,23 @@ use native.Mathlib.Omega.{arith}
 use Prim.Native.Nat.{_+_, _-_, _≤_}
 use lib.ListN.{length}
 use Rattle.asns.specs.Asn.{widthOf}
-use Rattle.paths.specs.Segment.{knownType}
+use Rattle.paths.specs.Segment.{ruleOf}
 use Rattle.asns.proofs.AsnLaws.{width-pos}
 use Rattle.paths.proofs.PromiseLaws.{count-long}
 use Rattle.paths.proofs.count_as_path.Statement.{statement}
 use Rattle.paths.proofs.count_as_path.Tie as tie
 
 abbrev Inv-loop : tie.InvT-loop
-Inv-loop value width at₀ segments₀ numbers₀ at segments numbers = CountedPath knownType (widthOf width) value at segments numbers
+Inv-loop value width rule at₀ segments₀ numbers₀ at segments numbers = CountedPath (ruleOf rule) (widthOf width) value at segments numbers
 
 abbrev μ-loop : tie.MeasureT-loop
-μ-loop value width at₀ segments₀ numbers₀ at segments numbers = length value - at
+μ-loop value width rule at₀ segments₀ numbers₀ at segments numbers = length value - at
 
 returns : tie.Need-returns Inv-loop μ-loop
 returns c = count-long _ _ (c .if1 .taken)
 
 loop-holds : tie.Need-loop-holds Inv-loop μ-loop
-loop-holds c = let a = c .before .before .args in path-start knownType (widthOf (a .width)) (width-pos (a .width)) (a .value .now)
+loop-holds c = let a = c .before .before .args in path-start (ruleOf (a .rule)) (widthOf (a .width)) (width-pos (a .width)) (a .value .now)
 
 sub-segment-count : tie.Need-sub-segment-count Inv-loop μ-loop
 sub-segment-count c = search needs
@@ -43,12 +43,12 @@ taken : (c : tie.After-numbers-size Inv-loop μ-loop) →
     let a = l .before .before .before .args in
     let k = c .before .before .count .given .0 .0 in
     (l .loop .at + (2 + c .numbers-size .result) ≤ length (a .value .now))
-    × CountedPath knownType (widthOf (a .width)) (a .value .now) (l .loop .at + (2 + c .numbers-size .result)) (l .loop .segments + 1) (l .loop .numbers + k)
+    × CountedPath (ruleOf (a .rule)) (widthOf (a .width)) (a .value .now) (l .loop .at + (2 + c .numbers-size .result)) (l .loop .segments + 1) (l .loop .numbers + k)
 taken c =
     let l = c .before .before .before .before .before .before .before in
     let a = l .before .before .before .args in
-    let e = path-at knownType (widthOf (a .width)) (width-pos (a .width)) (a .value .now) (l .loop .at) _ _ (c .before .before .before .before .segment-count .ensures) (c .before .before .count .given .1) in
-    rw (c .numbers-size .ensures) (path-next knownType (widthOf (a .width)) (width-pos (a .width)) (a .value .now) (l .loop .at) (l .loop .segments) (l .loop .numbers) (l .loop .inv) _ e)
+    let e = path-at (ruleOf (a .rule)) (widthOf (a .width)) (width-pos (a .width)) (a .value .now) (l .loop .at) _ _ (c .before .before .before .before .segment-count .ensures) (c .before .before .count .given .1) in
+    rw (c .numbers-size .ensures) (path-next (ruleOf (a .rule)) (widthOf (a .width)) (width-pos (a .width)) (a .value .now) (l .loop .at) (l .loop .segments) (l .loop .numbers) (l .loop .inv) _ e)
 
 cast-numbers-size : tie.Need-cast-numbers-size Inv-loop μ-loop
 cast-numbers-size c = search needs
@@ -84,15 +84,15 @@ returns-2 : tie.Need-returns-2 Inv-loop μ-loop
 returns-2 c =
     let l = c .before .before .before .before .before .before in
     let a = l .before .before .before .args in
-    let e = path-at knownType (widthOf (a .width)) (width-pos (a .width)) (a .value .now) (l .loop .at) _ _ (c .before .before .before .segment-count .ensures) (c .before .n .given .1) in
-    path-stop knownType (widthOf (a .width)) (width-pos (a .width)) (a .value .now) (l .loop .at) (l .loop .segments) (l .loop .numbers) (l .loop .inv) _ (l .before .if1 .left)
+    let e = path-at (ruleOf (a .rule)) (widthOf (a .width)) (width-pos (a .width)) (a .value .now) (l .loop .at) _ _ (c .before .before .before .segment-count .ensures) (c .before .n .given .1) in
+    path-stop (ruleOf (a .rule)) (widthOf (a .width)) (width-pos (a .width)) (a .value .now) (l .loop .at) (l .loop .segments) (l .loop .numbers) (l .loop .inv) _ (l .before .if1 .left)
     (c .before .before .before .before .before .loop-test .taken) e
 
 returns-3 : tie.Need-returns-3 Inv-loop μ-loop
 returns-3 c =
     let l = c .before in
     let a = l .before .before .before .args in
-    path-done knownType (widthOf (a .width)) (width-pos (a .width)) (a .value .now) (l .loop .at) (l .loop .segments) (l .loop .numbers) (l .loop .inv) (l .before .if1 .left) (c .loop-test .left)
+    path-done (ruleOf (a .rule)) (widthOf (a .width)) (width-pos (a .width)) (a .value .now) (l .loop .at) (l .loop .segments) (l .loop .numbers) (l .loop .inv) (l .before .if1 .left) (c .loop-test .left)
 
 pub count-as-path-spec : {M : Type 1} → statement M
 count-as-path-spec =

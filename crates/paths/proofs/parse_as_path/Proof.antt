@@ -1,8 +1,11 @@
-use mathlib.Core.Path.{_≡_, refl, sym, _∙_}
+use mathlib.Core.Path.{_≡_, refl, sym, ap, _∙_}
 use native.Mathlib.Omega.{arith}
 use lib.ListN.{length}
 use Rattle.asns.specs.Asn.{widthOf}
-use Rattle.paths.specs.Segment.{knownType, pathOf}
+use Rattle.wire.specs.Store.{laid}
+use Rattle.wire.specs.Walk.{Reading, flat}
+use Rattle.paths.specs.Segment.{Segment, knownType, ruleOf, pathOf, pairOf, asnsOf}
+use Rattle.paths.proofs.RuleLaws.{path-alike}
 use Rattle.paths.specs.Promises.{countAnswer}
 use Rattle.paths.proofs.PromiseLaws.{count-path, leave, pairs-length, no-pairs, no-numbers, room}
 use Rattle.paths.specs.declared.PathAnswer.the-variants.{Path}
@@ -19,8 +22,16 @@ enum-known-segments c = search needs
 -- the count of a good path
 counted : (k : tie.After-known-told) →
     let a = k .before .before .before .before .before .before .before .args in
-    countAnswer (a .value .now) (pathOf knownType (widthOf (a .width)) (a .value .now)) ≡ Path (k .before .segments .given .0 .0) (k .before .segments .given .0 .1 .0)
+    countAnswer (a .value .now) (pathOf (ruleOf (a .rule)) (widthOf (a .width)) (a .value .now)) ≡ Path (k .before .segments .given .0 .0) (k .before .segments .given .0 .1 .0)
 counted k = sym (k .before .before .before .count-as-path .ensures) ∙ k .before .segments .given .1
+
+-- the crate's reading of it is the same
+alike : (k : tie.After-known-told) →
+    let a = k .before .before .before .before .before .before .before .args in
+    pathOf knownType (widthOf (a .width)) (a .value .now) ≡ pathOf (ruleOf (a .rule)) (widthOf (a .width)) (a .value .now)
+alike k =
+    let a = k .before .before .before .before .before .before .before .args in
+    sym (path-alike (a .rule) (widthOf (a .width)) (a .value .now) (count-path (a .value .now) _ _ _ (counted k) .1))
 
 returns : tie.Need-returns
 returns c =
@@ -39,7 +50,9 @@ fill-requires c κs =
     let k = c .before .before .before .before in
     let a = c .before .before .before .before .before .before .before .before .before .before .before .args in
     let h = count-path (a .value .now) _ _ _ (counted k) in
-    (h .1, (omega (arith, h .2, c .before .before .before .if1 .left, pairs-length (pathOf knownType (widthOf (a .width)) (a .value .now) .rows)), (h .3, c .before .before .if2 .left)))
+    let e = alike k in
+    let two = ap (λ (r : Reading Segment). length (flat pairOf (r .rows))) e ∙ pairs-length (pathOf (ruleOf (a .rule)) (widthOf (a .width)) (a .value .now) .rows) in
+    (ap (λ (r : Reading Segment). r .verdict) e ∙ h .1, (omega (arith, h .2, c .before .before .before .if1 .left, two), (ap (λ (r : Reading Segment). length (flat asnsOf (r .rows))) e ∙ h .3, c .before .before .if2 .left)))
 
 enum-known-n : tie.Need-enum-known-n
 enum-known-n c = search needs
@@ -55,7 +68,9 @@ returns-3 c =
     let k = c .before .before .before .before .before .before .before .before .before in
     let a = c .before .before .before .before .before .before .before .before .before .before .before .before .before .before .before .before .args in
     let h = leave (a .value .now) _ (a .pairs .now) (a .numbers .now) _ _ (counted k) (room (k .before .segments .given .0 .0) (k .before .segments .given .0 .1 .0) (length (a .pairs .now)) (length (a .numbers .now)) (c .before .before .before .before .before .before .before .before .if1 .left) (c .before .before .before .before .before .before .before .if2 .left)) in
-    (h .0, (c .before .before .before .before .fill .ensures .0 ∙ h .1 .0, c .before .before .before .before .fill .ensures .1 ∙ h .1 .1))
+    let e = alike k in
+    let left = c .before .before .before .before .fill .ensures in
+    (h .0, (left .0 ∙ ap (λ (r : Reading Segment). laid (a .pairs .now) 0 (flat pairOf (r .rows))) e ∙ h .1 .0, left .1 ∙ ap (λ (r : Reading Segment). laid (a .numbers .now) 0 (flat asnsOf (r .rows))) e ∙ h .1 .1))
 
 returns-4 : tie.Need-returns-4
 returns-4 c =

@@ -1,12 +1,12 @@
 use borrow.Author.Tests.{lt-leb}
-use mathlib.Core.Path.{_≡_, sym, ap, _∙_}
+use mathlib.Core.Path.{_≡_, sym, ap, ap₂, _∙_}
 use native.Mathlib.Omega.{arith}
 use lib.ListN.{getD, length}
 use Prim.Native.Nat.{ℕ, _+_, _≤_, _<_}
 use Rattle.wire.specs.Walk.{stop}
 use Rattle.asns.specs.Asn.{widthOf, span}
 use Rattle.asns.proofs.AsnLaws.{span-most}
-use Rattle.paths.specs.Segment.{segmentOf, typeFault, knownType}
+use Rattle.paths.specs.Segment.{segmentOf, ruleOf}
 use Rattle.paths.specs.Private.{shortFault, countIn}
 use Rattle.paths.proofs.SegmentLaws.{none-short, short-segment, fault-segment, count-taken}
 use borrow.Author.Needs.{needs}
@@ -40,48 +40,55 @@ shared-slice-read-wide c = search needs
 wide-requires : tie.Need-wide-requires
 wide-requires c κs = search needs
 
-type-fault-requires : tie.Need-type-fault-requires
-type-fault-requires c κs = search needs
+wide-requires-2 : tie.Need-wide-requires-2
+wide-requires-2 c κs = search needs
 
--- before the two tests: type and count are there, and what stands against the segment's size and its type
-two : (t : tie.After-type-fault) → 2 ≤ length (t .before .before .before .before .before .before .before .before .args .s .now)
-two t = t .before .before .before .before .before .before .if1 .left
+rule-fault-requires : tie.Need-rule-fault-requires
+rule-fault-requires c κs = search needs
 
-short-is : (t : tie.After-type-fault) →
-    let a = t .before .before .before .before .before .before .before .before .args in
-    t .before .before .before .short-fault .result ≡ shortFault (length (a .s .now)) (2 + span (widthOf (a .width)) (getD (a .s .now) 1 0))
+-- before the two tests: type and count are there, and what stands against the segment's size, its type and its count
+two : (t : tie.After-rule-fault) → 2 ≤ length (t .before .before .before .before .before .before .before .before .before .args .s .now)
+two t = t .before .before .before .before .before .before .before .if1 .left
+
+short-is : (t : tie.After-rule-fault) →
+    let a = t .before .before .before .before .before .before .before .before .before .args in
+    t .before .before .before .before .short-fault .result ≡ shortFault (length (a .s .now)) (2 + span (widthOf (a .width)) (getD (a .s .now) 1 0))
 short-is t =
-    let a = t .before .before .before .before .before .before .before .before .args in
-    t .before .before .before .short-fault .ensures ∙ ap (λ (k : ℕ). shortFault (length (a .s .now)) (2 + k)) (t .before .before .before .before .numbers-size .ensures)
+    let a = t .before .before .before .before .before .before .before .before .before .args in
+    t .before .before .before .before .short-fault .ensures ∙ ap (λ (k : ℕ). shortFault (length (a .s .now)) (2 + k)) (t .before .before .before .before .before .numbers-size .ensures)
 
-type-is : (t : tie.After-type-fault) → t .type-fault .result ≡ typeFault (getD (t .before .before .before .before .before .before .before .before .args .s .now) 0 0)
-type-is t = t .type-fault .ensures ∙ ap typeFault (t .before .wide .ensures)
+fault-is : (t : tie.After-rule-fault) →
+    let a = t .before .before .before .before .before .before .before .before .before .args in
+    t .rule-fault .result ≡ ruleOf (a .rule) (getD (a .s .now) 0 0) (getD (a .s .now) 1 0)
+fault-is t =
+    let a = t .before .before .before .before .before .before .before .before .before .args in
+    t .rule-fault .ensures ∙ ap₂ (ruleOf (a .rule)) (t .before .before .wide .ensures) (t .before .wide2 .ensures)
 
 returns-2 : tie.Need-returns-2
 returns-2 c =
     let t = c .before in
-    let a = t .before .before .before .before .before .before .before .before .args in
-    let n : ℕ = t .before .before .before .short-fault .result in
+    let a = t .before .before .before .before .before .before .before .before .before .args in
+    let n : ℕ = t .before .before .before .before .short-fault .result in
     let pos : 0 < n = omega (arith, c .if2 .taken) in
-    let e : segmentOf knownType (widthOf (a .width)) tt (a .s .now) ≡ stop n = short-segment knownType (widthOf (a .width)) (a .s .now) n (two t) (short-is t) pos in
+    let e : segmentOf (ruleOf (a .rule)) (widthOf (a .width)) tt (a .s .now) ≡ stop n = short-segment (ruleOf (a .rule)) (widthOf (a .width)) (a .s .now) n (two t) (short-is t) pos in
     sym (ap countIn e)
 
 returns-3 : tie.Need-returns-3
 returns-3 c =
     let t = c .before .before in
-    let a = t .before .before .before .before .before .before .before .before .args in
+    let a = t .before .before .before .before .before .before .before .before .before .args in
     let room = none-short _ _ (sym (short-is t) ∙ c .before .if2 .left) in
-    let n : ℕ = t .type-fault .result in
+    let n : ℕ = t .rule-fault .result in
     let pos : 0 < n = omega (arith, c .if3 .taken) in
-    let e : segmentOf knownType (widthOf (a .width)) tt (a .s .now) ≡ stop n = fault-segment knownType (widthOf (a .width)) (a .s .now) n (two t) room (type-is t) pos in
+    let e : segmentOf (ruleOf (a .rule)) (widthOf (a .width)) tt (a .s .now) ≡ stop n = fault-segment (ruleOf (a .rule)) (widthOf (a .width)) (a .s .now) n (two t) room (fault-is t) pos in
     sym (ap countIn e)
 
 returns-4 : tie.Need-returns-4
 returns-4 c =
     let t = c .before .before in
-    let a = t .before .before .before .before .before .before .before .before .args in
+    let a = t .before .before .before .before .before .before .before .before .before .args in
     let room = none-short _ _ (sym (short-is t) ∙ c .before .if2 .left) in
-    count-taken knownType (widthOf (a .width)) (a .s .now) (two t) room (sym (c .if3 .left) ∙ type-is t)
+    count-taken (ruleOf (a .rule)) (widthOf (a .width)) (a .s .now) (two t) room (sym (c .if3 .left) ∙ fault-is t)
 
 pub segment-count-spec : {M : Type 1} → statement M
 segment-count-spec =
@@ -95,7 +102,8 @@ segment-count-spec =
     short-fault-requires
     shared-slice-read-wide
     wide-requires
-    type-fault-requires
+    wide-requires-2
+    rule-fault-requires
     returns-2
     returns-3
     returns-4)
