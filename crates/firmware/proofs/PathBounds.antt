@@ -1,9 +1,10 @@
--- The fields of every answer of the module path are of 16 bits; and what reading one told.
+-- The fields of every answer of the module path are of 16 bits; what reading one told; and a width and a rule in one number.
 -- Assumes nothing.
-use Prim.Native.Nat.{ℕ, _/_, _≤_, _<_}
-use mathlib.Core.Path.{_≡_}
+use Prim.Native.Nat.{ℕ, _+_, _/_, _%_, _≤_, _<_}
+use mathlib.Core.Path.{_≡_, refl, ap}
 use mathlib.Core.List.{List}
 use native.Mathlib.Omega.{arith}
+use borrow.Author.Tests.{le-leb, lt-leb}
 use lib.ListN.{length}
 use lib.Dec.{leb}
 use Rattle.wire.specs.Answer.{writeMeaning}
@@ -17,48 +18,52 @@ use Rattle.wire.proofs.Turn.{Light}
 use Rattle.asns.specs.Asn.{widthOf}
 use Rattle.asns.specs.declared.AsnLength.{AsnLength}
 use Rattle.asns.specs.declared.AsnLength.the-variants.{Bits16, Bits32}
-use Rattle.paths.specs.Segment.{knownType, segmentOf, pathOf, asnsOf}
+use Rattle.paths.specs.Segment.{Rule, ruleOf, segmentOf, pathOf, asnsOf}
 use Rattle.paths.proofs.SegmentLaws.{segment-sound, light-segments, light-numbers}
 use Rattle.paths.specs.Promises as paths
 use Rattle.paths.specs.Promises.{pathMeaning}
+use Rattle.paths.specs.declared.PathRule.{PathRule}
+use Rattle.paths.specs.declared.PathRule.the-variants.{Crate, Strict}
 use Rattle.paths.specs.declared.PathAnswer.{PathAnswer}
 use Rattle.paths.specs.declared.PathAnswer.the-variants as P
 use Rattle.path_writer.specs.Promises.{encodeAnswer}
 use Rattle.path_writer.specs.Write.{addsUp, lentPath}
+use Rattle.words.specs.Settings.{asnLengthOf}
 use Rattle.words.specs.Word.{inFields, wordOf, Narrow}
 use Rattle.words.proofs.WordLaws.{refused-narrow}
+use Rattle.firmware.specs.Private.{ruleIn}
 use Rattle.firmware.proofs.Bounds.{tally-few, answer-any, limited-narrow}
 
 width-pos : (width : AsnLength) → 0 < widthOf width
 width-pos Bits16 = omega arith
 width-pos Bits32 = omega arith
 
-module _ (s : List ℕ) (width : AsnLength) where
-  segments-few : length (pathOf knownType (widthOf width) s .rows) ≤ length s
+module _ (s : List ℕ) (width : AsnLength) (rule : Rule) where
+  segments-few : length (pathOf rule (widthOf width) s .rows) ≤ length s
   unfolding pathOf
   segments-few =
       let w : ℕ = widthOf width in
-      omega (arith, tally-one (readAll (segmentOf knownType w) tt s .rows), tally-few (segmentOf knownType w) (segment-sound knownType w) (λ _. 1) (light-segments knownType w) tt s)
+      omega (arith, tally-one (readAll (segmentOf rule w) tt s .rows), tally-few (segmentOf rule w) (segment-sound rule w) (λ _. 1) (light-segments rule w) tt s)
 
-  numbers-few : length (flat asnsOf (pathOf knownType (widthOf width) s .rows)) ≤ length s
+  numbers-few : length (flat asnsOf (pathOf rule (widthOf width) s .rows)) ≤ length s
   unfolding pathOf
   numbers-few =
       let w : ℕ = widthOf width in
-      let many : Light (segmentOf knownType w) (λ g. length (asnsOf g)) 1 = light-numbers knownType w (width-pos width) in
-      omega (arith, tally-flat asnsOf (readAll (segmentOf knownType w) tt s .rows), tally-few (segmentOf knownType w) (segment-sound knownType w) (λ g. length (asnsOf g)) many tt s)
+      let many : Light (segmentOf rule w) (λ g. length (asnsOf g)) 1 = light-numbers rule w (width-pos width) in
+      omega (arith, tally-flat asnsOf (readAll (segmentOf rule w) tt s .rows), tally-few (segmentOf rule w) (segment-sound rule w) (λ g. length (asnsOf g)) many tt s)
 
-  pub count-path-narrow : Narrow (inFields (pathMeaning (paths.countAnswer s (pathOf knownType (widthOf width) s))))
+  pub count-path-narrow : Narrow (inFields (pathMeaning (paths.countAnswer s (pathOf rule (widthOf width) s))))
   unfolding paths.countAnswer
   count-path-narrow =
       let Fine : PathAnswer → Type 0 = λ a. Narrow (inFields (pathMeaning a)) in
       pick-leb Fine (length s) listLimit _ (P.Refused tooLong)
-      (λ short. answer-any Fine (pathOf knownType (widthOf width) s .verdict) _ P.Refused
+      (λ short. answer-any Fine (pathOf rule (widthOf width) s .verdict) _ P.Refused
       (record { a = omega (arith, segments-few); b = omega (arith, numbers-few); c = omega arith }) refused-narrow)
       (λ _. refused-narrow tooLong)
 
-  pub read-path-narrow : (p q : ℕ) → Narrow (inFields (pathMeaning (paths.readAnswer s (pathOf knownType (widthOf width) s) p q)))
+  pub read-path-narrow : (p q : ℕ) → Narrow (inFields (pathMeaning (paths.readAnswer s (pathOf rule (widthOf width) s) p q)))
   unfolding paths.readAnswer
-  read-path-narrow p q = by (paths.countAnswer s (pathOf knownType (widthOf width) s)) count-path-narrow
+  read-path-narrow p q = by (paths.countAnswer s (pathOf rule (widthOf width) s)) count-path-narrow
     where
       by : (a : PathAnswer) → Narrow (inFields (pathMeaning a)) → Narrow (inFields (pathMeaning (paths.inStores a p q)))
       by (P.Path m n) h =
@@ -68,23 +73,34 @@ module _ (s : List ℕ) (width : AsnLength) where
           (refused-narrow noRoom)
       by (P.Refused n) h = refused-narrow n
 
--- what reading into two stores told, by the width of a flag
-pub read-told : (s : List ℕ) (width width′ : AsnLength) (pairs numbers pairs′ numbers′ : List ℕ) (a : PathAnswer) (r : ℕ)
-    → width ≡ width′ → r ≡ wordOf (inFields (pathMeaning a)) → a ≡ paths.readAnswer s (pathOf knownType (widthOf width) s) (length pairs) (length numbers)
-    → pairs′ ≡ paths.pairsAfter s (pathOf knownType (widthOf width) s) pairs (length numbers)
-    → numbers′ ≡ paths.numbersAfter s (pathOf knownType (widthOf width) s) (length pairs) numbers
-    → let path = pathOf knownType (widthOf width′) s in
+-- what reading into two stores told, by the width and the rule that a call was given
+pub read-told : (s : List ℕ) (width width′ : AsnLength) (rule rule′ : PathRule) (pairs numbers pairs′ numbers′ : List ℕ) (a : PathAnswer) (r : ℕ)
+    → width ≡ width′ → rule ≡ rule′ → r ≡ wordOf (inFields (pathMeaning a)) → a ≡ paths.readAnswer s (pathOf (ruleOf rule) (widthOf width) s) (length pairs) (length numbers)
+    → pairs′ ≡ paths.pairsAfter s (pathOf (ruleOf rule) (widthOf width) s) pairs (length numbers)
+    → numbers′ ≡ paths.numbersAfter s (pathOf (ruleOf rule) (widthOf width) s) (length pairs) numbers
+    → let path = pathOf (ruleOf rule′) (widthOf width′) s in
     (r ≡ wordOf (inFields (pathMeaning (paths.readAnswer s path (length pairs) (length numbers)))))
     × ((pairs′ ≡ paths.pairsAfter s path pairs (length numbers)) × (numbers′ ≡ paths.numbersAfter s path (length pairs) numbers))
-read-told s width width′ pairs numbers pairs′ numbers′ a r m e f g h = rw (← m, ← f) (e, (g, h))
+read-told s width width′ rule rule′ pairs numbers pairs′ numbers′ a r m n e f g h = rw (← m, ← n, ← f) (e, (g, h))
 
 -- ---- what is written
 
-pub write-path-narrow : (pairs numbers : List ℕ) (width : AsnLength) (places : ℕ)
-    → Narrow (inFields (writeMeaning (encodeAnswer knownType (widthOf width) pairs numbers places)))
+pub write-path-narrow : (pairs numbers : List ℕ) (width : AsnLength) (rule : Rule) (places : ℕ)
+    → Narrow (inFields (writeMeaning (encodeAnswer rule (widthOf width) pairs numbers places)))
 unfolding encodeAnswer
-write-path-narrow pairs numbers width places =
+write-path-narrow pairs numbers width rule places =
     let Fine : WriteAnswer → Type 0 = λ a. Narrow (inFields (writeMeaning a)) in
     pick-any Fine (addsUp pairs (length numbers)) _ (W.Refused notWritable)
-    (answer-any Fine (lentPath knownType (widthOf width) pairs numbers .verdict) _ W.Refused (limited-narrow listLimit _ places (omega arith)) refused-narrow)
+    (answer-any Fine (lentPath rule (widthOf width) pairs numbers .verdict) _ W.Refused (limited-narrow listLimit _ places (omega arith)) refused-narrow)
     (refused-narrow notWritable)
+
+-- ---- a flag of a width and a rule in one number
+
+module _ (flag : ℕ) (byte : flag < 256) where
+  pub how-crate : (ruleIn flag ≡ Crate) × (asnLengthOf (flag % 256) ≡ asnLengthOf flag)
+  unfolding ruleIn
+  how-crate = (rw (lt-leb 256 flag byte) refl, ap asnLengthOf (omega arith))
+
+  pub how-strict : (ruleIn (256 + flag) ≡ Strict) × (asnLengthOf ((256 + flag) % 256) ≡ asnLengthOf flag)
+  unfolding ruleIn
+  how-strict = (rw (le-leb 256 (256 + flag) (omega arith)) refl, ap asnLengthOf (omega arith))

@@ -1,1 +1,2 @@
 pub mod Fields
+pub mod Private

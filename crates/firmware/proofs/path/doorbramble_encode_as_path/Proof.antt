@@ -1,33 +1,19 @@
-use Rattle.words.proofs.WordLaws.{told-in}
-use Rattle.wire.specs.Answer.{writeMeaning}
-use Rattle.firmware.proofs.PathBounds.{write-path-narrow}
+use native.Mathlib.Omega.{arith}
+use Rattle.firmware.proofs.PathBounds.{how-crate}
 use borrow.Author.Needs.{needs}
 use Rattle.firmware.proofs.path.doorbramble_encode_as_path.Statement.{statement}
 use Rattle.firmware.proofs.path.doorbramble_encode_as_path.Tie as tie
 
-asn-length-of-requires : tie.Need-asn-length-of-requires
-asn-length-of-requires c κs = search needs
-
-encode-as-path-requires : tie.Need-encode-as-path-requires
-encode-as-path-requires c κs = search needs
-
-write-word-requires : tie.Need-write-word-requires
-write-word-requires c κs = rw (c .before .before .encode-as-path .ensures .0) (write-path-narrow _ _ (c .before .before .before .before .asn-length-of .result) _)
+encode-by-requires : tie.Need-encode-by-requires
+encode-by-requires c κs = search needs
 
 same-length : tie.Need-same-length
 same-length c = search needs
 
 returns : tie.Need-returns
-returns c =
-    let e = rw (c .before .before .before .before .before .asn-length-of .ensures) at (c .before .before .before .encode-as-path .ensures) in
-    (told-in writeMeaning (c .write-word .ensures) (e .0), e .1)
+returns c = let h = how-crate (c .before .before .before .before .before .before .before .args .four-bytes) (omega arith) in rw (h .0, h .1) at (c .before .before .encode-by .ensures)
 
 pub doorbramble-encode-as-path-spec : {M : Type 1} → statement M
 doorbramble-encode-as-path-spec =
     tie.close
-    (tie.spec
-    asn-length-of-requires
-    encode-as-path-requires
-    write-word-requires
-    same-length
-    returns)
+    (tie.spec encode-by-requires same-length returns)
