@@ -50,7 +50,7 @@ extern "C" {
 /* of this header: the major number rises when a caller that was compiled before would break, the minor one when calls are added.
  * doorbramble_version() is that of the library. */
 #define DOORBRAMBLE_VERSION_MAJOR 1
-#define DOORBRAMBLE_VERSION_MINOR 1
+#define DOORBRAMBLE_VERSION_MINOR 2
 
 /* ---- refusal numbers */
 
@@ -85,6 +85,8 @@ extern "C" {
 #define DOORBRAMBLE_NOT_WRITABLE 14
 /* an attribute section that is searched has a second MP_REACH_NLRI or a second MP_UNREACH_NLRI */
 #define DOORBRAMBLE_REPEATED_MP_NLRI 15
+/* a segment has no AS numbers: the strict calls on an AS_PATH alone */
+#define DOORBRAMBLE_EMPTY_SEGMENT 16
 
 /* ---- message types, settings, sizes */
 
@@ -231,7 +233,7 @@ uint64_t doorbramble_encode_nlri_prefixes(const uint32_t *rows, size_t rows_len,
 /* ---- AS_PATH and AGGREGATOR, of AS numbers of two bytes or of four */
 
 /* How many segments an AS_PATH has, and how many AS numbers they have together. Answer: segments, numbers. Refusals: 1, then 2 and 9 in
- * byte order. */
+ * byte order. A segment of no AS numbers is one, as the crate has it: `02 00` is an empty sequence. */
 uint64_t doorbramble_count_as_path(const uint8_t *value, size_t value_len, uint8_t four_bytes);
 
 /* The same, with a pair of type and count for each segment at the front of pairs, and the AS numbers of all of them back to back at the
@@ -243,6 +245,14 @@ uint64_t doorbramble_parse_as_path(const uint8_t *value, size_t value_len, uint8
  * add up to numbers_len; then 9, 12 and 13 segment by segment; 1; 11. */
 uint64_t doorbramble_encode_as_path(const uint32_t *pairs, size_t pairs_len, const uint32_t *numbers, size_t numbers_len,
                                     uint8_t four_bytes, uint8_t *out, size_t out_len);
+
+/* The same three by RFC 7606 section 7.2, which calls a segment of no AS numbers malformed: 16 for such a segment. In one segment it comes
+ * after 9, and before 12 and 13. Everything else is answered as above. */
+uint64_t doorbramble_count_as_path_strict(const uint8_t *value, size_t value_len, uint8_t four_bytes);
+uint64_t doorbramble_parse_as_path_strict(const uint8_t *value, size_t value_len, uint8_t four_bytes, uint32_t *pairs, size_t pairs_len,
+                                          uint32_t *numbers, size_t numbers_len);
+uint64_t doorbramble_encode_as_path_strict(const uint32_t *pairs, size_t pairs_len, const uint32_t *numbers, size_t numbers_len,
+                                           uint8_t four_bytes, uint8_t *out, size_t out_len);
 
 /* The AS number and the identifier of an AGGREGATOR, at the front of words. Its own length says how wide its AS number is, and differs that
  * this is not the width given. Answer: words, differs. Refusals: 1, 10, then 11. */
