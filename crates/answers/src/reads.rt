@@ -12,7 +12,11 @@ fn counted(op: u8, settings: u8, s: &[u8]) -> Numbers {
     match op {
         3 => numbers::of_list(routes::count_nlri_list(s, request::afi(settings), mode)),
         5 => numbers::of_list(routes::count_nlri(s, Afi::Ipv4, mode)),
-        7 => numbers::of_path(paths::count_as_path(s, request::width(settings))),
+        7 => numbers::of_path(paths::count_as_path(
+            s,
+            request::width(settings),
+            request::rule(settings),
+        )),
         _ => numbers::of_update(updates::count_bgp_update_message(s, mode)),
     }
 }
@@ -80,7 +84,13 @@ fn stored(op: u8, settings: u8, s: &[u8], a: &mut [u32], b: &mut [u32]) -> Numbe
     match op {
         2 => numbers::of_list(route_reader::parse_nlri_list(s, request::afi(settings), mode, a)),
         4 => numbers::of_list(route_reader::read_nlri(s, Afi::Ipv4, mode, a)),
-        6 => numbers::of_path(paths::parse_as_path(s, request::width(settings), a, b)),
+        6 => numbers::of_path(paths::parse_as_path(
+            s,
+            request::width(settings),
+            request::rule(settings),
+            a,
+            b,
+        )),
         _ => numbers::of_update(updates::parse_bgp_update_message(s, mode, a, b)),
     }
 }

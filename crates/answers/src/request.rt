@@ -2,6 +2,7 @@
 use asns::AsnLength;
 use families::Afi;
 use families::Form;
+use paths::PathRule;
 
 // The bytes of a head.
 pub const HEAD_SIZE: usize = 18;
@@ -172,4 +173,11 @@ pub fn width(settings: u8) -> AsnLength {
 
 pub fn is_strict(settings: u8) -> bool {
     settings / 16 % 2 == 1
+}
+
+pub fn rule(settings: u8) -> PathRule {
+    if is_strict(settings) {
+        return PathRule::Strict;
+    }
+    PathRule::Crate
 }

@@ -24,6 +24,17 @@ fn aggregator(h: Head, one: &[u8], w: &mut [u8]) -> WriteAnswer {
     )
 }
 
+// Op 14.
+fn path(pairs: &[u32], numbers: &[u32], settings: u8, w: &mut [u8]) -> WriteAnswer {
+    path_writer::encode_as_path(
+        pairs,
+        numbers,
+        request::width(settings),
+        request::rule(settings),
+        w,
+    )
+}
+
 // A writer's answer: rows and more are the numbers of the parts that hold numbers.
 fn written(
     h: Head,
@@ -37,7 +48,7 @@ fn written(
     let form = request::form(h.settings);
     match op {
         13 => route_writer::encode_nlri_prefixes(rows, request::afi(h.settings), form, w),
-        14 => path_writer::encode_as_path(rows, more, request::width(h.settings), w),
+        14 => path(rows, more, h.settings, w),
         15 => aggregator(h, one, w),
         16 => messages::encode_bgp_message(h.argument, one, w),
         _ => update_writer::encode_bgp_update_message(rows, two, more, form, w),

@@ -1,7 +1,9 @@
-// The path and AGGREGATOR examples of document 01, through the calls themselves: what it prints is compared with the file stdout.
+// The path and AGGREGATOR examples of document 01, and document 02's empty segment, through the calls themselves: what it prints is compared with the
+// file stdout.
 use asns::AggregatorAnswer;
 use asns::AsnLength;
 use paths::PathAnswer;
+use paths::PathRule;
 use wire::WriteAnswer;
 
 // A word before a number, and then the number.
@@ -27,10 +29,10 @@ fn say_numbers(store: &[u32], n: usize) {
 }
 
 // A path that is read: its segments as pairs of type and count, then its numbers.
-fn show_path(value: &[u8], width: AsnLength) {
+fn show_path(value: &[u8], width: AsnLength, rule: PathRule) {
     let mut pairs = [0u32; 4];
     let mut numbers = [0u32; 4];
-    match paths::parse_as_path(value, width, &mut pairs, &mut numbers) {
+    match paths::parse_as_path(value, width, rule, &mut pairs, &mut numbers) {
         PathAnswer::Path {
             segments,
             numbers: n,
@@ -49,8 +51,8 @@ fn show_path(value: &[u8], width: AsnLength) {
 }
 
 // The counts of a path that is only counted.
-fn show_count(value: &[u8], width: AsnLength) {
-    match paths::count_as_path(value, width) {
+fn show_count(value: &[u8], width: AsnLength, rule: PathRule) {
+    match paths::count_as_path(value, width, rule) {
         PathAnswer::Path { segments, numbers } => {
             say(b"counted ", segments as u64);
             say(b" ", numbers as u64);
@@ -70,10 +72,10 @@ fn show_written(answer: WriteAnswer) {
 }
 
 // A sequence of that count with the numbers lent, written.
-fn show_sequence(count: u32, numbers: &[u32], width: AsnLength) {
+fn show_sequence(count: u32, numbers: &[u32], width: AsnLength, rule: PathRule) {
     let pairs = [2u32, count];
     let mut out = [0u8; 1026];
-    show_written(path_writer::encode_as_path(&pairs, numbers, width, &mut out));
+    show_written(path_writer::encode_as_path(&pairs, numbers, width, rule, &mut out));
 }
 
 // An AGGREGATOR that is read: its number, its identifier's four bytes as one number, and whether the width differs.
@@ -105,33 +107,53 @@ fn read_paths() {
     show_path(
         b"\x02\x02\x00\x00\xFD\xE9\x00\x00\xFD\xEA",
         AsnLength::Bits32,
+        PathRule::Crate,
     );
     show_path(
         b"\x02\x02\x00\x00\xFD\xE9\x00\x00\xFD\xEA",
         AsnLength::Bits16,
+        PathRule::Crate,
     );
-    show_path(b"\x02\x00", AsnLength::Bits32);
-    show_path(b"\x05\x01", AsnLength::Bits32);
-    show_path(b"\x05\x00", AsnLength::Bits32);
+    show_path(b"\x02\x00", AsnLength::Bits32, PathRule::Crate);
+    show_path(b"\x05\x01", AsnLength::Bits32, PathRule::Crate);
+    show_path(b"\x05\x00", AsnLength::Bits32, PathRule::Crate);
 }
 
 fn counted_paths() {
     show_count(
         b"\x02\x02\x00\x00\xFD\xE9\x00\x00\xFD\xEA",
         AsnLength::Bits32,
+        PathRule::Crate,
     );
     show_count(
         b"\x02\x02\x00\x00\xFD\xE9\x00\x00\xFD\xEA",
         AsnLength::Bits16,
+        PathRule::Crate,
     );
 }
 
 // With as many numbers as a segment holds, and one more.
 fn written_paths() {
-    show_sequence(1, &[65536u32; 1], AsnLength::Bits16);
-    show_sequence(255, &[65001u32; 255], AsnLength::Bits32);
-    show_sequence(256, &[65001u32; 256], AsnLength::Bits32);
-    show_sequence(2, &[65001u32; 1], AsnLength::Bits32);
+    show_sequence(1, &[65536u32; 1], AsnLength::Bits16, PathRule::Crate);
+    show_sequence(255, &[65001u32; 255], AsnLength::Bits32, PathRule::Crate);
+    show_sequence(256, &[65001u32; 256], AsnLength::Bits32, PathRule::Crate);
+    show_sequence(2, &[65001u32; 1], AsnLength::Bits32, PathRule::Crate);
+}
+
+// An empty sequence, by both rules; and what is named before it.
+fn empty_segments() {
+    show_path(b"\x02\x00", AsnLength::Bits32, PathRule::Strict);
+    show_path(
+        b"\x02\x01\x00\x00\xFD\xE9\x01\x00",
+        AsnLength::Bits32,
+        PathRule::Strict,
+    );
+    show_path(b"\x05\x00", AsnLength::Bits32, PathRule::Strict);
+    show_path(b"\x02", AsnLength::Bits32, PathRule::Strict);
+    show_count(b"\x02\x00", AsnLength::Bits32, PathRule::Crate);
+    show_count(b"\x02\x00", AsnLength::Bits32, PathRule::Strict);
+    show_sequence(0, &[0u32; 0], AsnLength::Bits32, PathRule::Crate);
+    show_sequence(0, &[0u32; 0], AsnLength::Bits32, PathRule::Strict);
 }
 
 fn aggregators() {
@@ -148,5 +170,6 @@ fn main() {
     read_paths();
     counted_paths();
     written_paths();
+    empty_segments();
     aggregators();
 }
