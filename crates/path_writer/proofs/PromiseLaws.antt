@@ -13,12 +13,14 @@ use Rattle.wire.specs.Store.{laid}
 use Rattle.wire.specs.Answer.{filled, answerBy, writeMeaning, limited}
 use Rattle.wire.proofs.AnswerLaws.{limited-long, limited-full, limited-fits, limited-bytes}
 use Rattle.asns.specs.Asn.{span}
-use Rattle.paths.specs.Segment.{Rule}
+use Rattle.wire.specs.Walk.{Reading}
+use Rattle.paths.specs.Segment.{Segment, Rule, knownType, ruleOf}
+use Rattle.paths.specs.declared.PathRule.{PathRule}
 use Rattle.wire.specs.declared.WriteAnswer.{WriteAnswer}
 use Rattle.wire.specs.declared.WriteAnswer.the-variants as W
-use Rattle.path_writer.specs.Write.{addsUp, lentPath}
+use Rattle.path_writer.specs.Write.{addsUp, lentPath, pathBytes}
 use Rattle.path_writer.proofs.WriteLaws.{path-length}
-use Rattle.path_writer.proofs.Lent.{lent-back}
+use Rattle.path_writer.proofs.Lent.{lent-back, lent-alike}
 use Rattle.path_writer.specs.Promises.{lentBytes, encodeAnswer, encodeLeft}
 
 module _ (rule : Rule) (w : ℕ) (pairs numbers : List ℕ) where
@@ -80,3 +82,15 @@ module _ (rule : Rule) (w : ℕ) (pairs numbers : List ℕ) where
   pub written-out : (out : List ℕ) (n : ℕ) → encodeAnswer rule w pairs numbers (length out) ≡ W.Bytes n → encodeLeft rule w pairs numbers out ≡ laid out 0 (lentBytes rule w pairs numbers)
   unfolding encodeLeft
   written-out out n e = ap (λ (y : WriteAnswer). filled (writeMeaning y) (lentBytes rule w pairs numbers) out) e
+
+-- what is written by a rule is written the same by the crate's
+pub encode-alike : (rule : PathRule) (w : ℕ) (pairs numbers out : List ℕ) (n : ℕ) → encodeAnswer (ruleOf rule) w pairs numbers (length out) ≡ W.Bytes n
+    → (encodeAnswer knownType w pairs numbers (length out) ≡ encodeAnswer (ruleOf rule) w pairs numbers (length out))
+    × (encodeLeft knownType w pairs numbers out ≡ encodeLeft (ruleOf rule) w pairs numbers out)
+unfolding encodeLeft encodeAnswer lentBytes
+encode-alike rule w pairs numbers out n e =
+    let h = encode-written (ruleOf rule) w pairs numbers (length out) n e in
+    let same = lent-alike rule w pairs numbers (h .0) (h .1) in
+    let Told : Reading Segment → WriteAnswer =
+    λ r. pick (addsUp pairs (length numbers)) (answerBy (r .verdict) (limited listLimit (length (pathBytes w (r .rows))) (length out)) W.Refused) (W.Refused notWritable) in
+    (ap Told same, ap (λ (r : Reading Segment). filled (writeMeaning (Told r)) (pathBytes w (r .rows)) out) same)
