@@ -29,8 +29,10 @@ use Rattle.asns.specs.Asn.{widthOf, span}
 use Rattle.asns.specs.Aggregator.{aggregatorMeaning, aggregatorOf, aggregatorBytes, aggregatorWritten}
 use Rattle.asns.specs.declared.AsnLength.{AsnLength}
 use Rattle.asns.specs.declared.AsnLength.the-variants.{Bits16, Bits32}
-use Rattle.paths.specs.Segment.{knownType, typeFault, numbersOf, pairOf, segmentAt, segmentOf, pathOf}
+use Rattle.paths.specs.Segment.{knownType, ruleOf, typeFault, numbersOf, pairOf, segmentAt, segmentOf, pathOf}
 use Rattle.paths.specs.Promises as paths
+use Rattle.paths.specs.declared.PathRule.{PathRule}
+use Rattle.paths.specs.declared.PathRule.the-variants.{Crate, Strict}
 use Rattle.paths.specs.Promises.{pathMeaning}
 use Rattle.path_writer.specs.Write.{mostNumbers, segmentBytes, addsUp, allFit, writeFault, lentOf, lentPath, pathBytes}
 use Rattle.path_writer.specs.Promises as pathWriter
@@ -93,6 +95,7 @@ refusalNumbers =
     ∷ line refusals.wideNumber 13
     ∷ line refusals.notWritable 14
     ∷ line refusals.repeatedMpNlri 15
+    ∷ line refusals.emptySegment 16
     ∷ line refusals.listLimit 65535
     ∷ line refusals.bodyLimit 65516
     ∷ []
@@ -515,6 +518,72 @@ attributes =
     ∷ line (searchRefused 1 (0x50 ∷ 0x01 ∷ 0xFF ∷ 0xFB ∷ zeros 65531)) 0
     ∷ []
 
+-- ---- document 02, K2: "An empty segment is not a path"
+
+abbrev pub strictPath : AsnLength → List ℕ → ℕ
+strictPath width s = numberIn (pathMeaning (paths.countAnswer s (pathOf (ruleOf Strict) (widthOf width) s)))
+
+abbrev pub strictPathInto : List ℕ → ℕ → ℕ → ℕ
+strictPathInto s pairs numbers = numberIn (pathMeaning (paths.readAnswer s (pathOf (ruleOf Strict) 2 s) pairs numbers))
+
+abbrev pub strictWritten : List ℕ → List ℕ → ℕ → ℕ
+strictWritten pairs numbers places = numberIn (writeMeaning (pathWriter.encodeAnswer (ruleOf Strict) 2 pairs numbers places))
+
+-- and by the crate's rule, as a call has it
+abbrev pub cratePath : List ℕ → ℕ
+cratePath s = numberIn (pathMeaning (paths.countAnswer s (pathOf (ruleOf Crate) 2 s)))
+
+abbrev pub crateWritten : List ℕ → List ℕ → ℕ → ℕ
+crateWritten pairs numbers places = numberIn (writeMeaning (pathWriter.encodeAnswer (ruleOf Crate) 2 pairs numbers places))
+
+abbrev pub emptySegments : List Line
+emptySegments =
+    -- a count of 0, whatever the type; the crate's rule keeps it
+    line (strictPath Bits16 (1 ∷ 0 ∷ [])) 16
+    ∷ line (strictPath Bits16 (2 ∷ 0 ∷ [])) 16
+    ∷ line (strictPath Bits16 (3 ∷ 0 ∷ [])) 16
+    ∷ line (strictPath Bits16 (4 ∷ 0 ∷ [])) 16
+    ∷ line (strictPath Bits32 (2 ∷ 0 ∷ [])) 16
+    ∷ line (strictPath Bits16 (2 ∷ 1 ∷ 0 ∷ 7 ∷ [])) 0
+    ∷ line (strictPath Bits32 (2 ∷ 1 ∷ 0 ∷ 0 ∷ 0 ∷ 7 ∷ [])) 0
+    ∷ line (strictPath Bits16 []) 0
+    ∷ line (cratePath (2 ∷ 0 ∷ [])) 0
+    ∷ line (cratePath (5 ∷ 0 ∷ [])) 9
+    -- in one segment 2, 2, 9, then 16
+    ∷ line (strictPath Bits16 (2 ∷ [])) 2
+    ∷ line (strictPath Bits16 (2 ∷ 1 ∷ 0 ∷ [])) 2
+    ∷ line (strictPath Bits16 (0 ∷ 0 ∷ [])) 9
+    ∷ line (strictPath Bits16 (5 ∷ 0 ∷ [])) 9
+    -- segment by segment, in byte order
+    ∷ line (strictPath Bits16 (2 ∷ 1 ∷ 0 ∷ 7 ∷ 2 ∷ 0 ∷ [])) 16
+    ∷ line (strictPath Bits16 (2 ∷ 0 ∷ 2 ∷ [])) 16
+    ∷ line (strictPath Bits16 (2 ∷ 0 ∷ 5 ∷ 0 ∷ [])) 16
+    ∷ line (strictPath Bits16 (5 ∷ 0 ∷ 2 ∷ 0 ∷ [])) 9
+    -- 1 before it, 11 after it
+    ∷ line (strictPath Bits16 (2 ∷ zeros 65534)) 16
+    ∷ line (strictPath Bits16 (2 ∷ zeros 65535)) 1
+    ∷ line (strictPathInto (2 ∷ 0 ∷ []) 0 0) 16
+    ∷ line (strictPathInto (2 ∷ 1 ∷ 0 ∷ 7 ∷ []) 1 1) 11
+    ∷ line (strictPathInto (2 ∷ 1 ∷ 0 ∷ 7 ∷ []) 2 0) 11
+    ∷ line (strictPathInto (2 ∷ 1 ∷ 0 ∷ 7 ∷ []) 2 1) 0
+    -- to write: 14 first; then by segment 9, 16, 12, 13; then 11
+    ∷ line (strictWritten (2 ∷ 0 ∷ []) [] 2) 16
+    ∷ line (crateWritten (2 ∷ 0 ∷ []) [] 2) 0
+    ∷ line (strictWritten (2 ∷ 0 ∷ []) (7 ∷ []) 0) 14
+    ∷ line (strictWritten (2 ∷ 0 ∷ 2 ∷ []) [] 0) 14
+    ∷ line (strictWritten (9 ∷ 0 ∷ []) [] 0) 9
+    ∷ line (strictWritten (9 ∷ 1 ∷ 2 ∷ 0 ∷ []) (7 ∷ []) 0) 9
+    ∷ line (strictWritten (2 ∷ 0 ∷ 9 ∷ 1 ∷ []) (7 ∷ []) 0) 16
+    ∷ line (strictWritten (2 ∷ 0 ∷ 2 ∷ 256 ∷ []) (zeros 256) 0) 16
+    ∷ line (strictWritten (2 ∷ 256 ∷ 2 ∷ 0 ∷ []) (zeros 256) 0) 12
+    ∷ line (strictWritten (2 ∷ 0 ∷ 2 ∷ 1 ∷ []) (65536 ∷ []) 0) 16
+    ∷ line (strictWritten (2 ∷ 1 ∷ 2 ∷ 0 ∷ []) (65536 ∷ []) 0) 13
+    ∷ line (strictWritten (2 ∷ 0 ∷ []) [] 0) 16
+    ∷ line (strictWritten (2 ∷ 1 ∷ []) (7 ∷ []) 3) 11
+    ∷ line (strictWritten (2 ∷ 1 ∷ []) (7 ∷ []) 4) 0
+    ∷ line (strictWritten [] [] 0) 0
+    ∷ []
+
 -- ---- the limit of a list and of a path to write: 1 over 65,535 bytes, before 11
 
 abbrev pub limits : List Line
@@ -583,8 +652,8 @@ settings =
     ∷ line aggregatorSize 2
     ∷ line keptLimit 65535
     ∷ line bodyRows 65512
-    -- version 1.0 of the calls for C
-    ∷ line (wordOf versionFields) 0x10001
+    -- the version of the calls for C
+    ∷ line (wordOf versionFields) 0x20001
     -- an attribute: where its value starts, its length, its type and its flags
     ∷ line (wordOf (attributeFields (A.Attribute 0x50 2 8 3 11))) 0x500200030008
     ∷ line (wordOf (attributeFields A.Absent)) 0
@@ -633,7 +702,7 @@ lister =
     ∷ []
 
 abbrev pub table : List Line
-table = refusalNumbers ++ (headers ++ (bodies ++ (lists ++ (pathsAndAggregators ++ (attributes ++ (limits ++ (settings ++ lister)))))))
+table = refusalNumbers ++ (headers ++ (bodies ++ (lists ++ (pathsAndAggregators ++ (attributes ++ (emptySegments ++ (limits ++ (settings ++ lister))))))))
 
 -- every line of the table holds
 pub numbers : agree table ≡ true
@@ -646,8 +715,9 @@ pub list-limit : (rows : List ℕ) (max : ℕ) (form : Form) (places : ℕ) → 
 unfolding routeWriter.writeAnswer
 list-limit rows max form places e = rw e
 
-pub path-limit : (width : AsnLength) (pairs numbers : List ℕ) (places : ℕ) → addsUp pairs (length numbers) ≡ true → lentPath knownType (widthOf width) pairs numbers .verdict ≡ 0
-    → pathWriter.encodeAnswer knownType (widthOf width) pairs numbers places
-    ≡ limited refusals.listLimit (length (pathWriter.lentBytes knownType (widthOf width) pairs numbers)) places
+pub path-limit : (rule : PathRule) (width : AsnLength) (pairs numbers : List ℕ) (places : ℕ) → addsUp pairs (length numbers) ≡ true
+    → lentPath (ruleOf rule) (widthOf width) pairs numbers .verdict ≡ 0
+    → pathWriter.encodeAnswer (ruleOf rule) (widthOf width) pairs numbers places
+    ≡ limited refusals.listLimit (length (pathWriter.lentBytes (ruleOf rule) (widthOf width) pairs numbers)) places
 unfolding pathWriter.encodeAnswer
-path-limit width pairs numbers places adds e = rw (adds, e)
+path-limit rule width pairs numbers places adds e = rw (adds, e)

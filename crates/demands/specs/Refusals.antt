@@ -86,6 +86,8 @@ use Rattle.firmware.proofs.list.doorbramble_parse_nlri_list.Reads as c_parse_nl
 use Rattle.firmware.proofs.list.doorbramble_encode_nlri_prefixes.Reads as c_encode_nlri_prefixes
 use Rattle.firmware.proofs.path.doorbramble_parse_as_path.Reads as «c_parse_as_path»
 use Rattle.firmware.proofs.path.doorbramble_encode_as_path.Reads as «c_encode_as_path»
+use Rattle.firmware.proofs.path.doorbramble_parse_as_path_strict.Reads as «c_parse_as_path_strict»
+use Rattle.firmware.proofs.path.doorbramble_encode_as_path_strict.Reads as «c_encode_as_path_strict»
 use Rattle.firmware.proofs.aggregator.doorbramble_parse_aggregator.Reads as c_parse_aggregator
 use Rattle.firmware.proofs.aggregator.doorbramble_encode_aggregator.Reads as c_encode_aggregator
 use Rattle.firmware.proofs.message.doorbramble_encode_bgp_message.Reads as c_encode_bgp_message
@@ -176,7 +178,7 @@ module _ (κs : _) (lent : _) (answer : _) (exit : _) where
 
 module _ (κs : _) (lent : _) (answer : _) (exit : _) where
   pub encode-as-path-kept : «encode_as_path».Learnt κs lent answer exit
-      → Kept (writeMeaning answer) (valueIn 0 (writeMeaning answer)) (now (lent .1 .1 .1 .0)) (now (exit .1 .1 .1 .0))
+      → Kept (writeMeaning answer) (valueIn 0 (writeMeaning answer)) (now (lent .1 .1 .1 .1 .0)) (now (exit .1 .1 .1 .1 .0))
   encode-as-path-kept call = path-written _ _ _ _ _ _ answer (call .0) (call .1)
 
 module _ (κs : _) (lent : _) (answer : _) (exit : _) where
@@ -254,11 +256,11 @@ module _ (value : List ℕ) (path : Reading Segment) (pairs numbers : List ℕ) 
       (f ∙ ap (λ (x : PathAnswer). filled (pathMeaning x) (flat asnsOf (path .rows)) numbers) (sym e))
 
 module _ (κs : _) (lent : _) (answer : _) (exit : _) (call : «parse_as_path».Learnt κs lent answer exit) where
-  pub parse-as-path-pairs-kept : Kept (pathMeaning answer) (2 * valueIn 0 (pathMeaning answer)) (now (lent .1 .1 .0)) (now (exit .1 .1 .0))
-  parse-as-path-pairs-kept = pairs-kept _ _ (now (lent .1 .1 .0)) (now (lent .1 .1 .1 .0)) answer (call .0) _ (call .1 .0)
+  pub parse-as-path-pairs-kept : Kept (pathMeaning answer) (2 * valueIn 0 (pathMeaning answer)) (now (lent .1 .1 .1 .0)) (now (exit .1 .1 .1 .0))
+  parse-as-path-pairs-kept = pairs-kept _ _ (now (lent .1 .1 .1 .0)) (now (lent .1 .1 .1 .1 .0)) answer (call .0) _ (call .1 .0)
 
-  pub parse-as-path-numbers-kept : Kept (pathMeaning answer) (valueIn 1 (pathMeaning answer)) (now (lent .1 .1 .1 .0)) (now (exit .1 .1 .1 .0))
-  parse-as-path-numbers-kept = numbers-kept _ _ (now (lent .1 .1 .0)) (now (lent .1 .1 .1 .0)) answer (call .0) _ (call .1 .1)
+  pub parse-as-path-numbers-kept : Kept (pathMeaning answer) (valueIn 1 (pathMeaning answer)) (now (lent .1 .1 .1 .1 .0)) (now (exit .1 .1 .1 .1 .0))
+  parse-as-path-numbers-kept = numbers-kept _ _ (now (lent .1 .1 .1 .0)) (now (lent .1 .1 .1 .1 .0)) answer (call .0) _ (call .1 .1)
 
 -- a section that was counted, in a store
 section-kept : (s : List ℕ) (r : Reading Row) (a : ListAnswer) (before after : List ℕ) → countAnswer s r ≡ a → after ≡ filled (listMeaning a) (flat words (r .rows)) before
@@ -345,6 +347,18 @@ module _ (κs : _) (lent : _) (word : _) (exit : _) (call : «c_parse_as_path».
 module _ (κs : _) (lent : _) (word : _) (exit : _) where
   pub c-encode-as-path-kept : «c_encode_as_path».Learnt κs lent word exit → WordKept word (valueIn 0) (now (lent .1 .1 .1 .0)) (now (exit .1 .1 .1 .0))
   c-encode-as-path-kept call = word-kept word _ (valueIn 0) _ _ (call .0) (path-written _ _ _ _ _ _ _ refl (call .1))
+
+-- the strict ones
+module _ (κs : _) (lent : _) (word : _) (exit : _) (call : «c_parse_as_path_strict».Learnt κs lent word exit) where
+  pub c-parse-as-path-strict-pairs-kept : WordKept word (λ a. 2 * valueIn 0 a) (now (lent .1 .1 .0)) (now (exit .1 .1 .0))
+  c-parse-as-path-strict-pairs-kept = word-kept word _ (λ a. 2 * valueIn 0 a) _ _ (call .0) (pairs-kept _ _ (now (lent .1 .1 .0)) (now (lent .1 .1 .1 .0)) _ refl _ (call .1 .0))
+
+  pub c-parse-as-path-strict-numbers-kept : WordKept word (valueIn 1) (now (lent .1 .1 .1 .0)) (now (exit .1 .1 .1 .0))
+  c-parse-as-path-strict-numbers-kept = word-kept word _ (valueIn 1) _ _ (call .0) (numbers-kept _ _ (now (lent .1 .1 .0)) (now (lent .1 .1 .1 .0)) _ refl _ (call .1 .1))
+
+module _ (κs : _) (lent : _) (word : _) (exit : _) where
+  pub c-encode-as-path-strict-kept : «c_encode_as_path_strict».Learnt κs lent word exit → WordKept word (valueIn 0) (now (lent .1 .1 .1 .0)) (now (exit .1 .1 .1 .0))
+  c-encode-as-path-strict-kept call = word-kept word _ (valueIn 0) _ _ (call .0) (path-written _ _ _ _ _ _ _ refl (call .1))
 
 module _ (κs : _) (lent : _) (word : _) (exit : _) where
   pub c-encode-aggregator-kept : c_encode_aggregator.Learnt κs lent word exit → WordKept word (valueIn 0) (now (lent .1 .1 .1 .0)) (now (exit .1 .1 .1 .0))

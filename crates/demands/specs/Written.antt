@@ -59,7 +59,7 @@ use Rattle.asns.proofs.AggregatorLaws.{bytes-length}
 use Rattle.asns.proofs.RoundTrip as Aggregators
 use Rattle.asns.proofs.encode_aggregator.Reads as encode_aggregator
 use Rattle.asns.proofs.parse_aggregator.Reads as parse_aggregator
-use Rattle.paths.specs.Segment.{knownType}
+use Rattle.paths.specs.Segment.{Rule, ruleOf}
 use Rattle.path_writer.specs.Write.{addsUp, lentPath}
 use Rattle.path_writer.specs.Promises as Paths
 use Rattle.path_writer.proofs.encode_as_path.Reads as «encode_as_path»
@@ -294,11 +294,14 @@ module _ (κs : _) (given : _) (answer : _) (exit : _) (call : «encode_as_path�
   abbrev numberSize : ℕ
   numberSize = widthOf (given .1 .1 .0)
 
+  abbrev pathRule : Rule
+  pathRule = ruleOf (given .1 .1 .1 .0)
+
   abbrev pathSize : ℕ
-  pathSize = length (Paths.lentBytes knownType numberSize pairs numbers)
+  pathSize = length (Paths.lentBytes pathRule numberSize pairs numbers)
 
   -- whole pairs whose counts use up the numbers, in segments that can be written, of up to 65,535 bytes, are written, given room
-  pub path-is-written : addsUp pairs (length numbers) ≡ true → lentPath knownType numberSize pairs numbers .verdict ≡ 0 → pathSize ≤ listLimit
-      → pathSize ≤ length (now (given .1 .1 .1 .0)) → answer ≡ Bytes pathSize
+  pub path-is-written : addsUp pairs (length numbers) ≡ true → lentPath pathRule numberSize pairs numbers .verdict ≡ 0 → pathSize ≤ listLimit
+      → pathSize ≤ length (now (given .1 .1 .1 .1 .0)) → answer ≡ Bytes pathSize
   unfolding Paths.encodeAnswer
-  path-is-written whole good short room = call .0 ∙ rw (whole, good) (limited-fits listLimit pathSize (length (now (given .1 .1 .1 .0))) short room)
+  path-is-written whole good short room = call .0 ∙ rw (whole, good) (limited-fits listLimit pathSize (length (now (given .1 .1 .1 .1 .0))) short room)
