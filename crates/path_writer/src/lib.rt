@@ -112,7 +112,7 @@ fn first_fault(pairs: &[u32], numbers: &[u32], width: AsnLength, rule: PathRule,
     while at < pairs.len() {
         let count = pairs[at + 1];
         let fault = segment_fault(pairs[at], count, numbers, from, width, rule, fit);
-        if fault != 0 {
+        if 0 < fault {
             return fault;
         }
         from = from + count as usize;

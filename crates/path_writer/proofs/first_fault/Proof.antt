@@ -1,6 +1,6 @@
 use native.Mathlib.Omega.{arith}
 use Prim.Native.Nat.{_+_, _-_, _≤_}
-use mathlib.Core.Path.{sym, _∙_}
+use mathlib.Core.Path.{_≡_, _∙_}
 use lib.ListN.{length, getD}
 use Rattle.asns.specs.Asn.{widthOf}
 use Rattle.paths.specs.Segment.{ruleOf}
@@ -49,7 +49,7 @@ returns : tie.Need-returns Inv-loop μ-loop
 returns c =
     let l = c .before .before .before .before .before in
     let a = l .before .before .before .args in
-    judged-stop (ruleOf (a .rule)) (widthOf (a .width)) (a .pairs .now) (a .numbers .now) (l .loop .at) (l .loop .from) (l .loop .inv) (c .before .before .before .before .loop-test .taken) _ (c .before .segment-fault .ensures) (omega (arith, c .if1 .taken))
+    judged-stop (ruleOf (a .rule)) (widthOf (a .width)) (a .pairs .now) (a .numbers .now) (l .loop .at) (l .loop .from) (l .loop .inv) (c .before .before .before .before .loop-test .taken) _ (c .before .segment-fault .ensures) (c .if1 .taken)
 
 cast-from : tie.Need-cast-from Inv-loop μ-loop
 cast-from c = omega (arith, fits (c .before .before .before .before))
@@ -65,9 +65,10 @@ loop-less c = omega (arith, fits (c .before .before .before .before))
 
 loop-again : tie.Need-loop-again Inv-loop μ-loop
 loop-again c =
+    let none : 0 ≡ c .before .segment-fault .result = omega (arith, c .if1 .left) in
     let l = c .before .before .before .before .before in
     let a = l .before .before .before .args in
-    judged-next (ruleOf (a .rule)) (widthOf (a .width)) (a .pairs .now) (a .numbers .now) (l .loop .at) (l .loop .from) (l .loop .inv) (c .before .before .before .before .loop-test .taken) (sym (c .if1 .left) ∙ c .before .segment-fault .ensures)
+    judged-next (ruleOf (a .rule)) (widthOf (a .width)) (a .pairs .now) (a .numbers .now) (l .loop .at) (l .loop .from) (l .loop .inv) (c .before .before .before .before .loop-test .taken) (none ∙ c .before .segment-fault .ensures)
 
 returns-2 : tie.Need-returns-2 Inv-loop μ-loop
 returns-2 c =
