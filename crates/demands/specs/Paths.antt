@@ -15,7 +15,7 @@ use Rattle.wire.specs.declared.WriteAnswer.the-variants as W
 use Rattle.asns.specs.Asn.{widthOf}
 use Rattle.asns.specs.declared.AsnLength.{AsnLength}
 use Rattle.paths.specs.Promises.{countAnswer, readAnswer, pairsAfter, numbersAfter}
-use Rattle.paths.specs.Segment.{Segment, knownType, ruleOf}
+use Rattle.paths.specs.Segment.{Segment, NoNumbers, knownType, ruleOf}
 use Rattle.paths.specs.WellFormed.{Known, Allowed, WellFormed, Empty, headOf, asNumbers}
 use Rattle.paths.specs.declared.PathRule.{PathRule}
 use Rattle.paths.specs.declared.PathRule.the-variants.{Crate, Strict}
@@ -25,9 +25,11 @@ use Rattle.paths.proofs.PromiseLaws.{count-path, read-path}
 use Rattle.paths.proofs.RuleLaws.{counted-alike, read-alike, empty-counted, counted-empty, empty-read, read-empty}
 use Rattle.paths.proofs.count_as_path.Reads as «count_as_path»
 use Rattle.paths.proofs.parse_as_path.Reads as «parse_as_path»
+use Rattle.path_writer.specs.Write.{lentPath}
 use Rattle.path_writer.specs.Promises.{encodeAnswer, encodeLeft}
 use Rattle.path_writer.proofs.encode_as_path.Reads as «encode_as_path»
 use Rattle.path_writer.proofs.PromiseLaws.{encode-alike}
+use Rattle.path_writer.proofs.StrictLaws.{empty-written, written-empty}
 use Rattle.path_writer.proofs.RuleTheorems as Laws
 
 -- ---- the words of the statements
@@ -218,3 +220,14 @@ module _ (lentPairs : _) (lentNumbers : _) (asnLength : _) (out : _) (κs : _) (
   strict-writes-as-crate n said =
       let c = by-crate κs (lentPairs, (lentNumbers, (asnLength, (Strict, out)))) answer exit strict n said in
       (lax .0 ∙ c .0, lax .1 ∙ c .1)
+
+  module _ (n : ℕ) (accepted : answer′ ≡ W.Bytes n) where
+    -- the segments that are lent
+    abbrev segments : List Segment
+    segments = lentPath (ruleOf Crate) (widthOf asnLength) (now lentPairs) (now lentNumbers) .rows
+
+    pub empty-is-not-written : Some NoNumbers segments → answer ≡ W.Refused emptySegment
+    empty-is-not-written some = strict .0 ∙ empty-written (widthOf asnLength) (now lentPairs) (now lentNumbers) (length (now (out .0))) n (sym (lax .0) ∙ accepted) some
+
+    pub not-written-is-empty : (k : ℕ) → answer ≡ W.Refused k → Some NoNumbers segments × (k ≡ emptySegment)
+    not-written-is-empty k said = written-empty (widthOf asnLength) (now lentPairs) (now lentNumbers) (length (now (out .0))) n (sym (lax .0) ∙ accepted) k (sym (strict .0) ∙ said)

@@ -18,6 +18,9 @@ use Rattle.firmware.proofs.list.doorbramble_encode_nlri_prefixes.Reads 
 use Rattle.firmware.proofs.path.doorbramble_count_as_path.Reads as «count_as_path»
 use Rattle.firmware.proofs.path.doorbramble_parse_as_path.Reads as «parse_as_path»
 use Rattle.firmware.proofs.path.doorbramble_encode_as_path.Reads as «encode_as_path»
+use Rattle.firmware.proofs.path.doorbramble_count_as_path_strict.Reads as «count_as_path_strict»
+use Rattle.firmware.proofs.path.doorbramble_parse_as_path_strict.Reads as «parse_as_path_strict»
+use Rattle.firmware.proofs.path.doorbramble_encode_as_path_strict.Reads as «encode_as_path_strict»
 use Rattle.firmware.proofs.aggregator.doorbramble_parse_aggregator.Reads as parse_aggregator
 use Rattle.firmware.proofs.aggregator.doorbramble_encode_aggregator.Reads as encode_aggregator
 use Rattle.firmware.proofs.slot.doorbramble_next_slot.Reads as next_slot
@@ -73,6 +76,15 @@ tight-parse-as-path κs a z z′ e e′ p q = (p .0 ∙ sym (q .0), p .1 .0 ∙ 
 
 pub tight-encode-as-path : (κs : _) (a : _) (z z′ : _) (e e′ : _) → «encode_as_path».Learnt κs a z e → «encode_as_path».Learnt κs a z′ e′ → (z ≡ z′) × (now (e .1 .1 .1 .0) ≡ now (e′ .1 .1 .1 .0))
 tight-encode-as-path κs a z z′ e e′ p q = (p .0 ∙ sym (q .0), p .1 ∙ sym (q .1))
+
+pub tight-count-as-path-strict : (κs : _) (a : _) (z z′ : _) (e e′ : _) → «count_as_path_strict».Learnt κs a z e → «count_as_path_strict».Learnt κs a z′ e′ → z ≡ z′
+tight-count-as-path-strict κs a z z′ e e′ p q = p ∙ sym q
+
+pub tight-parse-as-path-strict : (κs : _) (a : _) (z z′ : _) (e e′ : _) → «parse_as_path_strict».Learnt κs a z e → «parse_as_path_strict».Learnt κs a z′ e′ → (z ≡ z′) × (now (e .1 .1 .0) ≡ now (e′ .1 .1 .0)) × (now (e .1 .1 .1 .0) ≡ now (e′ .1 .1 .1 .0))
+tight-parse-as-path-strict κs a z z′ e e′ p q = (p .0 ∙ sym (q .0), p .1 .0 ∙ sym (q .1 .0), p .1 .1 ∙ sym (q .1 .1))
+
+pub tight-encode-as-path-strict : (κs : _) (a : _) (z z′ : _) (e e′ : _) → «encode_as_path_strict».Learnt κs a z e → «encode_as_path_strict».Learnt κs a z′ e′ → (z ≡ z′) × (now (e .1 .1 .1 .0) ≡ now (e′ .1 .1 .1 .0))
+tight-encode-as-path-strict κs a z z′ e e′ p q = (p .0 ∙ sym (q .0), p .1 ∙ sym (q .1))
 
 pub tight-parse-aggregator : (κs : _) (a : _) (z z′ : _) (e e′ : _) → parse_aggregator.Learnt κs a z e → parse_aggregator.Learnt κs a z′ e′ → (z ≡ z′) × (now (e .1 .1 .0) ≡ now (e′ .1 .1 .0))
 tight-parse-aggregator κs a z z′ e e′ p q = (p .0 ∙ sym (q .0), p .1 ∙ sym (q .1))

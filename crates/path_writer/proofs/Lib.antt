@@ -3,6 +3,7 @@ pub mod NumberPut
 pub mod WriteTurn
 pub mod Lent
 pub mod PromiseLaws
+pub mod StrictLaws
 pub mod RoundTrip
 pub mod RuleTheorems
 pub mod Tight

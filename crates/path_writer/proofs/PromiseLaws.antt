@@ -83,14 +83,22 @@ module _ (rule : Rule) (w : ℕ) (pairs numbers : List ℕ) where
   unfolding encodeLeft
   written-out out n e = ap (λ (y : WriteAnswer). filled (writeMeaning y) (lentBytes rule w pairs numbers) out) e
 
--- what is written by a rule is written the same by the crate's
+-- the same segments are written the same
+module _ (rule rule′ : Rule) (w : ℕ) (pairs numbers : List ℕ) (same : lentPath rule w pairs numbers ≡ lentPath rule′ w pairs numbers) where
+  pub same-answer : (places : ℕ) → encodeAnswer rule w pairs numbers places ≡ encodeAnswer rule′ w pairs numbers places
+  unfolding encodeAnswer lentBytes
+  same-answer places =
+      ap (λ (r : Reading Segment). pick (addsUp pairs (length numbers)) (answerBy (r .verdict) (limited listLimit (length (pathBytes w (r .rows))) places) W.Refused) (W.Refused notWritable)) same
+
+  pub same-left : (out : List ℕ) → encodeLeft rule w pairs numbers out ≡ encodeLeft rule′ w pairs numbers out
+  unfolding encodeLeft lentBytes
+  same-left out = ap₂ (λ (a : WriteAnswer) (r : Reading Segment). filled (writeMeaning a) (pathBytes w (r .rows)) out) (same-answer (length out)) same
+
+-- so what is written by a rule is written the same by the crate's
 pub encode-alike : (rule : PathRule) (w : ℕ) (pairs numbers out : List ℕ) (n : ℕ) → encodeAnswer (ruleOf rule) w pairs numbers (length out) ≡ W.Bytes n
     → (encodeAnswer knownType w pairs numbers (length out) ≡ encodeAnswer (ruleOf rule) w pairs numbers (length out))
     × (encodeLeft knownType w pairs numbers out ≡ encodeLeft (ruleOf rule) w pairs numbers out)
-unfolding encodeLeft encodeAnswer lentBytes
 encode-alike rule w pairs numbers out n e =
     let h = encode-written (ruleOf rule) w pairs numbers (length out) n e in
     let same = lent-alike rule w pairs numbers (h .0) (h .1) in
-    let Told : Reading Segment → WriteAnswer =
-    λ r. pick (addsUp pairs (length numbers)) (answerBy (r .verdict) (limited listLimit (length (pathBytes w (r .rows))) (length out)) W.Refused) (W.Refused notWritable) in
-    (ap Told same, ap (λ (r : Reading Segment). filled (writeMeaning (Told r)) (pathBytes w (r .rows)) out) same)
+    (same-answer knownType (ruleOf rule) w pairs numbers same (length out), same-left knownType (ruleOf rule) w pairs numbers same out)

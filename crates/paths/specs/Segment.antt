@@ -1,6 +1,7 @@
 -- One segment of an AS_PATH, and a path of them. RFC 4271 section 4.3: a type octet, a count octet, and that many AS numbers, of two
 -- octets each, or of four (RFC 6793 section 4.1). RFC 4271 has the types 1 and 2, RFC 5065 section 3 the types 3 and 4.
 use Prim.Native.Nat.{ℕ, zero, suc, _+_}
+use mathlib.Core.Path.{_≡_}
 use mathlib.Core.List.{List, [], _∷_}
 use lib.ListN.{length, getD, drop}
 use lib.Dec.{leb}
@@ -76,3 +77,7 @@ pairOf g = g .kind ∷ length (g .asns) ∷ []
 
 abbrev pub asnsOf : Segment → List ℕ
 asnsOf g = g .asns
+
+-- a segment of no numbers
+abbrev pub NoNumbers : Segment → Type 0
+NoNumbers g = length (g .asns) ≡ 0
