@@ -518,7 +518,7 @@ attributes =
     ∷ line (searchRefused 1 (0x50 ∷ 0x01 ∷ 0xFF ∷ 0xFB ∷ zeros 65531)) 0
     ∷ []
 
--- ---- document 02, K2: "An empty segment is not a path"
+-- ---- document 02, K2: "An empty segment is not a path", in place of document 01's sentence that the strict path reading is the crate's
 
 abbrev pub strictPath : AsnLength → List ℕ → ℕ
 strictPath width s = numberIn (pathMeaning (paths.countAnswer s (pathOf (ruleOf Strict) (widthOf width) s)))

@@ -1,5 +1,4 @@
-// An AS_PATH, counted, read and written: as the crate does, and strictly (RFC 7606 section 7.2). A call of each kind is its shared function with
-// its rule.
+// An AS_PATH, counted, read and written, by calls as the crate does it and by strict ones (RFC 7606 section 7.2). The two of a kind share a function.
 ghost use mathlib.Core.Path.{_≡_};
 ghost use Prim.Native.Nat.{_%_};
 ghost use lib.ListN.{length};
@@ -35,6 +34,7 @@ fn count_by(value: &[u8], four_bytes: u8, rule: PathRule) -> u64
     path_word(paths::count_as_path(value, asn_length_of(four_bytes), rule))
 }
 
+// As the crate does.
 #[no_mangle]
 pub extern "C" fn doorbramble_count_as_path(value: &[u8], four_bytes: u8) -> u64
     ensures { λ r. ⌜ r ≡ wordOf (inFields (Paths.pathMeaning (Paths.countAnswer (now (value .entry)) (pathOf knownType (widthOf (asnLengthOf «four_bytes»)) (now (value .entry)))))) ⌝ }
@@ -42,6 +42,7 @@ pub extern "C" fn doorbramble_count_as_path(value: &[u8], four_bytes: u8) -> u64
     count_by(value, four_bytes, PathRule::Crate)
 }
 
+// Strictly.
 #[no_mangle]
 pub extern "C" fn doorbramble_count_as_path_strict(value: &[u8], four_bytes: u8) -> u64
     ensures { λ r. ⌜ r ≡ wordOf (inFields (Paths.pathMeaning (Paths.countAnswer (now (value .entry)) (pathOf nonEmpty (widthOf (asnLengthOf «four_bytes»)) (now (value .entry)))))) ⌝ }
@@ -49,8 +50,8 @@ pub extern "C" fn doorbramble_count_as_path_strict(value: &[u8], four_bytes: u8)
     count_by(value, four_bytes, PathRule::Strict)
 }
 
-// What `how` has above the flag of the width by the strict rule. The two go in one number: that is the register in which C gave the flag, so that a
-// call for C hands on all that it was given as it is.
+// How a path is read or written, in one number: C's flag of the width in the low byte, and this above it by the strict rule. It goes in the register
+// in which C gave the flag, so that a call hands on all that it was given as it is; with `&value[..]` slices go in registers too.
 const STRICT: u16 = 256;
 
 // The rule in such a number.
@@ -80,6 +81,7 @@ fn parse_by(value: &[u8], how: u16, pairs: &mut [u32], numbers: &mut [u32]) -> u
     ))
 }
 
+// As the crate does.
 #[no_mangle]
 pub extern "C" fn doorbramble_parse_as_path(
     value: &[u8],
@@ -94,6 +96,7 @@ pub extern "C" fn doorbramble_parse_as_path(
     parse_by(value, four_bytes as u16, pairs, numbers)
 }
 
+// Strictly.
 #[no_mangle]
 pub extern "C" fn doorbramble_parse_as_path_strict(
     value: &[u8],
@@ -124,6 +127,7 @@ fn encode_by(pairs: &[u32], numbers: &[u32], how: u16, out: &mut [u8]) -> u64
     ))
 }
 
+// As the crate does.
 #[no_mangle]
 pub extern "C" fn doorbramble_encode_as_path(
     pairs: &[u32],
@@ -137,6 +141,7 @@ pub extern "C" fn doorbramble_encode_as_path(
     encode_by(pairs, numbers, four_bytes as u16, out)
 }
 
+// Strictly.
 #[no_mangle]
 pub extern "C" fn doorbramble_encode_as_path_strict(
     pairs: &[u32],

@@ -20,7 +20,7 @@ use Rattle.wire.specs.Number.{beAt}
 use Rattle.wire.specs.Walk.{Step, took, stop}
 use Rattle.wire.proofs.WalkLaws.{Sound}
 use Rattle.wire.proofs.Turn.{Light}
-use Rattle.paths.specs.Private.{fewestBy, fewFault, shortFault, countIn}
+use Rattle.paths.specs.Private.{fewestBy, fewFault, countIn}
 use Rattle.paths.specs.declared.PathRule.{PathRule}
 use Rattle.paths.specs.declared.PathRule.the-variants.{Crate, Strict}
 use Rattle.paths.specs.declared.SegmentAnswer.the-variants.{Numbers, Refused}
@@ -64,7 +64,7 @@ known-type kind h k = rw (le-leb 1 kind h, le-leb kind 4 k)
 -- ---- the rule that a call is given: the type, then the count
 
 module _ (rule : PathRule) (kind count : ℕ) where
-  rule-is : either (typeFault kind) (fewFault count (fewestBy rule)) ≡ ruleOf rule kind count
+  rule-is : either (typeFault kind) (fewFault count (fewestBy rule) emptySegment) ≡ ruleOf rule kind count
   unfolding fewFault
   rule-is = by rule
     where
@@ -75,13 +75,13 @@ module _ (rule : PathRule) (kind count : ℕ) where
   pub rule-type : (n : ℕ) → n ≡ typeFault kind → 0 < n → n ≡ ruleOf rule kind count
   rule-type n e pos = either-first _ _ n e pos ∙ rule-is
 
-  pub rule-count : (n : ℕ) → 0 ≡ typeFault kind → n ≡ fewFault count (fewestBy rule) → n ≡ ruleOf rule kind count
+  pub rule-count : (n : ℕ) → 0 ≡ typeFault kind → n ≡ fewFault count (fewestBy rule) emptySegment → n ≡ ruleOf rule kind count
   rule-count n e f = either-second _ _ n e f ∙ rule-is
 
 -- ---- whether a segment is all there
 
-pub none-short : (there size : ℕ) → shortFault there size ≡ 0 → size ≤ there
-unfolding shortFault
+pub none-short : (there size : ℕ) → fewFault there size truncated ≡ 0 → size ≤ there
+unfolding fewFault
 none-short there size = pick-leb (λ (x : ℕ). x ≡ 0 → size ≤ there) size there _ _ (λ h _. h) (λ _ e. absurd (omega arith))
 
 -- ---- a segment that is taken
@@ -124,8 +124,8 @@ module _ (rule : Rule) (w : ℕ) where
   }
 
   -- what is not all there is refused by its number
-  pub short-segment : (s : List ℕ) (n : ℕ) → 2 ≤ length s → n ≡ shortFault (length s) (2 + span w (getD s 1 0)) → 0 < n → segmentOf rule w tt s ≡ stop n
-  unfolding segmentOf shortFault
+  pub short-segment : (s : List ℕ) (n : ℕ) → 2 ≤ length s → n ≡ fewFault (length s) (2 + span w (getD s 1 0)) truncated → 0 < n → segmentOf rule w tt s ≡ stop n
+  unfolding segmentOf fewFault
   short-segment s n h =
       rw (le-leb 2 (length s) h)
       (pick-leb (λ (x : ℕ). n ≡ x → 0 < n → pick (leb (2 + span w (getD s 1 0)) (length s)) (answerBy (rule (getD s 0 0) (getD s 1 0)) (took (2 + span w (getD s 1 0)) (segmentAt w s) tt) stop) (stop truncated) ≡ stop n)

@@ -1,5 +1,5 @@
 // AS_PATH (RFC 4271 section 4.3, RFC 5065 section 3, RFC 6793 section 4.1): reading a path and counting it. The reading of
-// attr_02_17_as_path.rs.
+// attr_02_17_as_path.rs, and the strict one (RFC 7606 section 7.2).
 ghost use mathlib.Core.Path.{_≡_};
 ghost use Prim.Native.Nat.{_+_, _≤_};
 ghost use mathlib.Core.List.{[], _∷_};
@@ -8,7 +8,7 @@ ghost use Rattle.wire.specs.Store.{laid, PutAhead};
 ghost use Rattle.wire.specs.Walk.{flat};
 ghost use Rattle.asns.specs.Asn.{widthOf, span};
 ghost use Rattle.paths.specs.Segment.{numbersOf, typeFault, knownType, ruleOf, pairOf, asnsOf, segmentOf, pathOf};
-ghost use Rattle.paths.specs.Private.{fewestBy, fewFault, shortFault, countIn};
+ghost use Rattle.paths.specs.Private.{fewestBy, fewFault, countIn};
 ghost use Rattle.paths.specs.Promises.{countAnswer, readAnswer, pairsAfter, numbersAfter};
 use asns::AsnLength;
 use wire::refusal;
@@ -50,7 +50,7 @@ fn type_fault(kind: u32) -> u8
 }
 
 // The fewest numbers of a segment.
-fn fewest_by(rule: PathRule) -> u32
+fn fewest_by(rule: PathRule) -> usize
     ensures { λ r. ⌜ r ≡ fewestBy rule ⌝ }
 {
     match rule {
@@ -59,12 +59,12 @@ fn fewest_by(rule: PathRule) -> u32
     }
 }
 
-// What is wrong with so many numbers where there are to be so many at least, 0 where nothing is.
-fn few_fault(count: u32, fewest: u32) -> u8
-    ensures { λ r. ⌜ r ≡ fewFault count fewest ⌝ }
+// What is wrong where so few are there of so many: that number, or 0 where nothing is.
+fn few_fault(there: usize, asked: usize, number: u8) -> u8
+    ensures { λ r. ⌜ r ≡ fewFault there asked number ⌝ }
 {
-    if count < fewest {
-        return refusal::EMPTY_SEGMENT;
+    if there < asked {
+        return number;
     }
     0
 }
@@ -74,21 +74,11 @@ pub fn rule_fault(kind: u32, count: u32, rule: PathRule) -> u8
     ensures { λ r. ⌜ r ≡ ruleOf rule kind count ⌝ }
 {
     let unknown = type_fault(kind);
-    let few = few_fault(count, fewest_by(rule));
+    let few = few_fault(count as usize, fewest_by(rule), refusal::EMPTY_SEGMENT);
     if unknown != 0 {
         return unknown;
     }
     few
-}
-
-// What is wrong where so many bytes are there of so many, 0 where nothing is.
-fn short_fault(there: usize, size: usize) -> u8
-    ensures { λ r. ⌜ r ≡ shortFault there size ⌝ }
-{
-    if there < size {
-        return refusal::TRUNCATED;
-    }
-    0
 }
 
 // How many numbers the segment at the front has: type and count there, 2; the numbers there, 2; then the rule, 9 and 16.
@@ -100,7 +90,7 @@ fn segment_count(s: &[u8], width: AsnLength, rule: PathRule) -> SegmentAnswer
     }
     let count = s[1];
     let size = 2 + asns::numbers_size(count as u16, width);
-    let short = short_fault(s.len(), size);
+    let short = few_fault(s.len(), size, refusal::TRUNCATED);
     let fault = rule_fault(wire::wide(s[0]), wire::wide(count), rule);
     if short != 0 {
         return SegmentAnswer::Refused(short);

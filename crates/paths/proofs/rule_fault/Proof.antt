@@ -1,5 +1,7 @@
 use native.Mathlib.Omega.{arith}
+use Prim.Native.Nat.{ℕ}
 use mathlib.Core.Path.{sym, ap, _∙_}
+use Rattle.wire.specs.Refusal.{emptySegment}
 use Rattle.paths.specs.Private.{fewFault}
 use Rattle.paths.proofs.SegmentLaws.{rule-type, rule-count}
 use borrow.Author.Needs.{needs}
@@ -24,7 +26,7 @@ returns-2 : tie.Need-returns-2
 returns-2 c =
     let a = c .before .before .before .before .args in
     rule-count (a .rule) (a .kind) (a .count) _ (sym (c .if1 .left) ∙ c .before .before .before .type-fault .ensures)
-    (c .before .few-fault .ensures ∙ ap (fewFault (a .count)) (c .before .before .fewest-by .ensures))
+    (c .before .few-fault .ensures ∙ ap (λ (n : ℕ). fewFault (a .count) n emptySegment) (c .before .before .fewest-by .ensures))
 
 pub rule-fault-spec : {M : Type 1} → statement M
 rule-fault-spec =

@@ -3,11 +3,12 @@ use mathlib.Core.Path.{_≡_, sym, ap, ap₂, _∙_}
 use native.Mathlib.Omega.{arith}
 use lib.ListN.{getD, length}
 use Prim.Native.Nat.{ℕ, _+_, _≤_, _<_}
+use Rattle.wire.specs.Refusal.{truncated}
 use Rattle.wire.specs.Walk.{stop}
 use Rattle.asns.specs.Asn.{widthOf, span}
 use Rattle.asns.proofs.AsnLaws.{span-most}
 use Rattle.paths.specs.Segment.{segmentOf, ruleOf}
-use Rattle.paths.specs.Private.{shortFault, countIn}
+use Rattle.paths.specs.Private.{fewFault, countIn}
 use Rattle.paths.proofs.SegmentLaws.{none-short, short-segment, fault-segment, count-taken}
 use borrow.Author.Needs.{needs}
 use Rattle.paths.proofs.segment_count.Statement.{statement}
@@ -31,8 +32,8 @@ add-size c =
     let a = c .before .before .before .before .args in
     omega (arith, c .numbers-size .ensures, span-most (a .width) (getD (a .s .now) 1 0), c .before .shared-slice-known2 .given 1)
 
-short-fault-requires : tie.Need-short-fault-requires
-short-fault-requires c κs = search needs
+few-fault-requires : tie.Need-few-fault-requires
+few-fault-requires c κs = search needs
 
 shared-slice-read-wide : tie.Need-shared-slice-read-wide
 shared-slice-read-wide c = search needs
@@ -52,10 +53,10 @@ two t = t .before .before .before .before .before .before .before .if1 .left
 
 short-is : (t : tie.After-rule-fault) →
     let a = t .before .before .before .before .before .before .before .before .before .args in
-    t .before .before .before .before .short-fault .result ≡ shortFault (length (a .s .now)) (2 + span (widthOf (a .width)) (getD (a .s .now) 1 0))
+    t .before .before .before .before .few-fault .result ≡ fewFault (length (a .s .now)) (2 + span (widthOf (a .width)) (getD (a .s .now) 1 0)) truncated
 short-is t =
     let a = t .before .before .before .before .before .before .before .before .before .args in
-    t .before .before .before .before .short-fault .ensures ∙ ap (λ (k : ℕ). shortFault (length (a .s .now)) (2 + k)) (t .before .before .before .before .before .numbers-size .ensures)
+    t .before .before .before .before .few-fault .ensures ∙ ap (λ (k : ℕ). fewFault (length (a .s .now)) (2 + k) truncated) (t .before .before .before .before .before .numbers-size .ensures)
 
 fault-is : (t : tie.After-rule-fault) →
     let a = t .before .before .before .before .before .before .before .before .before .args in
@@ -68,7 +69,7 @@ returns-2 : tie.Need-returns-2
 returns-2 c =
     let t = c .before in
     let a = t .before .before .before .before .before .before .before .before .before .args in
-    let n : ℕ = t .before .before .before .before .short-fault .result in
+    let n : ℕ = t .before .before .before .before .few-fault .result in
     let pos : 0 < n = omega (arith, c .if2 .taken) in
     let e : segmentOf (ruleOf (a .rule)) (widthOf (a .width)) tt (a .s .now) ≡ stop n = short-segment (ruleOf (a .rule)) (widthOf (a .width)) (a .s .now) n (two t) (short-is t) pos in
     sym (ap countIn e)
@@ -99,7 +100,7 @@ segment-count-spec =
     cast-numbers-size
     numbers-size-requires
     add-size
-    short-fault-requires
+    few-fault-requires
     shared-slice-read-wide
     wide-requires
     wide-requires-2
