@@ -26,7 +26,7 @@ use Rattle.paths.specs.declared.PathRule.{PathRule}
 use Rattle.paths.specs.declared.PathRule.the-variants.{Crate, Strict}
 use Rattle.paths.specs.declared.PathAnswer.{PathAnswer}
 use Rattle.paths.specs.declared.PathAnswer.the-variants as P
-use Rattle.path_writer.specs.Promises.{encodeAnswer}
+use Rattle.path_writer.specs.Promises.{encodeAnswer, encodeLeft}
 use Rattle.path_writer.specs.Write.{addsUp, lentPath}
 use Rattle.words.specs.Settings.{asnLengthOf}
 use Rattle.words.specs.Word.{inFields, wordOf, Narrow}
@@ -93,6 +93,14 @@ write-path-narrow pairs numbers width rule places =
     pick-any Fine (addsUp pairs (length numbers)) _ (W.Refused notWritable)
     (answer-any Fine (lentPath rule (widthOf width) pairs numbers .verdict) _ W.Refused (limited-narrow listLimit _ places (omega arith)) refused-narrow)
     (refused-narrow notWritable)
+
+-- what writing one told, likewise
+pub write-told : (pairs numbers : List ℕ) (width width′ : AsnLength) (rule rule′ : PathRule) (out out′ : List ℕ) (a : WriteAnswer) (r : ℕ)
+    → width ≡ width′ → rule ≡ rule′ → r ≡ wordOf (inFields (writeMeaning a)) → a ≡ encodeAnswer (ruleOf rule) (widthOf width) pairs numbers (length out)
+    → out′ ≡ encodeLeft (ruleOf rule) (widthOf width) pairs numbers out
+    → (r ≡ wordOf (inFields (writeMeaning (encodeAnswer (ruleOf rule′) (widthOf width′) pairs numbers (length out)))))
+    × (out′ ≡ encodeLeft (ruleOf rule′) (widthOf width′) pairs numbers out)
+write-told pairs numbers width width′ rule rule′ out out′ a r m n e f g = rw (← m, ← n, ← f) (e, g)
 
 -- ---- a flag of a width and a rule in one number
 

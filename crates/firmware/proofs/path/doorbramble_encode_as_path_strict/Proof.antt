@@ -1,5 +1,7 @@
+use mathlib.Core.Path.{refl}
 use native.Mathlib.Omega.{arith}
-use Rattle.firmware.proofs.PathBounds.{how-strict}
+use Rattle.paths.specs.declared.PathRule.the-variants.{Strict}
+use Rattle.firmware.proofs.PathBounds.{how-strict, write-told}
 use borrow.Author.Needs.{needs}
 use Rattle.firmware.proofs.path.doorbramble_encode_as_path_strict.Statement.{statement}
 use Rattle.firmware.proofs.path.doorbramble_encode_as_path_strict.Tie as tie
@@ -14,7 +16,12 @@ same-length : tie.Need-same-length
 same-length c = search needs
 
 returns : tie.Need-returns
-returns c = let h = how-strict (c .before .before .before .before .before .before .before .args .four-bytes) (omega arith) in rw (h .0, h .1) at (c .before .before .encode-by .ensures)
+returns c =
+    let p = c .before .before in
+    let a = p .before .before .before .before .before .args in
+    let h = how-strict (a .four-bytes) (omega arith) in
+    let e = p .encode-by .ensures in
+    write-told (a .pairs .now) (a .numbers .now) _ _ _ Strict (a .out .now) _ _ (p .encode-by .result) (h .1) (h .0) (e .0) refl (e .1)
 
 pub doorbramble-encode-as-path-strict-spec : {M : Type 1} → statement M
 doorbramble-encode-as-path-strict-spec =

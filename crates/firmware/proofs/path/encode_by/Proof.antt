@@ -1,6 +1,7 @@
-use Rattle.words.proofs.WordLaws.{told-in}
-use Rattle.wire.specs.Answer.{writeMeaning}
-use Rattle.firmware.proofs.PathBounds.{write-path-narrow}
+use Prim.Native.Nat.{_%_}
+use Rattle.words.specs.Settings.{asnLengthOf}
+use Rattle.firmware.specs.Private.{ruleIn}
+use Rattle.firmware.proofs.PathBounds.{write-path-narrow, write-told}
 use borrow.Author.Needs.{needs}
 use Rattle.firmware.proofs.path.encode_by.Statement.{statement}
 use Rattle.firmware.proofs.path.encode_by.Tie as tie
@@ -25,8 +26,13 @@ same-length c = search needs
 
 returns : tie.Need-returns
 returns c =
-    let e = rw (c .before .before .before .before .before .before .asn-length-of .ensures, c .before .before .before .before .before .rule-in .ensures) at (c .before .before .before .encode-as-path .ensures) in
-    (told-in writeMeaning (c .write-word .ensures) (e .0), e .1)
+    let p = c .before .before .before in
+    let u = p .before .before in
+    let m = u .before in
+    let a = m .before .before .before .before .args in
+    let e = p .encode-as-path .ensures in
+    write-told (a .pairs .now) (a .numbers .now) (m .asn-length-of .result) (asnLengthOf (a .how % 256)) (u .rule-in .result) (ruleIn (a .how)) (a .out .now) _ (p .encode-as-path .result) (c .write-word .result)
+    (m .asn-length-of .ensures) (u .rule-in .ensures) (c .write-word .ensures) (e .0) (e .1)
 
 pub encode-by-spec : {M : Type 1} → statement M
 encode-by-spec =
