@@ -173,7 +173,10 @@ impl Capture {
     }
 
     fn attribute_requests(&self, attribute: &Attribute) -> Option<Vec<Request>> {
-        let path = |settings| [6, 7].map(|op| on_bytes(op, settings, (64, 1_024), attribute.value)).to_vec();
+        let path = |width| {
+            let by = |op| [width, width | STRICT].map(|rule| on_bytes(op, rule, (64, 1_024), attribute.value));
+            [by(6), by(7)].concat()
+        };
         Some(match attribute.kind {
             ATTRIBUTE_AS_PATH => path(self.width_setting()),
             ATTRIBUTE_AS4_PATH => path(FOUR_BYTE_AS),
