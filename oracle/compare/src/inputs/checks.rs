@@ -257,6 +257,7 @@ fn written_rows() -> Vec<Request> {
 fn written_paths() -> Vec<Request> {
     let (many, wide) = (vec![1; 256], vec![65_536; 256]);
     let mut paths: Vec<(Vec<u32>, &[u32])> = vec![
+        (vec![], &[]),
         (vec![2, 1, 2], &[1]),
         (vec![5, 0, 2], &[]),
         (vec![2, 2], &[1]),

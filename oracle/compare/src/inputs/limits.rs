@@ -77,6 +77,7 @@ fn strict_paths() -> Vec<Request> {
         on_bytes(7, STRICT, (0, 0), &empty_at_the_end),
         on_bytes(7, STRICT | FOUR_BYTE_AS, (0, 0), &empty[..65_535]),
         on_bytes(6, STRICT, (0, 0), &empty),
+        on_bytes(7, STRICT | FOUR_BYTE_AS, (0, 0), &empty),
     ]
 }
 
