@@ -436,6 +436,30 @@ static void segment_types(void) {
     expect("empty segments of types of every number", wrong == 0);
 }
 
+/* each number as the flag of the width, of which all but 0 are four bytes, by both rules */
+static void width_flags(void) {
+    const uint64_t refusal = refused(DOORBRAMBLE_EMPTY_SEGMENT), none = accepted(1, 0, 0);
+    unsigned wrong = 0, i;
+    for (i = 0; i < 256; i++) {
+        const uint64_t counted = i ? accepted(1, 2, 0) : refused(DOORBRAMBLE_SEGMENT_TYPE), written = accepted(i ? 10 : 6, 0, 0);
+        const uint8_t flag = (uint8_t)i;
+        wrong += doorbramble_count_as_path(path, 10, flag) != counted;
+        wrong += doorbramble_count_as_path_strict(path, 10, flag) != counted;
+        wrong += doorbramble_parse_as_path(path, 10, flag, one, PLACES, two, PLACES) != counted;
+        wrong += doorbramble_parse_as_path_strict(path, 10, flag, one, PLACES, two, PLACES) != counted;
+        wrong += doorbramble_encode_as_path(path_pairs, 2, path_numbers, 2, flag, out, PLACES) != written;
+        wrong += doorbramble_encode_as_path_strict(path_pairs, 2, path_numbers, 2, flag, out, PLACES) != written;
+        wrong += doorbramble_count_as_path(empty, 2, flag) != none;
+        wrong += doorbramble_count_as_path_strict(empty, 2, flag) != refusal;
+        wrong += doorbramble_parse_as_path(empty, 2, flag, one, PLACES, two, PLACES) != none;
+        wrong += doorbramble_parse_as_path_strict(empty, 2, flag, one, PLACES, two, PLACES) != refusal;
+        wrong += doorbramble_encode_as_path(empty_pairs, 2, NULL, 0, flag, out, PLACES) != accepted(2, 0, 0);
+        wrong += doorbramble_encode_as_path_strict(empty_pairs, 2, NULL, 0, flag, out, PLACES) != refusal;
+    }
+    clear();
+    expect("paths: flags of the width of every number", wrong == 0);
+}
+
 static void aggregators(void) {
     static const uint8_t value[] = {0xFD, 0xE9, 10, 0, 0, 1};
     static const uint8_t long_value[] = {0, 1, 0, 0, 10, 0, 0, 1};
@@ -604,6 +628,7 @@ int main(void) {
     empty_segments();
     strict_empty_segments();
     segment_types();
+    width_flags();
     aggregators();
     slots();
     version();
