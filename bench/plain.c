@@ -431,9 +431,9 @@ uint64_t plain_count_as_path_strict(const uint8_t *value, size_t n, uint8_t four
     return count_as_path(value, n, four_bytes, true);
 }
 
-INLINE uint64_t parse_as_path(const uint8_t *value, size_t n, uint8_t four_bytes, bool strict, uint32_t *pairs,
-                              size_t pair_places, uint32_t *numbers, size_t number_places) {
-    uint64_t counted = count_as_path(value, n, four_bytes, strict);
+// Puts a path of which this was counted, if there is room.
+INLINE uint64_t fill_counted(uint64_t counted, const uint8_t *value, size_t n, uint8_t four_bytes, uint32_t *pairs,
+                             size_t pair_places, uint32_t *numbers, size_t number_places) {
     if (refusal_of(counted)) return counted;
     if (2 * (counted & 0xFFFF) > pair_places || counted >> 16 > number_places) return refused(NO_ROOM);
     if (four_bytes)
@@ -445,12 +445,14 @@ INLINE uint64_t parse_as_path(const uint8_t *value, size_t n, uint8_t four_bytes
 
 uint64_t plain_parse_as_path(const uint8_t *value, size_t n, uint8_t four_bytes, uint32_t *pairs, size_t pair_places,
                              uint32_t *numbers, size_t number_places) {
-    return parse_as_path(value, n, four_bytes, false, pairs, pair_places, numbers, number_places);
+    uint64_t counted = plain_count_as_path(value, n, four_bytes);
+    return fill_counted(counted, value, n, four_bytes, pairs, pair_places, numbers, number_places);
 }
 
 uint64_t plain_parse_as_path_strict(const uint8_t *value, size_t n, uint8_t four_bytes, uint32_t *pairs,
                                     size_t pair_places, uint32_t *numbers, size_t number_places) {
-    return parse_as_path(value, n, four_bytes, true, pairs, pair_places, numbers, number_places);
+    uint64_t counted = plain_count_as_path_strict(value, n, four_bytes);
+    return fill_counted(counted, value, n, four_bytes, pairs, pair_places, numbers, number_places);
 }
 
 uint64_t plain_parse_aggregator(const uint8_t *value, size_t n, uint8_t four_bytes, uint32_t *words, size_t places) {

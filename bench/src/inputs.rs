@@ -187,7 +187,7 @@ pub fn announcement(rng: &mut Rng, list: &[u8]) -> Vec<u8> {
     [&[0, 0], &(section.len() as u16).to_be_bytes(), section.as_slice(), list].concat()
 }
 
-/// The requests of an op on all captured messages, none by the strict rule; of lists and UPDATEs those that the crate reads so.
+/// The requests of an op on all captured messages, not the strict ones; of lists and UPDATEs those that the crate reads so.
 pub fn captured(captures: &[Capture], op: u8) -> Vec<Request> {
     let listed = matches!(op, 2 | 10);
     let crate_reads_so = |request: &Request| request.has(ADD_PATH) || request.has(GUESS);
