@@ -174,8 +174,9 @@ impl Capture {
 
     fn attribute_requests(&self, attribute: &Attribute) -> Option<Vec<Request>> {
         let path = |width| {
-            let by = |op| [width, width | STRICT].map(|rule| on_bytes(op, rule, (64, 1_024), attribute.value));
-            [by(6), by(7)].concat()
+            let both =
+                |op| [width, width | STRICT].map(|settings| on_bytes(op, settings, (64, 1_024), attribute.value));
+            [both(6), both(7)].concat()
         };
         Some(match attribute.kind {
             ATTRIBUTE_AS_PATH => path(self.width_setting()),
