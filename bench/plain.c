@@ -24,6 +24,7 @@ enum {
     WIDE_NUMBER = 13,
     NOT_WRITABLE = 14,
     REPEATED_MP = 15,
+    EMPTY_SEGMENT = 16,
 };
 
 enum { MOST_BYTES = 65535, MOST_BODY = 65516, HEADER = 19, ROW = 6, HAS_ID = 256 };
@@ -387,13 +388,14 @@ uint64_t plain_parse_bgp_message_strict(const uint8_t *s, size_t n) {
 
 // ---- AS_PATH and AGGREGATOR ----
 
-INLINE uint64_t count_path(const uint8_t *s, size_t n, size_t width) {
+INLINE uint64_t count_path(const uint8_t *s, size_t n, size_t width, bool strict) {
     size_t at = 0, segments = 0, numbers = 0;
     while (at + 1 < n) {
         size_t kind = s[at], count = s[at + 1];
         at += 2;
         if (n - at < width * count) return refused(TOO_SHORT);
         if (kind - 1 > 3) return refused(BAD_SEGMENT_TYPE);
+        if (strict && count == 0) return refused(EMPTY_SEGMENT);
         at += width * count;
         segments++;
         numbers += count;
@@ -415,14 +417,23 @@ INLINE void fill_path(const uint8_t *restrict s, size_t n, uint32_t width, uint3
     }
 }
 
-uint64_t plain_count_as_path(const uint8_t *value, size_t n, uint8_t four_bytes) {
+// One instance for each width and rule, here and below.
+INLINE uint64_t count_as_path(const uint8_t *value, size_t n, uint8_t four_bytes, bool strict) {
     if (n > MOST_BYTES) return refused(OVER_LONG);
-    return four_bytes ? count_path(value, n, 4) : count_path(value, n, 2);
+    return four_bytes ? count_path(value, n, 4, strict) : count_path(value, n, 2, strict);
 }
 
-uint64_t plain_parse_as_path(const uint8_t *value, size_t n, uint8_t four_bytes, uint32_t *pairs, size_t pair_places,
-                             uint32_t *numbers, size_t number_places) {
-    uint64_t counted = plain_count_as_path(value, n, four_bytes);
+uint64_t plain_count_as_path(const uint8_t *value, size_t n, uint8_t four_bytes) {
+    return count_as_path(value, n, four_bytes, false);
+}
+
+uint64_t plain_count_as_path_strict(const uint8_t *value, size_t n, uint8_t four_bytes) {
+    return count_as_path(value, n, four_bytes, true);
+}
+
+// Puts a path of which this was counted, if there is room.
+INLINE uint64_t fill_counted(uint64_t counted, const uint8_t *value, size_t n, uint8_t four_bytes, uint32_t *pairs,
+                             size_t pair_places, uint32_t *numbers, size_t number_places) {
     if (refusal_of(counted)) return counted;
     if (2 * (counted & 0xFFFF) > pair_places || counted >> 16 > number_places) return refused(NO_ROOM);
     if (four_bytes)
@@ -430,6 +441,18 @@ uint64_t plain_parse_as_path(const uint8_t *value, size_t n, uint8_t four_bytes,
     else
         fill_path(value, n, 2, pairs, numbers);
     return counted;
+}
+
+uint64_t plain_parse_as_path(const uint8_t *value, size_t n, uint8_t four_bytes, uint32_t *pairs, size_t pair_places,
+                             uint32_t *numbers, size_t number_places) {
+    uint64_t counted = plain_count_as_path(value, n, four_bytes);
+    return fill_counted(counted, value, n, four_bytes, pairs, pair_places, numbers, number_places);
+}
+
+uint64_t plain_parse_as_path_strict(const uint8_t *value, size_t n, uint8_t four_bytes, uint32_t *pairs,
+                                    size_t pair_places, uint32_t *numbers, size_t number_places) {
+    uint64_t counted = plain_count_as_path_strict(value, n, four_bytes);
+    return fill_counted(counted, value, n, four_bytes, pairs, pair_places, numbers, number_places);
 }
 
 uint64_t plain_parse_aggregator(const uint8_t *value, size_t n, uint8_t four_bytes, uint32_t *words, size_t places) {
@@ -508,9 +531,11 @@ uint64_t plain_encode_nlri_prefixes(const uint32_t *rows, size_t places, uint8_t
 }
 
 // The first refusal of a path to write that has one.
-static uint64_t path_refusal(const uint32_t *pairs, size_t pair_places, const uint32_t *numbers, size_t width) {
+static uint64_t path_refusal(const uint32_t *pairs, size_t pair_places, const uint32_t *numbers, size_t width,
+                             bool strict) {
     for (size_t i = 0; i < pair_places; i += 2) {
         if (pairs[i] < 1 || pairs[i] > 4) return refused(BAD_SEGMENT_TYPE);
+        if (strict && pairs[i + 1] == 0) return refused(EMPTY_SEGMENT);
         if (pairs[i + 1] > 255) return refused(LONG_SEGMENT);
         for (uint32_t j = 0; j < pairs[i + 1]; j++)
             if (*numbers++ > 0xFFFF && width == 2) return refused(WIDE_NUMBER);
@@ -520,18 +545,19 @@ static uint64_t path_refusal(const uint32_t *pairs, size_t pair_places, const ui
 
 // The bytes of a path to write, or the refusal. The order of refusals matters only where there is one.
 INLINE uint64_t measure_path(const uint32_t *pairs, size_t pair_places, const uint32_t *numbers, size_t count,
-                             size_t width) {
+                             size_t width, bool strict) {
+    uint32_t least = strict ? 1 : 0;
     if (pair_places % 2) return refused(NOT_WRITABLE);
     uint64_t counted = 0;
     bool good = true;
     for (size_t i = 0; i < pair_places; i += 2) {
         counted += pairs[i + 1];
-        good &= pairs[i] - 1 < 4 && pairs[i + 1] <= 255;
+        good &= pairs[i] - 1 < 4 && pairs[i + 1] - least <= 255 - least;
     }
     if (counted != count) return refused(NOT_WRITABLE);
     uint32_t any = 0;
     for (size_t i = 0; width == 2 && i < count; i++) any |= numbers[i];
-    if (!good || any > 0xFFFF) return path_refusal(pairs, pair_places, numbers, width);
+    if (!good || any > 0xFFFF) return path_refusal(pairs, pair_places, numbers, width, strict);
     return pair_places + width * count;
 }
 
@@ -552,10 +578,10 @@ INLINE void write_path(const uint32_t *pairs, size_t pair_places, const uint32_t
     }
 }
 
-uint64_t plain_encode_as_path(const uint32_t *pairs, size_t pair_places, const uint32_t *numbers, size_t count,
-                              uint8_t four_bytes, uint8_t *out, size_t room) {
-    uint64_t bytes = four_bytes ? measure_path(pairs, pair_places, numbers, count, 4)
-                                : measure_path(pairs, pair_places, numbers, count, 2);
+INLINE uint64_t encode_as_path(const uint32_t *pairs, size_t pair_places, const uint32_t *numbers, size_t count,
+                               uint8_t four_bytes, bool strict, uint8_t *out, size_t room) {
+    uint64_t bytes = four_bytes ? measure_path(pairs, pair_places, numbers, count, 4, strict)
+                                : measure_path(pairs, pair_places, numbers, count, 2, strict);
     if (refusal_of(bytes)) return bytes;
     if (bytes > MOST_BYTES) return refused(OVER_LONG);
     if (bytes > room) return refused(NO_ROOM);
@@ -564,6 +590,16 @@ uint64_t plain_encode_as_path(const uint32_t *pairs, size_t pair_places, const u
     else
         write_path(pairs, pair_places, numbers, 2, out);
     return bytes;
+}
+
+uint64_t plain_encode_as_path(const uint32_t *pairs, size_t pair_places, const uint32_t *numbers, size_t count,
+                              uint8_t four_bytes, uint8_t *out, size_t room) {
+    return encode_as_path(pairs, pair_places, numbers, count, four_bytes, false, out, room);
+}
+
+uint64_t plain_encode_as_path_strict(const uint32_t *pairs, size_t pair_places, const uint32_t *numbers, size_t count,
+                                     uint8_t four_bytes, uint8_t *out, size_t room) {
+    return encode_as_path(pairs, pair_places, numbers, count, four_bytes, true, out, room);
 }
 
 uint64_t plain_encode_aggregator(uint32_t asn, uint32_t identifier, uint8_t four_bytes, uint8_t *out, size_t room) {

@@ -64,11 +64,13 @@ fn output(lent: &mut [Lent]) -> &mut [u8] {
 
 fn read<L: Library>(request: &Request, lent: &mut [Lent]) -> (u64, Vec<u64>) {
     let (s, four) = (request.parts[0].as_slice(), four_bytes(request));
-    let (v6, settings) = (ipv6(request), list_settings(request));
+    let (v6, settings, strict) = (ipv6(request), list_settings(request), request.has(STRICT));
     let word = match (request.op, lent) {
         (2, [rows]) => L::parse_nlri_list(s, v6, settings, store(rows)),
         (3, _) => L::count_nlri_list(s, v6, settings),
+        (6, [pairs, numbers]) if strict => L::parse_as_path_strict(s, four, store(pairs), store(numbers)),
         (6, [pairs, numbers]) => L::parse_as_path(s, four, store(pairs), store(numbers)),
+        (7, _) if strict => L::count_as_path_strict(s, four),
         (7, _) => L::count_as_path(s, four),
         (10, [withdrawn, announced]) => L::parse_bgp_update_message(s, settings, store(withdrawn), store(announced)),
         (11, _) => L::count_bgp_update_message(s, settings),
@@ -146,6 +148,7 @@ fn written<L: Library>(request: &Request, lent: &mut [Lent]) -> (u64, Vec<u64>) 
     let (four, with_id, out) = (four_bytes(request), add_path(request), output(lent));
     let word = match request.op {
         13 => L::encode_nlri_prefixes(&first, ipv6(request), with_id, out),
+        14 if request.has(STRICT) => L::encode_as_path_strict(&first, &second, four, out),
         14 => L::encode_as_path(&first, &second, four, out),
         15 => L::encode_aggregator(first[0], first[1], four, out),
         16 => L::encode_bgp_message(request.argument, &request.parts[0], out),

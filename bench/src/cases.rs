@@ -280,16 +280,31 @@ impl<'a> Cases<'a> {
         self.read_and_count("path: captures", Kind::Path, &reads)?;
         let writes: Vec<Request> = reads.iter().map(inputs::write_back).collect();
         self.add("write path: captures", Kind::Write, &writes)?;
+        self.strict_paths("captures", &reads)?;
         for width in [4, 2] {
             let mut rng = Rng::new(300 + width as u64);
             let settings = inputs::width_setting(width);
             let tenths: Vec<Vec<u8>> = (0..10 * LARGE_PATHS).map(|_| inputs::path_tenth(&mut rng, width)).collect();
             let reads = both_sizes(&tenths, |value| inputs::read_path(value, settings));
+            let large = reads[0].clone();
             self.sizes(&format!("{width} bytes"), Kind::Path, true, reads)?;
+            self.strict_paths(&format!("{width} bytes, 64 KB"), &large)?;
         }
         let aggregators = inputs::captured(self.captures, 8);
         let lent: Vec<Request> = aggregators.iter().map(|read| Request { room_a: 2, ..read.clone() }).collect();
         self.add("read AGGREGATOR: captures", Kind::Other, &lent)
+    }
+
+    /// The same paths by the strict rule, which the crate has no call for.
+    fn strict_paths(&mut self, what: &str, reads: &[Request]) -> io::Result<()> {
+        let reads: Vec<Request> = reads.iter().map(inputs::strict).collect();
+        let verbs: [(&str, fn(&Request) -> Request); 3] =
+            [("read", Request::clone), ("count", inputs::counting), ("write", inputs::write_back)];
+        for (verb, asked) in verbs {
+            let requests: Vec<Request> = reads.iter().map(asked).collect();
+            self.add(&format!("{verb} path: {what}, strict"), Kind::WithoutCrate, &requests)?;
+        }
+        Ok(())
     }
 
     /// The crate's reader of a message reads its body too. A KEEPALIVE has none to read, whatever its length: so the

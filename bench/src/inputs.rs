@@ -3,7 +3,7 @@
 use compare::inputs::captures::Capture;
 use compare::inputs::examples::{on_bytes, request, words};
 use compare::rng::Rng;
-use records::{Lent, Request, ADD_PATH, FOUR_BYTE_AS, GUESS, IPV6};
+use records::{Lent, Request, ADD_PATH, FOUR_BYTE_AS, GUESS, IPV6, STRICT};
 
 /// The most bytes of a tenth of a list, so that ten of them are a list of the greatest size.
 const TENTH: usize = 6_553;
@@ -187,12 +187,13 @@ pub fn announcement(rng: &mut Rng, list: &[u8]) -> Vec<u8> {
     [&[0, 0], &(section.len() as u16).to_be_bytes(), section.as_slice(), list].concat()
 }
 
-/// The requests of an op on all captured messages; of lists and UPDATEs those that the crate reads so.
+/// The requests of an op on all captured messages, not the strict ones; of lists and UPDATEs those that the crate reads so.
 pub fn captured(captures: &[Capture], op: u8) -> Vec<Request> {
     let listed = matches!(op, 2 | 10);
     let crate_reads_so = |request: &Request| request.has(ADD_PATH) || request.has(GUESS);
     let all = captures.iter().flat_map(|capture| &capture.requests);
-    all.filter(|request| request.op == op && (!listed || crate_reads_so(request))).cloned().collect()
+    let wanted = |request: &&Request| request.op == op && !request.has(STRICT) && (!listed || crate_reads_so(request));
+    all.filter(wanted).cloned().collect()
 }
 
 /// The attribute sections of the captured UPDATEs, as requests to search one type.
@@ -214,6 +215,11 @@ pub fn walk(search: &Request) -> Vec<Request> {
         walk.push(asked);
     }
     walk
+}
+
+/// The same request by the strict rule.
+pub fn strict(asked: &Request) -> Request {
+    Request { settings: asked.settings | STRICT, ..asked.clone() }
 }
 
 /// The counting request of a reading one.

@@ -64,7 +64,15 @@ libraries! {
     fn count_as_path(value: &[u8], four_bytes: u8) passes (
         value.as_ptr() => Bytes, value.len() => usize, four_bytes => u8
     );
+    fn count_as_path_strict(value: &[u8], four_bytes: u8) passes (
+        value.as_ptr() => Bytes, value.len() => usize, four_bytes => u8
+    );
     fn parse_as_path(value: &[u8], four_bytes: u8, pairs: &mut [u32], numbers: &mut [u32]) passes (
+        value.as_ptr() => Bytes, value.len() => usize, four_bytes => u8,
+        pairs.as_mut_ptr() => Store, pairs.len() => usize,
+        numbers.as_mut_ptr() => Store, numbers.len() => usize
+    );
+    fn parse_as_path_strict(value: &[u8], four_bytes: u8, pairs: &mut [u32], numbers: &mut [u32]) passes (
         value.as_ptr() => Bytes, value.len() => usize, four_bytes => u8,
         pairs.as_mut_ptr() => Store, pairs.len() => usize,
         numbers.as_mut_ptr() => Store, numbers.len() => usize
@@ -78,6 +86,10 @@ libraries! {
         out.as_mut_ptr() => Output, out.len() => usize
     );
     fn encode_as_path(pairs: &[u32], numbers: &[u32], four_bytes: u8, out: &mut [u8]) passes (
+        pairs.as_ptr() => Words, pairs.len() => usize, numbers.as_ptr() => Words, numbers.len() => usize,
+        four_bytes => u8, out.as_mut_ptr() => Output, out.len() => usize
+    );
+    fn encode_as_path_strict(pairs: &[u32], numbers: &[u32], four_bytes: u8, out: &mut [u8]) passes (
         pairs.as_ptr() => Words, pairs.len() => usize, numbers.as_ptr() => Words, numbers.len() => usize,
         four_bytes => u8, out.as_mut_ptr() => Output, out.len() => usize
     );

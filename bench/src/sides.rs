@@ -139,15 +139,20 @@ impl Calls {
     }
 
     fn values<L: Library>(&self) -> Side {
-        match self.op() {
-            6 => self.batch(|call, to| {
+        match (self.op(), self.is_strict()) {
+            (6, false) => self.batch(|call, to| {
                 let (pairs, numbers) = to.two(call);
                 L::parse_as_path(call.s(), call.four_bytes, pairs, numbers)
             }),
-            7 => self.batch(|call, _| L::count_as_path(call.s(), call.four_bytes)),
-            8 => self.batch(|call, to| L::parse_aggregator(call.s(), call.four_bytes, to.two(call).0)),
-            _ if self.is_strict() => self.batch(|call, _| L::parse_bgp_message_strict(call.s())),
-            _ => self.batch(|call, _| L::parse_bgp_message(call.s())),
+            (6, true) => self.batch(|call, to| {
+                let (pairs, numbers) = to.two(call);
+                L::parse_as_path_strict(call.s(), call.four_bytes, pairs, numbers)
+            }),
+            (7, false) => self.batch(|call, _| L::count_as_path(call.s(), call.four_bytes)),
+            (7, true) => self.batch(|call, _| L::count_as_path_strict(call.s(), call.four_bytes)),
+            (8, _) => self.batch(|call, to| L::parse_aggregator(call.s(), call.four_bytes, to.two(call).0)),
+            (_, false) => self.batch(|call, _| L::parse_bgp_message(call.s())),
+            (_, true) => self.batch(|call, _| L::parse_bgp_message_strict(call.s())),
         }
     }
 
@@ -174,6 +179,9 @@ impl Calls {
         match self.op() {
             13 => self
                 .batch(|call, to| L::encode_nlri_prefixes(&call.words[0], call.ipv6, call.add_path, to.output(call))),
+            14 if self.is_strict() => self.batch(|call, to| {
+                L::encode_as_path_strict(&call.words[0], &call.words[1], call.four_bytes, to.output(call))
+            }),
             14 => self
                 .batch(|call, to| L::encode_as_path(&call.words[0], &call.words[1], call.four_bytes, to.output(call))),
             15 => self.batch(|call, to| {

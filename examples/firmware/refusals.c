@@ -304,36 +304,160 @@ static void lists(void) {
     check_answer("encode_nlri_prefixes: 11", doorbramble_encode_nlri_prefixes(six, 6, 1, 0, out, 8), refused(DOORBRAMBLE_NO_ROOM));
 }
 
+/* a sequence of two numbers of four bytes, and what it is read to */
+static const uint8_t path[] = {2, 2, 0, 0, 0xFD, 0xE9, 0, 0, 0xFD, 0xEA};
+static const uint32_t path_pairs[] = {2, 2}, path_numbers[] = {65001, 65002};
+
 static void paths(void) {
-    static const uint8_t value[] = {2, 2, 0, 0, 0xFD, 0xE9, 0, 0, 0xFD, 0xEA};
     static const uint8_t type_five[] = {5, 0};
-    static const uint32_t pairs[] = {2, 2};
-    static const uint32_t numbers[] = {65001, 65002};
     static const uint32_t wide[] = {65001, 65536};
     static const uint32_t bad_type[] = {5, 2};
     uint64_t answer;
 
-    answer = doorbramble_count_as_path(value, 10, 1);
+    answer = doorbramble_count_as_path(path, 10, 1);
     check_answer("count_as_path", answer, accepted(1, 2, 0));
     expect("the fields of a path", doorbramble_segments(answer) == 1 && doorbramble_numbers(answer) == 2);
-    check_answer("count_as_path: 9 at width 2", doorbramble_count_as_path(value, 10, 0), refused(DOORBRAMBLE_SEGMENT_TYPE));
-    check_answer("count_as_path: 2", doorbramble_count_as_path(value, 9, 1), refused(DOORBRAMBLE_TRUNCATED));
+    check_answer("count_as_path: 9 at width 2", doorbramble_count_as_path(path, 10, 0), refused(DOORBRAMBLE_SEGMENT_TYPE));
+    check_answer("count_as_path: 2", doorbramble_count_as_path(path, 9, 1), refused(DOORBRAMBLE_TRUNCATED));
 
-    check("parse_as_path", doorbramble_parse_as_path(value, 10, 1, one, PLACES, two, PLACES), accepted(1, 2, 0), pairs, 2, numbers, 2, NULL,
-          0);
-    check_answer("parse_as_path: 11 for a pair", doorbramble_parse_as_path(value, 10, 1, one, 1, two, PLACES),
-                 refused(DOORBRAMBLE_NO_ROOM));
-    check_answer("parse_as_path: 11 for a number", doorbramble_parse_as_path(value, 10, 1, one, PLACES, two, 1),
+    check("parse_as_path", doorbramble_parse_as_path(path, 10, 1, one, PLACES, two, PLACES), accepted(1, 2, 0), path_pairs, 2, path_numbers,
+          2, NULL, 0);
+    check_answer("parse_as_path: 11 for a pair", doorbramble_parse_as_path(path, 10, 1, one, 1, two, PLACES), refused(DOORBRAMBLE_NO_ROOM));
+    check_answer("parse_as_path: 11 for a number", doorbramble_parse_as_path(path, 10, 1, one, PLACES, two, 1),
                  refused(DOORBRAMBLE_NO_ROOM));
     check_answer("parse_as_path: 9", doorbramble_parse_as_path(type_five, 2, 1, one, PLACES, two, PLACES),
                  refused(DOORBRAMBLE_SEGMENT_TYPE));
 
-    check_out("encode_as_path", doorbramble_encode_as_path(pairs, 2, numbers, 2, 1, out, PLACES), accepted(10, 0, 0), value, 10);
-    check_answer("encode_as_path: 14", doorbramble_encode_as_path(pairs, 2, numbers, 1, 1, out, PLACES), refused(DOORBRAMBLE_NOT_WRITABLE));
-    check_answer("encode_as_path: 9", doorbramble_encode_as_path(bad_type, 2, numbers, 2, 1, out, PLACES),
+    check_out("encode_as_path", doorbramble_encode_as_path(path_pairs, 2, path_numbers, 2, 1, out, PLACES), accepted(10, 0, 0), path, 10);
+    check_answer("encode_as_path: 14", doorbramble_encode_as_path(path_pairs, 2, path_numbers, 1, 1, out, PLACES),
+                 refused(DOORBRAMBLE_NOT_WRITABLE));
+    check_answer("encode_as_path: 9", doorbramble_encode_as_path(bad_type, 2, path_numbers, 2, 1, out, PLACES),
                  refused(DOORBRAMBLE_SEGMENT_TYPE));
-    check_answer("encode_as_path: 13", doorbramble_encode_as_path(pairs, 2, wide, 2, 0, out, PLACES), refused(DOORBRAMBLE_WIDE_NUMBER));
-    check_answer("encode_as_path: 11", doorbramble_encode_as_path(pairs, 2, numbers, 2, 1, out, 9), refused(DOORBRAMBLE_NO_ROOM));
+    check_answer("encode_as_path: 13", doorbramble_encode_as_path(path_pairs, 2, wide, 2, 0, out, PLACES),
+                 refused(DOORBRAMBLE_WIDE_NUMBER));
+    check_answer("encode_as_path: 11", doorbramble_encode_as_path(path_pairs, 2, path_numbers, 2, 1, out, 9), refused(DOORBRAMBLE_NO_ROOM));
+}
+
+/* the same path by the strict calls, which answer as the others do where no segment is empty */
+static void strict_paths(void) {
+    static const uint32_t wide[] = {65001, 65536};
+
+    check_answer("count_as_path_strict", doorbramble_count_as_path_strict(path, 10, 1), accepted(1, 2, 0));
+    check_answer("count_as_path_strict: of nothing", doorbramble_count_as_path_strict(NULL, 0, 1), accepted(0, 0, 0));
+    check_answer("count_as_path_strict: 9 at width 2", doorbramble_count_as_path_strict(path, 10, 0), refused(DOORBRAMBLE_SEGMENT_TYPE));
+    check_answer("count_as_path_strict: 2", doorbramble_count_as_path_strict(path, 9, 1), refused(DOORBRAMBLE_TRUNCATED));
+    check_answer("count_as_path_strict: 2, a byte", doorbramble_count_as_path_strict(path, 1, 1), refused(DOORBRAMBLE_TRUNCATED));
+
+    check("parse_as_path_strict", doorbramble_parse_as_path_strict(path, 10, 1, one, PLACES, two, PLACES), accepted(1, 2, 0), path_pairs, 2,
+          path_numbers, 2, NULL, 0);
+    check_answer("parse_as_path_strict: 11 for a pair", doorbramble_parse_as_path_strict(path, 10, 1, one, 1, two, PLACES),
+                 refused(DOORBRAMBLE_NO_ROOM));
+    check_answer("parse_as_path_strict: 11 for a number", doorbramble_parse_as_path_strict(path, 10, 1, one, PLACES, two, 1),
+                 refused(DOORBRAMBLE_NO_ROOM));
+
+    check_out("encode_as_path_strict", doorbramble_encode_as_path_strict(path_pairs, 2, path_numbers, 2, 1, out, PLACES),
+              accepted(10, 0, 0), path, 10);
+    check_answer("encode_as_path_strict: of nothing", doorbramble_encode_as_path_strict(NULL, 0, NULL, 0, 1, NULL, 0), accepted(0, 0, 0));
+    check_answer("encode_as_path_strict: 13", doorbramble_encode_as_path_strict(path_pairs, 2, wide, 2, 0, out, PLACES),
+                 refused(DOORBRAMBLE_WIDE_NUMBER));
+    check_answer("encode_as_path_strict: 11", doorbramble_encode_as_path_strict(path_pairs, 2, path_numbers, 2, 1, out, 9),
+                 refused(DOORBRAMBLE_NO_ROOM));
+}
+
+/* an empty sequence, alone and after a segment of one number; one of type 5 after it */
+static const uint8_t empty[] = {2, 0, 5, 0}, late[] = {2, 1, 0, 7, 2, 0};
+static const uint32_t empty_pairs[] = {2, 0, 5, 0}, late_pairs[] = {2, 1, 2, 0}, seventh[] = {7};
+
+static void empty_segments(void) {
+    check_answer("count_as_path: an empty segment", doorbramble_count_as_path(empty, 2, 0), accepted(1, 0, 0));
+    check("parse_as_path: an empty segment", doorbramble_parse_as_path(empty, 2, 0, one, PLACES, two, PLACES), accepted(1, 0, 0),
+          empty_pairs, 2, NULL, 0, NULL, 0);
+    check("parse_as_path: the last is empty", doorbramble_parse_as_path(late, 6, 0, one, PLACES, two, PLACES), accepted(2, 1, 0),
+          late_pairs, 4, seventh, 1, NULL, 0);
+    check_out("encode_as_path: an empty segment", doorbramble_encode_as_path(empty_pairs, 2, NULL, 0, 0, out, PLACES), accepted(2, 0, 0),
+              empty, 2);
+    check_out("encode_as_path: the last is empty", doorbramble_encode_as_path(late_pairs, 4, seventh, 1, 0, out, PLACES), accepted(6, 0, 0),
+              late, 6);
+}
+
+/* Empty segments by the strict calls: 16; in one segment after 9, in the order of segments, and before 11; 14 before it. */
+static void strict_empty_segments(void) {
+    static const uint32_t long_pairs[] = {2, 0, 2, 256};
+    static uint32_t numbers[256];
+    const uint64_t refusal = refused(DOORBRAMBLE_EMPTY_SEGMENT), bad_type = refused(DOORBRAMBLE_SEGMENT_TYPE);
+
+    check_answer("count_as_path_strict: 16", doorbramble_count_as_path_strict(empty, 2, 0), refusal);
+    check_answer("count_as_path_strict: 16, the last", doorbramble_count_as_path_strict(late, 6, 0), refusal);
+    check_answer("count_as_path_strict: 16 before a later 9", doorbramble_count_as_path_strict(empty, 4, 0), refusal);
+    check_answer("count_as_path_strict: 16 before a later 2", doorbramble_count_as_path_strict(empty, 3, 0), refusal);
+    check_answer("count_as_path_strict: 9 before 16", doorbramble_count_as_path_strict(empty + 2, 2, 0), bad_type);
+
+    check_answer("parse_as_path_strict: 16", doorbramble_parse_as_path_strict(empty, 2, 0, one, PLACES, two, PLACES), refusal);
+    check_answer("parse_as_path_strict: 16, the last", doorbramble_parse_as_path_strict(late, 6, 0, one, PLACES, two, PLACES), refusal);
+    check_answer("parse_as_path_strict: 16 before 11", doorbramble_parse_as_path_strict(empty, 2, 0, NULL, 0, NULL, 0), refusal);
+    check_answer("parse_as_path_strict: 9 before 16", doorbramble_parse_as_path_strict(empty + 2, 2, 0, one, PLACES, two, PLACES),
+                 bad_type);
+
+    check_answer("encode_as_path_strict: 16", doorbramble_encode_as_path_strict(empty_pairs, 2, NULL, 0, 0, out, PLACES), refusal);
+    check_answer("encode_as_path_strict: 16, the last", doorbramble_encode_as_path_strict(late_pairs, 4, seventh, 1, 0, out, PLACES),
+                 refusal);
+    check_answer("encode_as_path_strict: 16 before a later 9", doorbramble_encode_as_path_strict(empty_pairs, 4, NULL, 0, 0, out, PLACES),
+                 refusal);
+    check_answer("encode_as_path_strict: 16 before a later 12",
+                 doorbramble_encode_as_path_strict(long_pairs, 4, numbers, 256, 0, out, PLACES), refusal);
+    check_answer("encode_as_path_strict: 16 before 11", doorbramble_encode_as_path_strict(empty_pairs, 2, NULL, 0, 0, NULL, 0), refusal);
+    check_answer("encode_as_path_strict: 9 before 16", doorbramble_encode_as_path_strict(empty_pairs + 2, 2, NULL, 0, 0, out, PLACES),
+                 bad_type);
+    check_answer("encode_as_path_strict: 14 before 16", doorbramble_encode_as_path_strict(empty_pairs, 2, seventh, 1, 0, out, PLACES),
+                 refused(DOORBRAMBLE_NOT_WRITABLE));
+}
+
+/* an empty segment of every type, at both widths: those of types 1 to 4 are taken, and refused with 16 by the strict calls; others are 9 */
+static void segment_types(void) {
+    unsigned wrong = 0, i;
+    uint8_t four_bytes;
+    for (i = 0; i < 256; i++) {
+        const uint8_t value[] = {(uint8_t)i, 0};
+        const uint32_t pair[] = {i, 0};
+        const int is_type = i >= 1 && i <= 4;
+        const uint64_t strict = refused(is_type ? DOORBRAMBLE_EMPTY_SEGMENT : DOORBRAMBLE_SEGMENT_TYPE);
+        const uint64_t counted = is_type ? accepted(1, 0, 0) : strict, written = is_type ? accepted(2, 0, 0) : strict;
+        for (four_bytes = 0; four_bytes < 2; four_bytes++) {
+            wrong += doorbramble_count_as_path(value, 2, four_bytes) != counted;
+            wrong += doorbramble_parse_as_path(value, 2, four_bytes, one, PLACES, two, PLACES) != counted;
+            wrong += doorbramble_encode_as_path(pair, 2, NULL, 0, four_bytes, out, PLACES) != written;
+            clear();
+            wrong += doorbramble_count_as_path_strict(value, 2, four_bytes) != strict;
+            wrong += doorbramble_parse_as_path_strict(value, 2, four_bytes, one, PLACES, two, PLACES) != strict;
+            wrong += doorbramble_encode_as_path_strict(pair, 2, NULL, 0, four_bytes, out, PLACES) != strict;
+            wrong += !has_words(one, NULL, 0) || !has_words(two, NULL, 0) || !has_bytes(NULL, 0);
+        }
+    }
+    expect("empty segments of types of every number", wrong == 0);
+}
+
+/* each number as the flag of the width, of which all but 0 are four bytes, by both rules */
+static void width_flags(void) {
+    const uint64_t refusal = refused(DOORBRAMBLE_EMPTY_SEGMENT), none = accepted(1, 0, 0);
+    unsigned wrong = 0, i;
+    for (i = 0; i < 256; i++) {
+        const uint64_t counted = i ? accepted(1, 2, 0) : refused(DOORBRAMBLE_SEGMENT_TYPE), written = accepted(i ? 10 : 6, 0, 0);
+        const uint8_t flag = (uint8_t)i;
+        wrong += doorbramble_count_as_path(path, 10, flag) != counted;
+        wrong += doorbramble_count_as_path_strict(path, 10, flag) != counted;
+        wrong += doorbramble_parse_as_path(path, 10, flag, one, PLACES, two, PLACES) != counted;
+        wrong += doorbramble_parse_as_path_strict(path, 10, flag, one, PLACES, two, PLACES) != counted;
+        wrong += doorbramble_encode_as_path(path_pairs, 2, path_numbers, 2, flag, out, PLACES) != written;
+        wrong += doorbramble_encode_as_path_strict(path_pairs, 2, path_numbers, 2, flag, out, PLACES) != written;
+        wrong += doorbramble_count_as_path(empty, 2, flag) != none;
+        wrong += doorbramble_count_as_path_strict(empty, 2, flag) != refusal;
+        wrong += doorbramble_parse_as_path(empty, 2, flag, one, PLACES, two, PLACES) != none;
+        wrong += doorbramble_parse_as_path_strict(empty, 2, flag, one, PLACES, two, PLACES) != refusal;
+        wrong += doorbramble_encode_as_path(empty_pairs, 2, NULL, 0, flag, out, PLACES) != accepted(2, 0, 0);
+        wrong += doorbramble_encode_as_path_strict(empty_pairs, 2, NULL, 0, flag, out, PLACES) != refusal;
+    }
+    clear();
+    expect("paths: flags of the width of every number", wrong == 0);
 }
 
 static void aggregators(void) {
@@ -433,7 +557,7 @@ static void slots(void) {
 
 static void version(void) {
     uint64_t answer = doorbramble_version();
-    check_answer("version", answer, accepted(1, 1, 0));
+    check_answer("version", answer, accepted(1, 2, 0));
     expect("the version of the header", doorbramble_version_major(answer) == DOORBRAMBLE_VERSION_MAJOR &&
                                             doorbramble_version_minor(answer) == DOORBRAMBLE_VERSION_MINOR);
 }
@@ -476,9 +600,16 @@ static void limits(void) {
                  accepted(0, DOORBRAMBLE_BODY_ROWS, 0));
     check_answer("parse_aggregator: 1", doorbramble_parse_aggregator(zeros, 65536, 0, one, PLACES), refused(DOORBRAMBLE_TOO_LONG));
     check_answer("count_as_path: 1", doorbramble_count_as_path(zeros, 65536, 0), refused(DOORBRAMBLE_TOO_LONG));
+    zeros[0] = 2;
+    check_answer("count_as_path_strict: 1 before 16", doorbramble_count_as_path_strict(zeros, 65536, 0), refused(DOORBRAMBLE_TOO_LONG));
+    check_answer("count_as_path_strict: 16 at the limit", doorbramble_count_as_path_strict(zeros, 65535, 0),
+                 refused(DOORBRAMBLE_EMPTY_SEGMENT));
+    zeros[0] = 0;
     check_answer("encode_bgp_update_message: 1", doorbramble_encode_bgp_update_message(NULL, 0, zeros, 65513, NULL, 0, 0, out, PLACES),
                  refused(DOORBRAMBLE_TOO_LONG));
     check_answer("encode_as_path: 12", doorbramble_encode_as_path(pair, 2, numbers, 256, 1, out, PLACES),
+                 refused(DOORBRAMBLE_LONG_SEGMENT));
+    check_answer("encode_as_path_strict: 12", doorbramble_encode_as_path_strict(pair, 2, numbers, 256, 1, out, PLACES),
                  refused(DOORBRAMBLE_LONG_SEGMENT));
 }
 
@@ -493,6 +624,11 @@ int main(void) {
     lists();
     rows();
     paths();
+    strict_paths();
+    empty_segments();
+    strict_empty_segments();
+    segment_types();
+    width_flags();
     aggregators();
     slots();
     version();

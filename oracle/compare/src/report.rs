@@ -9,6 +9,9 @@ const SHOWN: usize = 20;
 /// Bytes of a request shown in hexadecimal.
 const SHOWN_BYTES: usize = 400;
 
+/// Refusals are numbered up to this one.
+const LAST_REFUSAL: usize = 16;
+
 #[derive(Default, Clone, Copy)]
 struct OpTotals {
     requests: u64,
@@ -16,7 +19,7 @@ struct OpTotals {
     crate_differs: u64,
     by_answers: u64,
     answers_differs: u64,
-    refusals: [u64; 16],
+    refusals: [u64; LAST_REFUSAL + 1],
 }
 
 #[derive(Default)]

@@ -32,6 +32,7 @@ pub const ALL: &[(&str, fn())] = &[
         bodies_shorter_than_their_least_are_refused_after_the_header,
     ),
     ("an_empty_segment_is_kept", an_empty_segment_is_kept),
+    ("an_empty_segment_is_written_back", an_empty_segment_is_written_back),
     ("segments_are_appended_without_merging", segments_are_appended_without_merging),
     (
         "an_as_number_remembers_its_width_but_is_compared_by_value",
@@ -182,6 +183,18 @@ fn bodies_shorter_than_their_least_are_refused_after_the_header() {
 fn an_empty_segment_is_kept() {
     let path = crate::parser::bgp::attributes::parse_as_path(Bytes::from_static(&[2, 0]), &AsnLength::Bits16).unwrap();
     assert_eq!((path.segments.len(), path.segments[0].len()), (1, 0));
+}
+
+/// Of every type, also between others.
+fn an_empty_segment_is_written_back() {
+    for kind in 1..=4 {
+        for value in [vec![kind, 0], vec![2, 1, 0, 7, kind, 0, 2, 1, 0, 8]] {
+            let path = Inside::parse_as_path(Bytes::from(value.clone()), &AsnLength::Bits16).unwrap();
+            let mut output = BytesMut::new();
+            Inside::encode_as_path(&path, AsnLength::Bits16, &mut output).unwrap();
+            assert_eq!(output[..], value);
+        }
+    }
 }
 
 fn segments_are_appended_without_merging() {

@@ -9,7 +9,7 @@ pub mod private;
 pub mod routes;
 pub mod warnings;
 
-use records::{lent_of, Answer, Request, ADD_PATH, FOUR_BYTE_AS, GUESS};
+use records::{lent_of, Answer, Request, ADD_PATH, FOUR_BYTE_AS, GUESS, STRICT};
 
 use crate::error::{EncodingError, ParserError};
 use crate::models::AsnLength;
@@ -38,6 +38,9 @@ pub enum Contents {
 
 /// The answer to a request, as far as the crate has one.
 pub fn answer(request: &Request) -> Option<Answer> {
+    if is_strict_path(request) {
+        return None;
+    }
     let outcome = if over_long(request) { Outcome::Refused(1) } else { call(request) };
     match outcome {
         Outcome::Done(numbers, contents) => Some(stored(request, numbers, contents)),
@@ -64,6 +67,11 @@ fn call(request: &Request) -> Outcome {
         19 => attributes::first_of(request),
         _ => Outcome::NoCounterpart,
     }
+}
+
+/// Whether a path is to be judged by RFC 7606: the crate keeps an empty segment, and has no such call.
+fn is_strict_path(request: &Request) -> bool {
+    matches!(request.op, 6 | 7 | 14) && request.has(STRICT)
 }
 
 /// Refusal 1 of the readers, which comes before the crate is asked.

@@ -33,8 +33,8 @@ fn call(request: &Request) -> Done {
         3 => counted(routes::list(bytes, reading(request), family(request))?.len()),
         4 => stored_rows(request, routes::section(bytes, reading(request))?),
         5 => counted(routes::section(bytes, reading(request))?.len()),
-        6 => stored_path(request, paths::read(bytes, width(request))?),
-        7 => path_counts(&paths::read(bytes, width(request))?),
+        6 => stored_path(request, paths::read(bytes, width(request), rule(request))?),
+        7 => path_counts(&paths::read(bytes, width(request), rule(request))?),
         8 => aggregator(request, bytes),
         9 => header(request, bytes),
         10 => stored_update(request, bytes),
@@ -44,7 +44,10 @@ fn call(request: &Request) -> Done {
             let rows = request.numbers(0);
             written(request, routes::write(&rows, request.has(ADD_PATH), family(request))?, true)
         }
-        14 => written(request, paths::write(&request.numbers(0), &request.numbers(1), width(request))?, true),
+        14 => {
+            let (pairs, numbers) = (request.numbers(0), request.numbers(1));
+            written(request, paths::write(&pairs, &numbers, width(request), rule(request))?, true)
+        }
         15 => {
             let values = request.numbers(0);
             written(request, paths::write_aggregator(values[0], values[1], width(request))?, true)
@@ -82,6 +85,14 @@ fn width(request: &Request) -> usize {
         4
     } else {
         2
+    }
+}
+
+fn rule(request: &Request) -> paths::Rule {
+    if request.has(STRICT) {
+        paths::Rule::Strict
+    } else {
+        paths::Rule::Crate
     }
 }
 

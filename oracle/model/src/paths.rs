@@ -14,12 +14,26 @@ fn number(bytes: &[u8]) -> u32 {
     bytes.iter().fold(0, |value, byte| value << 8 | u32::from(*byte))
 }
 
-fn is_segment_type(kind: u32) -> bool {
-    (1..=4).contains(&kind)
+/// By what a path is judged: the crate's reading, or RFC 7606 section 7.2, by which no segment is empty.
+#[derive(Debug, Clone, Copy, PartialEq, Eq)]
+pub enum Rule {
+    Crate,
+    Strict,
+}
+
+/// Whether a segment may have this type, or 9, and then whether so many numbers, or 16.
+fn judge(kind: u32, count: usize, rule: Rule) -> Result<(), Refusal> {
+    if !(1..=4).contains(&kind) {
+        return Err(9);
+    }
+    if rule == Rule::Strict && count == 0 {
+        return Err(16);
+    }
+    Ok(())
 }
 
 /// The segments of an AS_PATH value.
-pub fn read(mut bytes: &[u8], width: usize) -> Result<Vec<Segment>, Refusal> {
+pub fn read(mut bytes: &[u8], width: usize, rule: Rule) -> Result<Vec<Segment>, Refusal> {
     if bytes.len() > MOST_BYTES {
         return Err(1);
     }
@@ -28,9 +42,7 @@ pub fn read(mut bytes: &[u8], width: usize) -> Result<Vec<Segment>, Refusal> {
         let count = usize::from(*bytes.get(1).ok_or(2u32)?);
         let numbers = bytes.get(2..2 + count * width).ok_or(2u32)?;
         let kind = u32::from(bytes[0]);
-        if !is_segment_type(kind) {
-            return Err(9);
-        }
+        judge(kind, count, rule)?;
         segments.push(Segment { kind, numbers: numbers.chunks_exact(width).map(number).collect() });
         bytes = &bytes[2 + count * width..];
     }
@@ -49,7 +61,7 @@ fn write_number(value: u32, width: usize, out: &mut Vec<u8>) -> Result<(), Refus
 }
 
 /// The bytes of an AS_PATH value; how many they may be is for the caller.
-pub fn write(pairs: &[u32], numbers: &[u32], width: usize) -> Result<Vec<u8>, Refusal> {
+pub fn write(pairs: &[u32], numbers: &[u32], width: usize, rule: Rule) -> Result<Vec<u8>, Refusal> {
     let counted: u128 = pairs.iter().skip(1).step_by(2).map(|count| u128::from(*count)).sum();
     if pairs.len() % 2 != 0 || counted != numbers.len() as u128 {
         return Err(14);
@@ -58,9 +70,7 @@ pub fn write(pairs: &[u32], numbers: &[u32], width: usize) -> Result<Vec<u8>, Re
     let mut rest = numbers;
     for pair in pairs.chunks_exact(2) {
         let (kind, count) = (pair[0], pair[1] as usize);
-        if !is_segment_type(kind) {
-            return Err(9);
-        }
+        judge(kind, count, rule)?;
         if count > 255 {
             return Err(12);
         }

@@ -91,11 +91,68 @@ fn paths_and_aggregators() {
 }
 
 #[test]
-fn written_paths() {
-    let write = |settings, pairs: &[u32], numbers: &[u32]| {
-        let parts = [words(pairs), words(numbers), vec![]];
-        model::answer(&Request { op: 14, settings, room_a: 2_000, parts, ..Request::default() }).refusal
+fn strict_paths() {
+    let refusals = |text: &str, rooms: (usize, usize)| {
+        [0, STRICT].map(|settings| {
+            let parts = [hex(text), vec![], vec![]];
+            let read = Request { op: 6, settings, room_a: rooms.0, room_b: rooms.1, parts, ..Request::default() };
+            let refusal = model::answer(&read).refusal;
+            let counted = model::answer(&Request { op: 7, ..read }).refusal;
+            assert!(counted == refusal || (refusal, counted) == (11, 0), "counting has no room to run out of");
+            refusal
+        })
     };
+    let enough = (8, 8);
+    assert_eq!(told(7, STRICT | FOUR_BYTE_AS, hex("02 02 00 00 FD E9 00 00 FD EA")), "0 1 2");
+    assert_eq!(told(7, STRICT, hex("02 00")), "16 0 0");
+    assert_eq!(refusals("", (0, 0)), [0, 0], "an empty path has no empty segment");
+    for kind in ["01", "02", "03", "04"] {
+        assert_eq!(refusals(&format!("{kind} 00"), enough), [0, 16]);
+        assert_eq!(refusals(kind, enough), [2, 2], "a cut segment is not an empty one");
+    }
+    for other in ["00 00", "05 00", "05 00 02 00"] {
+        assert_eq!(refusals(other, enough), [9, 9], "9 before 16");
+    }
+    for later in ["02 01 00 07 02 00", "02 00 02 01 00 07", "02 01 00 07 01 00 02 01 00 08"] {
+        assert_eq!(refusals(later, enough), [0, 16]);
+    }
+    assert_eq!(refusals("02 00 05 00", enough), [9, 16], "segments in their order");
+    assert_eq!(refusals("02 00 02 01 00", enough), [2, 16]);
+    assert_eq!(refusals("02 01 02 00 02 00", enough), [0, 16], "the first number is 02 00");
+    assert_eq!(refusals("02 02 02 00", enough), [2, 2]);
+    assert_eq!(refusals("02 00", (0, 0)), [11, 16], "16 before 11");
+    assert_eq!(refusals(&"02 00 ".repeat(32_768), enough), [1, 1]);
+}
+
+/// The refusal of a path to write.
+fn write(settings: u8, pairs: &[u32], numbers: &[u32], room_a: usize) -> u32 {
+    let parts = [words(pairs), words(numbers), vec![]];
+    model::answer(&Request { op: 14, settings, room_a, parts, ..Request::default() }).refusal
+}
+
+#[test]
+fn written_strict_paths() {
+    let refusals = |pairs: &[u32], numbers: &[u32], room| [0, STRICT].map(|rule| write(rule, pairs, numbers, room));
+    assert_eq!(refusals(&[2, 1], &[7], 4), [0, 0]);
+    assert_eq!(refusals(&[], &[], 0), [0, 0]);
+    assert_eq!(refusals(&[2, 0], &[], 2), [0, 16]);
+    assert_eq!(refusals(&[2, 1, 1, 0], &[7], 6), [0, 16]);
+    assert_eq!(refusals(&[2, 0, 2], &[], 9), [14, 14], "14 before 16");
+    assert_eq!(refusals(&[2, 0], &[7], 9), [14, 14]);
+    assert_eq!(refusals(&[5, 0], &[], 9), [9, 9], "9 before 16");
+    assert_eq!(refusals(&[5, 1, 2, 0], &[7], 9), [9, 9], "segments in their order");
+    assert_eq!(refusals(&[2, 0, 5, 1], &[7], 9), [9, 16]);
+    assert_eq!(refusals(&[2, 0, 2, 256], &[7; 256], 999), [12, 16]);
+    assert_eq!(refusals(&[2, 256, 2, 0], &[7; 256], 999), [12, 12]);
+    assert_eq!(refusals(&[2, 0, 2, 1], &[65_536], 9), [13, 16]);
+    assert_eq!(refusals(&[2, 1, 2, 0], &[65_536], 9), [13, 13]);
+    assert_eq!(refusals(&[2, 0], &[], 1), [11, 16], "16 before 11");
+    assert_eq!(refusals(&[2, 0].repeat(32_768), &[], 70_000), [1, 16], "16 before 1");
+}
+
+#[test]
+fn written_paths() {
+    let write = |settings, pairs: &[u32], numbers: &[u32]| write(settings, pairs, numbers, 2_000);
     assert_eq!(write(0, &[2, 1], &[65_536]), 13);
     assert_eq!(write(FOUR_BYTE_AS, &[2, 1], &[65_536]), 0);
     assert_eq!(write(0, &[2, 255], &[1; 255]), 0);

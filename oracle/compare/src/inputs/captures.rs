@@ -173,7 +173,11 @@ impl Capture {
     }
 
     fn attribute_requests(&self, attribute: &Attribute) -> Option<Vec<Request>> {
-        let path = |settings| [6, 7].map(|op| on_bytes(op, settings, (64, 1_024), attribute.value)).to_vec();
+        let path = |width| {
+            let both =
+                |op| [width, width | STRICT].map(|settings| on_bytes(op, settings, (64, 1_024), attribute.value));
+            [both(6), both(7)].concat()
+        };
         Some(match attribute.kind {
             ATTRIBUTE_AS_PATH => path(self.width_setting()),
             ATTRIBUTE_AS4_PATH => path(FOUR_BYTE_AS),

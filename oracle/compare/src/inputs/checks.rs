@@ -1,7 +1,7 @@
 //! Least lengths at, below and above, each order of two checks on inputs that fail both, and every settings byte.
 //! What needs a large input stands in `limits`.
 
-use super::examples::{hex, on_bytes, request, words};
+use super::examples::{hex, on_bytes, request, words, PATH_SETTINGS};
 use super::pieces;
 use records::{Request, ADD_PATH, FOUR_BYTE_AS, GUESS, IPV6, STRICT};
 
@@ -16,9 +16,11 @@ pub fn all() -> Vec<Request> {
         bodies(),
         sections(),
         segments(),
+        empty_segments(),
         aggregators(),
         written_rows(),
         written_paths(),
+        written_empty_segments(),
         written_updates(),
     ]
     .concat()
@@ -29,11 +31,17 @@ fn settings() -> Vec<Request> {
     let inputs = [
         (2, "00 18 0A 01 08 18 C8 02 00"),
         (6, "02 02 00 00 FD E9 00 00 FD EA"),
+        (6, "02 00"),
+        (7, "02 00"),
         (8, "FD E9 0A 00 00 01"),
         (9, "FF FF FF FF FF FF FF FF FF FF FF FF FF FF FF FE 00 13 04"),
         (10, "00 00 00 00 00 18 0A 01 08 18 C8 02 00"),
     ];
-    inputs.iter().flat_map(|(op, text)| (0..32).map(|settings| on_bytes(*op, settings, (24, 24), &hex(text)))).collect()
+    let read = inputs.map(|(op, text)| on_bytes(op, 0, (24, 24), &hex(text)));
+    let written = [(14, vec![2, 1, 1, 0], vec![7]), (15, vec![7, 0x0A00_0001], vec![])]
+        .map(|(op, first, second)| request(op, 0, (24, 0), [words(&first), words(&second), vec![]], 0));
+    let all = read.into_iter().chain(written);
+    all.flat_map(|asked| (0..32).map(move |settings| Request { settings, ..asked.clone() })).collect()
 }
 
 /// The first bytes of a message of zeros, with this last byte of the marker.
@@ -172,10 +180,31 @@ fn segments() -> Vec<Request> {
     }
     let mut requests = vec![];
     for path in &paths {
-        for settings in [0, FOUR_BYTE_AS] {
+        for settings in PATH_SETTINGS {
             requests.push(on_bytes(7, settings, (0, 0), path));
             let rooms = [(0, 0), (2, 1), (3, 3), (4, 2), (4, 3), (2, 255)];
             requests.extend(rooms.map(|rooms| on_bytes(6, settings, rooms, path)));
+        }
+    }
+    requests
+}
+
+/// An empty segment of every type: alone, and after and before a good one, a bad type, one that is cut and another empty one. 16 after
+/// the segment's own 9, in the segments' order with 2 and 9 of others, and before 11.
+fn empty_segments() -> Vec<Request> {
+    let mut requests = vec![];
+    for settings in PATH_SETTINGS {
+        let width = if settings & FOUR_BYTE_AS != 0 { 4 } else { 2 };
+        let of_one = |kind, given| [vec![kind, 1], vec![0; given]].concat();
+        let others = [vec![], of_one(2, width), of_one(5, width), of_one(2, width - 1), vec![1, 0], vec![2]];
+        for kind in 0..=5 {
+            for before in &others {
+                for after in &others {
+                    let path = [before.as_slice(), &[kind, 0], after].concat();
+                    requests.push(on_bytes(7, settings, (0, 0), &path));
+                    requests.extend([(0, 0), (6, 2)].map(|rooms| on_bytes(6, settings, rooms, &path)));
+                }
+            }
         }
     }
     requests
@@ -228,6 +257,7 @@ fn written_rows() -> Vec<Request> {
 fn written_paths() -> Vec<Request> {
     let (many, wide) = (vec![1; 256], vec![65_536; 256]);
     let mut paths: Vec<(Vec<u32>, &[u32])> = vec![
+        (vec![], &[]),
         (vec![2, 1, 2], &[1]),
         (vec![5, 0, 2], &[]),
         (vec![2, 2], &[1]),
@@ -247,15 +277,38 @@ fn written_paths() -> Vec<Request> {
     ];
     paths.extend((0..=5).map(|kind| (vec![kind, 0], [].as_slice())));
     paths.extend([254, 255, 256].map(|count| (vec![2, count as u32], &many[..count])));
+    paths.iter().flat_map(|(pairs, numbers)| written_path(pairs, numbers)).collect()
+}
+
+/// A path to write at both widths by both rules, with room, with one place too few and with none.
+fn written_path(pairs: &[u32], numbers: &[u32]) -> Vec<Request> {
     let mut requests = vec![];
-    for (pairs, numbers) in &paths {
-        for (settings, width) in [(0, 2), (FOUR_BYTE_AS, 4)] {
-            let exact = pairs.len() + width * numbers.len();
-            for room in [exact, exact.saturating_sub(1), 0] {
-                requests.push(request(14, settings, (room, 0), [words(pairs), words(numbers), vec![]], 0));
+    for settings in PATH_SETTINGS {
+        let width = if settings & FOUR_BYTE_AS != 0 { 4 } else { 2 };
+        let exact = pairs.len() + width * numbers.len();
+        let write = |room| request(14, settings, (room, 0), [words(pairs), words(numbers), vec![]], 0);
+        requests.extend([exact, exact.saturating_sub(1), 0].map(write));
+    }
+    requests
+}
+
+/// An empty segment to write, after and before a good one, a bad type, another empty one, a wide number and too many numbers; and where
+/// the counts do not add up. 16 after 14 and its own 9, in the segments' order with 9, 12 and 13 of others, and before 11.
+fn written_empty_segments() -> Vec<Request> {
+    let (many, wide) = (vec![7; 256], [65_536]);
+    let others: [(&[u32], &[u32]); 6] =
+        [(&[], &[]), (&[2, 1], &[7]), (&[5, 1], &[7]), (&[1, 0], &[]), (&[2, 1], &wide), (&[2, 256], &many)];
+    let mut requests = vec![];
+    for kind in [0, 2, 5] {
+        for (before, first) in others {
+            for (after, second) in others {
+                requests.extend(written_path(&[before, &[kind, 0], after].concat(), &[first, second].concat()));
             }
         }
+        requests.extend([vec![kind, 0, 2], vec![kind, 0, 2, 2]].iter().flat_map(|pairs| written_path(pairs, &[])));
+        requests.extend(written_path(&[kind, 0], &[7]));
     }
+    requests.extend([[2, 0, 2, 255], [2, 255, 2, 0]].iter().flat_map(|pairs| written_path(pairs, &many[1..])));
     requests
 }
 

@@ -1,6 +1,6 @@
 //! The examples of document 01, each under every setting that its op uses.
 
-use records::Request;
+use records::{Request, FOUR_BYTE_AS, STRICT};
 
 /// Bytes from hexadecimal digits, spaces ignored.
 pub fn hex(text: &str) -> Vec<u8> {
@@ -29,6 +29,9 @@ const PATHS: &[&str] = &["", "02 02 00 00 FD E9 00 00 FD EA", "02 00", "05 01", 
 
 const AGGREGATORS: &[&str] = &["FD E9 0A 00 00 01", "00 00 FD E9 0A 00 00 01", "00 FD E9 0A 00 00 01", ""];
 
+/// Both widths of an AS number, by both rules for a path.
+pub const PATH_SETTINGS: [u8; 4] = [0, FOUR_BYTE_AS, STRICT, STRICT | FOUR_BYTE_AS];
+
 /// What comes after an all-FF marker.
 const HEADERS: &[&str] =
     &["00 13 04", "00 12 09", "10 01 01", "00 1B 02 00 00 00 00 18 0A 01 08", "00 1B 02 00 00 00 00 18 0A 01"];
@@ -55,7 +58,7 @@ pub fn all() -> Vec<Request> {
         }
     }
     for text in PATHS {
-        for settings in [0, 8] {
+        for settings in PATH_SETTINGS {
             requests.extend([6, 7].map(|op| on_bytes(op, settings, (4, 4), &hex(text))));
         }
     }
@@ -69,10 +72,12 @@ pub fn all() -> Vec<Request> {
             requests.extend([10, 11, 12].map(|op| on_bytes(op, settings, (12, 12), &message[19..])));
         }
     }
-    requests.push(request(14, 0, (9, 0), [words(&[2, 1]), words(&[65_536]), vec![]], 0));
-    for count in [255, 256] {
-        let numbers = words(&vec![64_512; count]);
-        requests.push(request(14, 8, (1_100, 0), [words(&[2, count as u32]), numbers, vec![]], 0));
+    for settings in PATH_SETTINGS {
+        let write = |numbers: &[u32]| {
+            let parts = [words(&[2, numbers.len() as u32]), words(numbers), vec![]];
+            request(14, settings, (1_100, 0), parts, 0)
+        };
+        requests.extend([write(&[]), write(&[65_536]), write(&[64_512; 255]), write(&[64_512; 256])]);
     }
     requests
 }

@@ -2,7 +2,7 @@
 //! and all combinations of boundary values for headers, rows and written messages.
 
 use super::attributes::{search, walk};
-use super::examples::{on_bytes, request, words};
+use super::examples::{on_bytes, request, words, PATH_SETTINGS};
 use records::{Request, ADD_PATH, FOUR_BYTE_AS, GUESS, IPV6, STRICT};
 
 /// Requests in a fixed order, made one at a time.
@@ -73,7 +73,7 @@ fn lists() -> impl Iterator<Item = Request> {
 fn paths() -> impl Iterator<Item = Request> {
     let long = strings(&[0, 1, 2, 4, 5, 255], 3..=6);
     long.chain(strings(&BYTES, 0..=2))
-        .flat_map(|bytes| [0, FOUR_BYTE_AS].map(|settings| on_bytes(6, settings, (6, 3), &bytes)))
+        .flat_map(|bytes| PATH_SETTINGS.map(|settings| on_bytes(6, settings, (6, 3), &bytes)))
 }
 
 fn aggregators() -> impl Iterator<Item = Request> {
@@ -191,7 +191,7 @@ fn written_paths() -> impl Iterator<Item = Request> {
                     *number = 65_536;
                 }
                 let parts = [words(&[first, second].concat()), words(&numbers), vec![]];
-                [0, FOUR_BYTE_AS].map(|settings| request(14, settings, (2_100, 0), parts.clone(), 0))
+                PATH_SETTINGS.map(|settings| request(14, settings, (2_100, 0), parts.clone(), 0))
             })
         })
     })

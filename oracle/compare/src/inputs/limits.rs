@@ -4,12 +4,13 @@
 use super::attributes::{search, walk};
 use super::examples::{on_bytes, request, words};
 use super::pieces;
-use records::{Request, ADD_PATH, FOUR_BYTE_AS, GUESS, IPV6};
+use records::{Request, ADD_PATH, FOUR_BYTE_AS, GUESS, IPV6, STRICT};
 
 pub fn all() -> Vec<Request> {
     [
         lists(),
         paths(),
+        strict_paths(),
         updates(),
         written_lists(),
         written_paths(),
@@ -64,6 +65,22 @@ fn paths() -> Vec<Request> {
     ]
 }
 
+/// By the strict rule: at width 2, 127 full segments and one of 254 numbers are the longest path; with a number less and an empty segment, 16
+/// at the end. Paths of empty segments alone: 16 before a last byte's 2, and 1 over the limit.
+fn strict_paths() -> Vec<Request> {
+    let full = [vec![2, 255], vec![1; 510]].concat().repeat(127);
+    let longest = [full.as_slice(), &[2, 254], &[1; 508]].concat();
+    let empty_at_the_end = [full.as_slice(), &[2, 253], &[1; 506], &[2, 0]].concat();
+    let empty = [2, 0].repeat(32_768);
+    vec![
+        on_bytes(6, STRICT, (256, 32_639), &longest),
+        on_bytes(7, STRICT, (0, 0), &empty_at_the_end),
+        on_bytes(7, STRICT | FOUR_BYTE_AS, (0, 0), &empty[..65_535]),
+        on_bytes(6, STRICT, (0, 0), &empty),
+        on_bytes(7, STRICT | FOUR_BYTE_AS, (0, 0), &empty),
+    ]
+}
+
 /// Bodies that are nearly all one section; over the limit a section is not all there.
 fn updates() -> Vec<Request> {
     let announced = |size: usize| pieces::body(&[], &[], &vec![0; size - 4]);
@@ -96,7 +113,7 @@ fn written_lists() -> Vec<Request> {
 }
 
 /// 64 full segments of width 4 are 65,408 bytes; 31 numbers more are 65,534, and an empty segment more is too many.
-/// At width 2, 128 full segments are one too many.
+/// At width 2, 128 full segments are one too many. By the strict rule 16 comes first.
 fn written_paths() -> Vec<Request> {
     let write = |settings, room, (segments, last): (usize, &[u32]), numbers: &[u32]| {
         let pairs = [[2, 255].repeat(segments), last.to_vec()].concat();
@@ -112,6 +129,9 @@ fn written_paths() -> Vec<Request> {
         wide(0, &[2, 31, 5, 0], &numbers),
         wide(0, &[2, 256], &vec![70_000; 64 * 255 + 256]),
         write(0, 0, (128, &[]), &narrow),
+        write(STRICT | FOUR_BYTE_AS, 65_534, (64, &[2, 31]), &numbers),
+        write(STRICT | FOUR_BYTE_AS, 65_600, (64, &[2, 31, 1, 0]), &numbers),
+        write(STRICT | FOUR_BYTE_AS, 65_600, (64, &[2, 30, 1, 1]), &numbers),
     ]
 }
 

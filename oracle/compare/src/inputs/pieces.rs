@@ -82,32 +82,49 @@ pub fn damage(rng: &mut Rng, bytes: &mut Vec<u8>) {
     }
 }
 
-/// The bytes of a path: mostly good types, small counts and now and then a full segment.
+/// What the segments of a path are like.
+#[derive(Clone, Copy, PartialEq)]
+pub enum Segments {
+    /// Mostly of good types, a few of them empty.
+    Mixed,
+    /// Of good types, and none empty.
+    NoneEmpty,
+    /// Of types 0 to 5, half of them empty.
+    ManyEmpty,
+}
+
+impl Segments {
+    pub fn any(rng: &mut Rng) -> Segments {
+        rng.pick(&[Segments::Mixed, Segments::Mixed, Segments::NoneEmpty, Segments::ManyEmpty])
+    }
+
+    /// The type and count of a segment: small counts and now and then a full segment.
+    pub fn segment(self, rng: &mut Rng) -> (u32, usize) {
+        let count = match rng.under(60) {
+            0 => 255,
+            1 => 254,
+            2..=6 => 0,
+            _ => rng.under(7),
+        };
+        match self {
+            Segments::Mixed if rng.one_in(30) => (rng.pick(&[0, 5, 6, 255]), count),
+            Segments::Mixed => (1 + rng.under(4) as u32, count),
+            Segments::NoneEmpty => (1 + rng.under(4) as u32, count.max(1)),
+            Segments::ManyEmpty => (rng.under(6) as u32, if rng.one_in(2) { 0 } else { count }),
+        }
+    }
+}
+
+/// The bytes of a path.
 pub fn path(rng: &mut Rng, segments: usize, width: usize) -> Vec<u8> {
+    let like = Segments::any(rng);
     let mut bytes = vec![];
     for _ in 0..segments {
-        bytes.push(segment_type(rng) as u8);
-        let count = segment_count(rng);
-        bytes.push(count as u8);
+        let (kind, count) = like.segment(rng);
+        bytes.extend([kind as u8, count as u8]);
         bytes.extend(rng.bytes(count * width));
     }
     bytes
-}
-
-pub fn segment_type(rng: &mut Rng) -> u32 {
-    match rng.under(30) {
-        0 => rng.pick(&[0, 5, 6, 255]),
-        _ => 1 + rng.under(4) as u32,
-    }
-}
-
-pub fn segment_count(rng: &mut Rng) -> usize {
-    match rng.under(60) {
-        0 => 255,
-        1 => 254,
-        2..=6 => 0,
-        _ => rng.under(7),
-    }
 }
 
 /// An attribute section: well-formed attributes, most of a kind that the crate writes back as it was.

@@ -3,7 +3,7 @@
 use super::attributes::{search, walk};
 use super::examples::{on_bytes, words};
 use super::limits::raw_attribute;
-use super::pieces::{self, damage};
+use super::pieces::{self, damage, Segments};
 use crate::rng::Rng;
 use records::{Request, ADD_PATH, FOUR_BYTE_AS, GUESS, IPV6, LAST_OP};
 
@@ -221,12 +221,17 @@ fn as_number(rng: &mut Rng, settings: u8) -> u32 {
 }
 
 fn write_path(rng: &mut Rng, settings: u8) -> Request {
+    let like = Segments::any(rng);
+    let too_long = if like == Segments::ManyEmpty { 12 } else { 80 };
     let mut pairs = vec![];
     let mut numbers = vec![];
     let mut bytes = 0;
     for _ in 0..pieces::count(rng).min(8) {
-        let count = if rng.one_in(80) { 256 + rng.under(3) } else { pieces::segment_count(rng) };
-        pairs.extend([pieces::segment_type(rng), count as u32]);
+        let (kind, mut count) = like.segment(rng);
+        if rng.one_in(too_long) {
+            count = 255 + rng.under(4);
+        }
+        pairs.extend([kind, count as u32]);
         numbers.extend((0..count).map(|_| as_number(rng, settings)));
         bytes += 2 + count * width(settings);
     }
@@ -412,12 +417,18 @@ fn large_list(rng: &mut Rng, size: usize, with_id: bool, ipv6: bool) -> Vec<u8> 
     bytes
 }
 
+/// Segments of one count up to `size` bytes, then one of what is left or empty ones; the last may be cut.
 fn large_path(rng: &mut Rng, size: usize, width: usize) -> Vec<u8> {
     let mut bytes = vec![];
     let full = if rng.one_in(2) { 255 } else { rng.under(3) };
     while bytes.len() + 2 + full * width <= size {
         bytes.extend([1 + rng.under(4) as u8, full as u8]);
         bytes.extend(rng.bytes(full * width));
+    }
+    let left = (size - bytes.len()).saturating_sub(2) / width;
+    if left > 0 && rng.one_in(2) {
+        bytes.extend([2, left as u8]);
+        bytes.extend(rng.bytes(left * width));
     }
     while bytes.len() + 2 <= size {
         bytes.extend([2, 0]);
