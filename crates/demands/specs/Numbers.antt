@@ -396,7 +396,7 @@ pathsAndAggregators =
     ∷ line (pathInto (2 ∷ 1 ∷ 0 ∷ 7 ∷ []) 1 1) 11
     ∷ line (pathInto (2 ∷ 1 ∷ 0 ∷ 7 ∷ []) 2 0) 11
     ∷ line (pathInto (2 ∷ 1 ∷ 0 ∷ 7 ∷ []) 2 1) 0
-    -- to write: 14 first; then by segment 9, 12, 13; then 11
+    -- to write: 14 first; then by segment 9, 12, 13; then 1; then 11
     ∷ line mostNumbers 255
     ∷ line (pathWritten Bits16 (9 ∷ []) [] 0) 14
     ∷ line (pathWritten Bits16 (9 ∷ 1 ∷ []) [] 0) 14
@@ -405,6 +405,7 @@ pathsAndAggregators =
     ∷ line (pathWritten Bits16 (2 ∷ 256 ∷ []) (replicate 256 65536) 0) 12
     ∷ line (pathWritten Bits16 (2 ∷ 255 ∷ []) (replicate 255 65536) 0) 13
     ∷ line (pathWritten Bits16 (2 ∷ 1 ∷ 9 ∷ 0 ∷ []) (65536 ∷ []) 0) 13
+    ∷ line (pathWritten Bits16 (zeros 65536) [] 0) 9
     ∷ line (pathWritten Bits16 (2 ∷ 1 ∷ []) (65535 ∷ []) 3) 11
     ∷ line (pathWritten Bits16 (2 ∷ 1 ∷ []) (65535 ∷ []) 4) 0
     ∷ line (pathWritten Bits32 (2 ∷ 1 ∷ []) (65536 ∷ []) 5) 11
@@ -566,7 +567,7 @@ emptySegments =
     ∷ line (strictPathInto (2 ∷ 1 ∷ 0 ∷ 7 ∷ []) 1 1) 11
     ∷ line (strictPathInto (2 ∷ 1 ∷ 0 ∷ 7 ∷ []) 2 0) 11
     ∷ line (strictPathInto (2 ∷ 1 ∷ 0 ∷ 7 ∷ []) 2 1) 0
-    -- to write: 14 first; then by segment 9, 16, 12, 13; then 11
+    -- to write: 14 first; then by segment 9, 16, 12, 13; then 1; then 11
     ∷ line (strictWritten (2 ∷ 0 ∷ []) [] 2) 16
     ∷ line (crateWritten (2 ∷ 0 ∷ []) [] 2) 0
     ∷ line (strictWritten (2 ∷ 0 ∷ []) (7 ∷ []) 0) 14
@@ -578,6 +579,7 @@ emptySegments =
     ∷ line (strictWritten (2 ∷ 256 ∷ 2 ∷ 0 ∷ []) (zeros 256) 0) 12
     ∷ line (strictWritten (2 ∷ 0 ∷ 2 ∷ 1 ∷ []) (65536 ∷ []) 0) 16
     ∷ line (strictWritten (2 ∷ 1 ∷ 2 ∷ 0 ∷ []) (65536 ∷ []) 0) 13
+    ∷ line (strictWritten (2 ∷ 0 ∷ zeros 65534) [] 0) 16
     ∷ line (strictWritten (2 ∷ 0 ∷ []) [] 0) 16
     ∷ line (strictWritten (2 ∷ 1 ∷ []) (7 ∷ []) 3) 11
     ∷ line (strictWritten (2 ∷ 1 ∷ []) (7 ∷ []) 4) 0
