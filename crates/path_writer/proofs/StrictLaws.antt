@@ -5,7 +5,7 @@ use mathlib.Core.Path.{_≡_, refl, sym, ap, ap₂, _∙_}
 use mathlib.Core.List.{List, [], _∷_, _++_}
 use mathlib.Core.Logic.{_⊎_, inl, inr, ⊎-elim}
 use native.Mathlib.Omega.{arith}
-use lib.ListN.{length, take}
+use lib.ListN.{length}
 use Rattle.wire.specs.Cutting.{Each, none, one, Some, here, later}
 use Rattle.wire.specs.Refusal.{emptySegment}
 use Rattle.wire.specs.Walk.{Reading, readAll, flat}
@@ -15,7 +15,7 @@ use Rattle.wire.specs.declared.WriteAnswer.the-variants as W
 use Rattle.paths.specs.Segment.{Segment, NoNumbers, knownType, nonEmpty, typeFault, pairOf, asnsOf}
 use Rattle.paths.specs.declared.PathRule.the-variants.{Crate, Strict}
 use Rattle.paths.proofs.FormedLaws.{ruled}
-use Rattle.path_writer.specs.Write.{addsUp, lentOf, lentPath}
+use Rattle.path_writer.specs.Write.{lentOf, lentPath}
 use Rattle.path_writer.specs.Promises.{encodeAnswer}
 use Rattle.path_writer.proofs.WriteLaws.{fault-rule, stop-lent}
 use Rattle.path_writer.proofs.Lent.{WritableSegment, lent-back, lend, lend-one}

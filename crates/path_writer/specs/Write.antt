@@ -1,5 +1,5 @@
 -- Writing a path that is lent as pairs of type and count and as numbers back to back. RFC 4271 section 4.3, RFC 6793 section 4.1.
-use Prim.Native.Nat.{ℕ, zero, suc, _-_, _^_}
+use Prim.Native.Nat.{ℕ, _-_, _^_}
 use mathlib.Core.List.{List, [], _∷_}
 use mathlib.Core.Bool.{Bool, true, false}
 use lib.ListN.{length, getD, take, drop}

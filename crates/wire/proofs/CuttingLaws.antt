@@ -1,7 +1,7 @@
 -- What holds of any step that decides an idea of a well-formed item: bytes are read to their end exactly if they can be cut, there is one
 -- cutting, and what is read are its items. And of values that stand for items: what is written is read again, and the other way.
 -- Assumes nothing.
-use Prim.Native.Nat.{ℕ, _+_, _<_}
+use Prim.Native.Nat.{ℕ, _<_}
 use mathlib.Core.Path.{_≡_, refl, sym, ap, ap₂, _∙_}
 use mathlib.Core.List.{List, [], _∷_, _++_, map, append-assoc, append-nil}
 use mathlib.Core.Logic.{_⊎_, inl, inr, ⊎-elim}
