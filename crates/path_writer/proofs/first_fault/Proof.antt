@@ -49,7 +49,7 @@ returns : tie.Need-returns Inv-loop μ-loop
 returns c =
     let l = c .before .before .before .before .before in
     let a = l .before .before .before .args in
-    judged-stop (ruleOf (a .rule)) (widthOf (a .width)) (a .pairs .now) (a .numbers .now) (l .loop .at) (l .loop .from) (l .loop .inv) (c .before .before .before .before .loop-test .taken) _ (c .before .segment-fault .ensures) (c .if1 .taken)
+    judged-stop (ruleOf (a .rule)) (widthOf (a .width)) (a .pairs .now) (a .numbers .now) (l .loop .at) (l .loop .from) (l .loop .inv) (c .before .before .before .before .loop-test .taken) _ (c .before .segment-fault .ensures) (omega (arith, c .if1 .taken))
 
 cast-from : tie.Need-cast-from Inv-loop μ-loop
 cast-from c = omega (arith, fits (c .before .before .before .before))
