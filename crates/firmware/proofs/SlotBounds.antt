@@ -5,9 +5,9 @@ use mathlib.Core.Path.{_≡_}
 use mathlib.Core.List.{List}
 use mathlib.Core.Bool.{Bool}
 use native.Mathlib.Omega.{arith}
-use lib.ListN.{length, drop, getD}
-use Rattle.wire.specs.Number.{padded, beAt, Bytes}
-use Rattle.wire.proofs.NumberLaws.{be-lt, bytes-drop, bytes-padded, length-padded}
+use lib.ListN.{length, getD}
+use Rattle.wire.specs.Number.{Bytes}
+use Rattle.wire.proofs.NumberLaws.{beAt-lt}
 use Rattle.families.specs.Family.{modeOf}
 use Rattle.families.specs.declared.AddPath.{AddPath}
 use Rattle.families.specs.declared.AddPath.the-variants.{On, Off, Guess}
@@ -20,9 +20,7 @@ use Rattle.firmware.specs.Fields.{slotFields, keptLimit}
 
 -- a count of two bytes
 kept-small : (s : List ℕ) → Bytes s → keptOf s ≤ keptLimit
-unfolding beAt
-kept-small s b =
-    omega (arith, rw (length-padded 2 (drop 2 s)) at (be-lt (padded 2 (drop 2 s)) (bytes-padded 2 (drop 2 s) (bytes-drop 2 s b))))
+kept-small s b = omega (arith, beAt-lt s 2 2 b)
 
 settings-small : (mode : AddPath) → settingsOf mode < fieldSize
 settings-small Off = omega arith

@@ -15,7 +15,7 @@ use lib.Pow.{pow-add, pow-mono, shl-lt, shr-lt}
 use lib.Seq.{drop-drop, take-all, length-take-le}
 use Rattle.wire.proofs.ChoiceLaws.{below-at}
 use Rattle.wire.specs.Number.{be, beAt, padded, Bytes}
-use Rattle.wire.proofs.NumberLaws.{pow-pos256, be-append, be-cut, be-lt, be-zeros, bytes-drop, bytes-padded, length-padded, padded-all, padded-take, padded-of-take, padded-of-more}
+use Rattle.wire.proofs.NumberLaws.{pow-pos256, be-append, be-cut, be-lt, beAt-lt, be-zeros, bytes-drop, bytes-padded, length-padded, padded-all, padded-take, padded-of-take, padded-of-more}
 use Rattle.wire.proofs.Parts.{drop-take}
 use Rattle.families.specs.Family.{idSize}
 use Rattle.families.specs.declared.Form.{Form}
@@ -61,8 +61,7 @@ unfolding beAt
 cut-at w i n t h = cut-bits w (n - i) (drop i t) (bytes-drop i t h) ∙ ap (λ (o : List ℕ). be (padded w o)) (sym (drop-take i n t))
 
 pub word-lt : (o : List ℕ) (i : ℕ) → Bytes o → beAt o i 4 < 4294967296
-unfolding beAt
-word-lt o i h = let n = length-padded 4 (drop i o) in rw n at (be-lt (padded 4 (drop i o)) (bytes-padded 4 (drop i o) (bytes-drop i o h)))
+word-lt o i h = beAt-lt o i 4 h
 
 -- ---- a word under the mask of the first n octets
 

@@ -79,6 +79,10 @@ length-padded zero s = refl
 length-padded (suc n) [] = ap suc (length-padded n [])
 length-padded (suc n) (b ∷ s) = ap suc (length-padded n s)
 
+pub beAt-lt : (s : List ℕ) (at n : ℕ) → Bytes s → beAt s at n < 256 ^ n
+unfolding beAt
+beAt-lt s at n h = rw (length-padded n (drop at s)) at (be-lt (padded n (drop at s)) (bytes-padded n (drop at s) (bytes-drop at s h)))
+
 pub padded-nil : (n : ℕ) → padded n [] ≡ replicate n 0
 padded-nil zero = refl
 padded-nil (suc n) = ap (λ (l : List ℕ). 0 ∷ l) (padded-nil n)
