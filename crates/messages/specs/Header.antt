@@ -1,7 +1,9 @@
 -- The message header. RFC 4271 section 4.1: sixteen octets of marker, two of length, header and all, and one of type.
-use Prim.Native.Nat.{ℕ, _-_, min}
+use Prim.Native.Nat.{ℕ, _-_, _≤_, _<_, min}
+use mathlib.Core.Path.{_≡_}
 use mathlib.Core.List.{List, [], _∷_}
 use mathlib.Core.Bool.{Bool, true, false, not}
+use mathlib.Core.Logic.{_⊎_}
 use lib.ListN.{length, getD, take}
 use lib.Dec.{ltb, eqb}
 use Rattle.wire.specs.Answer.{Answer, given, refusal, valueIn, flag, handed}
@@ -9,6 +11,8 @@ use Rattle.wire.specs.Choice.{pick}
 use Rattle.wire.specs.Extent.{Extent, extent}
 use Rattle.wire.specs.Number.{beAt}
 use Rattle.wire.specs.Refusal.{truncated, messageLength, messageType, shortBody, badMarker}
+use Rattle.messages.specs.declared.Edition.{Edition}
+use Rattle.messages.specs.declared.Edition.the-variants.{Rfc4271, Rfc8654}
 use Rattle.messages.specs.declared.MessageAnswer.{MessageAnswer}
 use Rattle.messages.specs.declared.MessageAnswer.the-variants.{Message, Refused}
 
@@ -53,6 +57,11 @@ messageLimit = 4096
 
 abbrev pub extendedLimit : ℕ
 extendedLimit = 65535
+
+-- what an edition of the strict reading lets a message claim, whatever its type
+abbrev pub limitOf : Edition → ℕ
+limitOf Rfc4271 = messageLimit
+limitOf Rfc8654 = extendedLimit
 
 -- the most that the crate takes of a type: OPEN and KEEPALIVE are never long (RFC 8654 section 4)
 unfoldable pub crateLimit : ℕ → ℕ
@@ -130,9 +139,22 @@ strictWithin limit s =
     (pick (ltb (length s) (claimedOf s)) (Refused truncated)
     (acceptedWhole s))))))
 
--- RFC 4271's
-abbrev pub strictOf : List ℕ → MessageAnswer
-strictOf s = strictWithin messageLimit s
+-- and under an edition
+abbrev pub strictOf : Edition → List ℕ → MessageAnswer
+strictOf edition s = strictWithin (limitOf edition) s
+
+-- ---- long messages (RFC 8654 section 4)
+
+-- the types whose messages may be long
+abbrev pub LongKind : ℕ → Type 0
+LongKind kind = (kind ≡ updateKind) ⊎ ((kind ≡ notificationKind) ⊎ (kind ≡ routeRefreshKind))
+
+-- one of such a type that claims over 4,096, has an all-FF marker and is all there
+pub record LongMessage (s : List ℕ) : Type 0 where
+  pub kind : LongKind (kindOf s)
+  pub over : messageLimit < claimedOf s
+  pub ones : allFF (markerOf s) ≡ true
+  pub there : claimedOf s ≤ length s
 
 -- ---- the body
 

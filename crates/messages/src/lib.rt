@@ -1,4 +1,4 @@
-// Messages by their header (RFC 4271 section 4.1): the crate's reading of messages.rs, the strict one of the RFC, and the writer.
+// Messages by their header (RFC 4271 section 4.1): the crate's reading of messages.rs, the strict one of RFC 4271 or RFC 8654, and the writer.
 ghost use mathlib.Core.Path.{_≡_};
 ghost use Prim.Native.Nat.{_+_, _≤_};
 ghost use mathlib.Core.List.{[], _∷_};
@@ -7,7 +7,7 @@ ghost use lib.Dec.{ltb};
 ghost use Rattle.wire.specs.Extent.{PartOf};
 ghost use Rattle.wire.specs.Number.{be, padded};
 ghost use Rattle.wire.specs.Store.{laid};
-ghost use Rattle.messages.specs.Header.{markerSize, headerSize, extendedLimit, markerOf, allFF, isOutside, isUnknown, leastLength, mostLength, crateLimit, messageOf, strictWithin, strictOf, bodyAt};
+ghost use Rattle.messages.specs.Header.{markerSize, headerSize, extendedLimit, markerOf, allFF, isOutside, isUnknown, leastLength, mostLength, crateLimit, limitOf, messageOf, strictWithin, strictOf, bodyAt};
 ghost use Rattle.messages.specs.Written.{header, writeMessage, messageAfter};
 ghost use Rattle.messages.specs.Private.{Fits};
 use wire::WriteAnswer;
@@ -34,6 +34,12 @@ const LEAST_LENGTHS: u64 = 25370725653779;
 pub const MESSAGE_LIMIT: usize = 4096;
 
 pub const EXTENDED_LIMIT: usize = 65535;
+
+// Which RFC a strict reading goes by: RFC 4271, where no message is over 4,096 bytes, or RFC 8654, where both ends agreed on long ones.
+pub enum Edition {
+    Rfc4271,
+    Rfc8654,
+}
 
 // A message: its type, the length it claims, the bytes taken with the header, and whether its marker is not all FF, it claims
 // more than there is, or less; or a refusal number.
@@ -200,10 +206,10 @@ fn parse_within(s: &[u8], limit: usize) -> MessageAnswer
         return MessageAnswer::Refused(refusal::BAD_MARKER);
     }
     let claimed = wire::u16_at(s, LENGTH_AT) as usize;
+    let kind = s[KIND_AT];
     if outside(HEADER_SIZE, limit, claimed) {
         return MessageAnswer::Refused(refusal::MESSAGE_LENGTH);
     }
-    let kind = s[KIND_AT];
     if unknown(kind) {
         return MessageAnswer::Refused(refusal::MESSAGE_TYPE);
     }
@@ -223,11 +229,21 @@ fn parse_within(s: &[u8], limit: usize) -> MessageAnswer
     }
 }
 
-// The strict reading of RFC 4271.
-pub fn parse_bgp_message_strict(s: &[u8]) -> MessageAnswer
-    ensures { λ r. ⌜ r ≡ strictOf (now (s .entry)) ⌝ }
+// The most bytes that an edition lets a message claim, whatever its type: OPEN and KEEPALIVE have less by their own lengths.
+fn limit_of(edition: Edition) -> usize
+    ensures { λ r. ⌜ r ≡ limitOf edition ⌝ }
 {
-    parse_within(s, MESSAGE_LIMIT)
+    match edition {
+        Edition::Rfc4271 => MESSAGE_LIMIT,
+        Edition::Rfc8654 => EXTENDED_LIMIT,
+    }
+}
+
+// The strict reading of an edition.
+pub fn parse_bgp_message_strict(s: &[u8], edition: Edition) -> MessageAnswer
+    ensures { λ r. ⌜ r ≡ strictOf edition (now (s .entry)) ⌝ }
+{
+    parse_within(s, limit_of(edition))
 }
 
 // The body of a message that was found in s: that part of s, and nothing where it is refused.
@@ -255,11 +271,11 @@ pub fn message_body(s: &[u8]) -> &[u8]
     body_part(s, parse_bgp_message(s))
 }
 
-// The body of a message as the strict reading has it.
-pub fn message_body_strict(s: &[u8]) -> &[u8]
-    ensures { λ r. ⌜ PartOf (s .entry) (bodyAt (strictOf (now (s .entry)))) r ⌝ }
+// The body of a message as the strict reading of an edition has it.
+pub fn message_body_strict(s: &[u8], edition: Edition) -> &[u8]
+    ensures { λ r. ⌜ PartOf (s .entry) (bodyAt (strictOf edition (now (s .entry)))) r ⌝ }
 {
-    body_part(s, parse_within(s, MESSAGE_LIMIT))
+    body_part(s, parse_bgp_message_strict(s, edition))
 }
 
 // A header of an all-FF marker, at the front of the output.

@@ -28,19 +28,19 @@ u16-at-requires c κs = search needs
 cast-claimed : tie.Need-cast-claimed
 cast-claimed c = search needs
 
+shared-slice-read-kind : tie.Need-shared-slice-read-kind
+shared-slice-read-kind c = search needs
+
 outside-requires : tie.Need-outside-requires
 outside-requires c κs = search needs
 
 returns-3 : tie.Need-returns-3
 unfolding strictWithin
 returns-3 c =
-    let u = c .before .before in
+    let u = c .before .before .before in
     let m = u .before .before in
     rw (← m .marked .ensures, ← u .u16-at .ensures)
     (simp (le-ltb _ _ (m .before .if1 .left), u .before .if2 .left, sym (c .before .outside .ensures) ∙ c .if3 .taken))
-
-shared-slice-read-kind : tie.Need-shared-slice-read-kind
-shared-slice-read-kind c = search needs
 
 unknown-requires : tie.Need-unknown-requires
 unknown-requires c κs = search needs
@@ -48,8 +48,8 @@ unknown-requires c κs = search needs
 returns-4 : tie.Need-returns-4
 unfolding strictWithin
 returns-4 c =
-    let o = c .before .before .before in
-    let u = o .before .before in
+    let o = c .before .before in
+    let u = o .before .before .before in
     let m = u .before .before in
     rw (← m .marked .ensures, ← u .u16-at .ensures)
     (simp (le-ltb _ _ (m .before .if1 .left), u .before .if2 .left, sym (o .before .outside .ensures) ∙ o .if3 .left, sym (c .before .unknown .ensures) ∙ c .if4 .taken))
@@ -61,8 +61,8 @@ returns-5 : tie.Need-returns-5
 unfolding strictWithin
 returns-5 c =
     let k = c .before .before in
-    let o = k .before .before .before in
-    let u = o .before .before in
+    let o = k .before .before in
+    let u = o .before .before .before in
     let m = u .before .before in
     rw (← m .marked .ensures, ← u .u16-at .ensures)
     (simp (le-ltb _ _ (m .before .if1 .left), u .before .if2 .left, sym (o .before .outside .ensures) ∙ o .if3 .left, sym (k .before .unknown .ensures) ∙ k .if4 .left, sym (c .before .misfit .ensures) ∙ c .if5 .taken))
@@ -76,8 +76,8 @@ left : (q : tie.Else5) →
 unfolding strictWithin
 left q =
     let k = q .before .before in
-    let o = k .before .before .before in
-    let u = o .before .before in
+    let o = k .before .before in
+    let u = o .before .before .before in
     let m = u .before .before in
     rw (← m .marked .ensures, ← u .u16-at .ensures)
     (simp (le-ltb _ _ (m .before .if1 .left), u .before .if2 .left, sym (o .before .outside .ensures) ∙ o .if3 .left, sym (k .before .unknown .ensures) ∙ k .if4 .left, sym (q .before .misfit .ensures) ∙ q .if5 .left))
@@ -97,9 +97,9 @@ parse-within-spec =
     returns-2
     u16-at-requires
     cast-claimed
+    shared-slice-read-kind
     outside-requires
     returns-3
-    shared-slice-read-kind
     unknown-requires
     returns-4
     misfit-requires
