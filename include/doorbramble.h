@@ -10,8 +10,9 @@
  *   - that no slice without `const` overlaps another slice of the same call.
  * A slice of length 0 may have any pointer, NULL too: it is not followed.
  *
- * Flags. `last`, `ipv6`, `add_path` and `four_bytes` are flags: 0 is no, and any other number is yes. `settings` is no flag but a slot's
- * settings byte, DOORBRAMBLE_ADD_PATH or DOORBRAMBLE_GUESS or 0. One given as `add_path` would mean path ids wherever it is not 0.
+ * Flags. `last`, `ipv6`, `add_path` and `four_bytes` are flags: 0 is no, and any other number is yes. `edition` is DOORBRAMBLE_RFC_4271, which
+ * is 0, or DOORBRAMBLE_RFC_8654, as which any other number is read. `settings` is no flag but a slot's settings byte, DOORBRAMBLE_ADD_PATH or
+ * DOORBRAMBLE_GUESS or 0. One given as `add_path` would mean path ids wherever it is not 0.
  *
  * Answers. Every call answers with one number of 64 bits: three fields of 16 bits, and above them a refusal number, which is 0 where the
  * call did its work. The functions at the end of this file take an answer apart. With a refusal the fields are 0 and every slice is as it
@@ -50,7 +51,7 @@ extern "C" {
 /* of this header: the major number rises when a caller that was compiled before would break, the minor one when calls are added.
  * doorbramble_version() is that of the library. */
 #define DOORBRAMBLE_VERSION_MAJOR 1
-#define DOORBRAMBLE_VERSION_MINOR 2
+#define DOORBRAMBLE_VERSION_MINOR 3
 
 /* ---- refusal numbers */
 
@@ -65,7 +66,7 @@ extern "C" {
 #define DOORBRAMBLE_MESSAGE_TYPE 4
 /* the body is shorter than its measured length: a check of the crate that no input fails */
 #define DOORBRAMBLE_SHORT_BODY 5
-/* the marker is not all FF: the strict reading alone */
+/* the marker is not all FF: the strict readings alone */
 #define DOORBRAMBLE_BAD_MARKER 6
 /* a prefix length is over 32 for IPv4, or over 128 for IPv6 */
 #define DOORBRAMBLE_PREFIX_LENGTH 7
@@ -91,17 +92,23 @@ extern "C" {
 /* ---- message types, settings, sizes */
 
 /* The lengths that a message may have, its header of 19 bytes in it:
- *                  parse_bgp_message   parse_bgp_message_strict   encode_bgp_message
- *   OPEN           19 to 4,096         29 to 4,096                29 to 4,096
- *   UPDATE         19 to 65,535        23 to 4,096                23 to 65,535
- *   NOTIFICATION   19 to 65,535        21 to 4,096                21 to 65,535
- *   KEEPALIVE      19 to 4,096         19                         19
- *   ROUTE-REFRESH  19 to 65,535        23 to 4,096                23 to 65,535 */
+ *                  parse_bgp_message   parse_bgp_message_strict   parse_bgp_message_by_edition   encode_bgp_message
+ *                                      or _by_edition, RFC 4271   RFC 8654
+ *   OPEN           19 to 4,096         29 to 4,096                29 to 4,096                    29 to 4,096
+ *   UPDATE         19 to 65,535        23 to 4,096                23 to 65,535                   23 to 65,535
+ *   NOTIFICATION   19 to 65,535        21 to 4,096                21 to 65,535                   21 to 65,535
+ *   KEEPALIVE      19 to 4,096         19                         19                             19
+ *   ROUTE-REFRESH  19 to 65,535        23 to 4,096                23 to 65,535                   23 to 65,535 */
 #define DOORBRAMBLE_OPEN 1
 #define DOORBRAMBLE_UPDATE 2
 #define DOORBRAMBLE_NOTIFICATION 3
 #define DOORBRAMBLE_KEEPALIVE 4
 #define DOORBRAMBLE_ROUTE_REFRESH 5
+
+/* the editions: RFC 4271, by which no message is over 4,096 bytes; and RFC 8654, for peers that both said they take long messages (BGP Extended
+ * Message Capability), by which UPDATE, NOTIFICATION and ROUTE-REFRESH may have up to 65,535 */
+#define DOORBRAMBLE_RFC_4271 0
+#define DOORBRAMBLE_RFC_8654 1
 
 /* the bits of `settings`, the settings byte of a slot: every item has a path id; or the crate's guess, item by item, which is for lists
  * without DOORBRAMBLE_ADD_PATH alone. Other bits are not read. */
@@ -164,6 +171,11 @@ uint64_t doorbramble_parse_bgp_message(const uint8_t *s, size_t s_len);
  * Answer: as above; bad_marker and cut are never set, and trailing says that bytes of a next message follow. Refusals: 2 under 19 bytes; 6; 3
  * where under 19 or over 4,096 are claimed; 4; 3 where the type may not claim so many; 2 where they are not all there. */
 uint64_t doorbramble_parse_bgp_message_strict(const uint8_t *s, size_t s_len);
+
+/* The same by an edition: with DOORBRAMBLE_RFC_4271 it is the call above. With DOORBRAMBLE_RFC_8654 the first 3 is given where under 19 are
+ * claimed, and the second where the type may not claim so many, an OPEN or a KEEPALIVE over 4,096 among them; so an unknown type is 4, however
+ * many it claims. What RFC 4271 accepts RFC 8654 accepts the same. */
+uint64_t doorbramble_parse_bgp_message_by_edition(const uint8_t *s, size_t s_len, uint8_t edition);
 
 /* A message of a type and a body, with an all-FF marker, at the front of out. Answer: bytes. Refusals: 4, 3, then 11. */
 uint64_t doorbramble_encode_bgp_message(uint8_t kind, const uint8_t *body, size_t body_len, uint8_t *out, size_t out_len);

@@ -10,10 +10,12 @@ use lib.ListN.{length}
 use lib.Dec.{ltb, eqb}
 use Rattle.wire.specs.Answer.{writeMeaning}
 use Rattle.wire.proofs.ChoiceLaws.{pick-any}
-use Rattle.messages.specs.Header.{allFF, markerOf, messageOf, strictOf, messageLimit, isUnknown, kindOf, claimedOf, takenOf, crateLimit, openKind, keepaliveKind, routeRefreshKind, extendedLimit}
+use Rattle.messages.specs.Header.{allFF, markerOf, messageOf, strictOf, limitOf, messageLimit, isUnknown, kindOf, claimedOf, takenOf, crateLimit, openKind, keepaliveKind, routeRefreshKind, extendedLimit}
 use Rattle.messages.proofs.HeaderLaws.{message-cases, strict-cases, inside-high}
 use Rattle.messages.specs.Written.{writeMessage}
 use Rattle.messages.proofs.WrittenLaws.{most-small, written-fit}
+use Rattle.messages.specs.declared.Edition.{Edition}
+use Rattle.messages.specs.declared.Edition.the-variants.{Rfc4271, Rfc8654}
 use Rattle.messages.specs.declared.MessageAnswer.the-variants as M
 use Rattle.wire.specs.declared.WriteAnswer.{WriteAnswer}
 use Rattle.wire.specs.declared.WriteAnswer.the-variants as W
@@ -32,6 +34,10 @@ crate-small kind =
     let Fine : ℕ → Type 0 = λ n. n ≤ extendedLimit in
     pick-any Fine (eqb kind openKind) messageLimit _ (omega arith) (pick-any Fine (eqb kind keepaliveKind) messageLimit extendedLimit (omega arith) (omega arith))
 
+edition-small : (edition : Edition) → limitOf edition ≤ extendedLimit
+edition-small Rfc4271 = omega arith
+edition-small Rfc8654 = omega arith
+
 message-by : (kind claimed taken : ℕ) (marker cut trailing : Bool) → isUnknown kind ≡ false → claimed ≤ extendedLimit → taken ≤ claimed
     → Narrow (messageFields (M.Message kind claimed taken marker cut trailing))
 message-by kind claimed taken marker cut trailing known short within = record {
@@ -47,10 +53,10 @@ module _ (s : List ℕ) where
       (λ h. message-by (kindOf s) (claimedOf s) (takenOf s) (not (allFF (markerOf s))) (ltb (length s) (claimedOf s)) (ltb (claimedOf s) (length s))
       (h .known) (omega (arith, h .short, crate-small (kindOf s))) (min-le-left (claimedOf s) (length s)))
 
-  pub strict-narrow : Narrow (messageFields (strictOf s))
-  strict-narrow =
-      strict-cases s (λ a. Narrow (messageFields a)) refused-narrow messageLimit
-      (λ h. message-by (kindOf s) (claimedOf s) (claimedOf s) false false (ltb (claimedOf s) (length s)) (h .known) (omega (arith, h .within)) (omega arith))
+  pub strict-narrow : (edition : Edition) → Narrow (messageFields (strictOf edition s))
+  strict-narrow edition =
+      strict-cases s (λ a. Narrow (messageFields a)) refused-narrow (limitOf edition)
+      (λ h. message-by (kindOf s) (claimedOf s) (claimedOf s) false false (ltb (claimedOf s) (length s)) (h .known) (omega (arith, h .within, edition-small edition)) (omega arith))
 
 pub write-message-narrow : (kind : ℕ) (body : List ℕ) (places : ℕ) → Narrow (inFields (writeMeaning (writeMessage kind body places)))
 write-message-narrow kind body places = by (writeMessage kind body places) refl

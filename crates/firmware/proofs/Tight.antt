@@ -3,6 +3,7 @@ use mathlib.Core.Path.{_≡_, sym, _∙_}
 use denote.Ref.{now}
 use Rattle.firmware.proofs.message.doorbramble_parse_bgp_message.Reads as parse_bgp_message
 use Rattle.firmware.proofs.message.doorbramble_parse_bgp_message_strict.Reads as parse_bgp_message_strict
+use Rattle.firmware.proofs.message.doorbramble_parse_bgp_message_by_edition.Reads as parse_bgp_message_by_edition
 use Rattle.firmware.proofs.message.doorbramble_encode_bgp_message.Reads as encode_bgp_message
 use Rattle.firmware.proofs.update.doorbramble_withdrawn_part.Reads as withdrawn_part
 use Rattle.firmware.proofs.update.doorbramble_attribute_part.Reads as attribute_part
@@ -31,6 +32,9 @@ tight-parse-bgp-message κs a z z′ e e′ p q = p ∙ sym q
 
 pub tight-parse-bgp-message-strict : (κs : _) (a : _) (z z′ : _) (e e′ : _) → parse_bgp_message_strict.Learnt κs a z e → parse_bgp_message_strict.Learnt κs a z′ e′ → z ≡ z′
 tight-parse-bgp-message-strict κs a z z′ e e′ p q = p ∙ sym q
+
+pub tight-parse-bgp-message-by-edition : (κs : _) (a : _) (z z′ : _) (e e′ : _) → parse_bgp_message_by_edition.Learnt κs a z e → parse_bgp_message_by_edition.Learnt κs a z′ e′ → z ≡ z′
+tight-parse-bgp-message-by-edition κs a z z′ e e′ p q = p ∙ sym q
 
 pub tight-encode-bgp-message : (κs : _) (a : _) (z z′ : _) (e e′ : _) → encode_bgp_message.Learnt κs a z e → encode_bgp_message.Learnt κs a z′ e′ → (z ≡ z′) × (now (e .1 .1 .0) ≡ now (e′ .1 .1 .0))
 tight-encode-bgp-message κs a z z′ e e′ p q = (p .0 ∙ sym (q .0), p .1 ∙ sym (q .1))

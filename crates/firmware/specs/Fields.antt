@@ -106,7 +106,7 @@ abbrev pub versionMajor : ℕ
 versionMajor = 1
 
 abbrev pub versionMinor : ℕ
-versionMinor = 2
+versionMinor = 3
 
 abbrev pub versionFields : Fields
 versionFields = fields versionMajor versionMinor 0 0

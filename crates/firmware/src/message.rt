@@ -3,11 +3,15 @@ ghost use mathlib.Core.Path.{_≡_};
 ghost use lib.ListN.{length};
 ghost use Rattle.wire.specs.Answer.{writeMeaning};
 ghost use Rattle.messages.specs.Header.{messageOf, strictOf};
+ghost use Rattle.messages.specs.declared.Edition.the-variants.{Rfc4271};
 ghost use Rattle.messages.specs.Written as Messages;
+ghost use Rattle.words.specs.Settings.{editionOf};
 ghost use Rattle.words.specs.Word.{inFields, wordOf, Narrow};
 ghost use Rattle.firmware.specs.Fields.{messageFields};
 use super::write_word;
+use messages::Edition;
 use messages::MessageAnswer;
+use words::edition_of;
 use words::word;
 
 // A message as a word: what it claims, what is taken of it, its type and flags.
@@ -41,12 +45,27 @@ pub extern "C" fn doorbramble_parse_bgp_message(s: &[u8]) -> u64
     message_word(messages::parse_bgp_message(s))
 }
 
-// The header of a message, as RFC 4271 has it.
+// The header of a message, strictly.
+fn strict_word(s: &[u8], edition: Edition) -> u64
+    ensures { λ r. ⌜ r ≡ wordOf (messageFields (strictOf edition (now (s .entry)))) ⌝ }
+{
+    message_word(messages::parse_bgp_message_strict(s, edition))
+}
+
+// As RFC 4271 has it.
 #[no_mangle]
 pub extern "C" fn doorbramble_parse_bgp_message_strict(s: &[u8]) -> u64
-    ensures { λ r. ⌜ r ≡ wordOf (messageFields (strictOf (now (s .entry)))) ⌝ }
+    ensures { λ r. ⌜ r ≡ wordOf (messageFields (strictOf Rfc4271 (now (s .entry)))) ⌝ }
 {
-    message_word(messages::parse_bgp_message_strict(s))
+    strict_word(s, Edition::Rfc4271)
+}
+
+// As the edition that C names has it.
+#[no_mangle]
+pub extern "C" fn doorbramble_parse_bgp_message_by_edition(s: &[u8], edition: u8) -> u64
+    ensures { λ r. ⌜ r ≡ wordOf (messageFields (strictOf (editionOf edition) (now (s .entry)))) ⌝ }
+{
+    strict_word(s, edition_of(edition))
 }
 
 // A type and a body as a message.

@@ -3,6 +3,7 @@ use mathlib.Core.Path.{_≡_, sym, _∙_}
 use Rattle.words.proofs.family_of.Reads as family_of
 use Rattle.words.proofs.form_of.Reads as form_of
 use Rattle.words.proofs.asn_length_of.Reads as asn_length_of
+use Rattle.words.proofs.edition_of.Reads as edition_of
 use Rattle.words.proofs.settings_of.Reads as settings_of
 use Rattle.words.proofs.word.Reads as word
 
@@ -14,6 +15,9 @@ tight-form-of κs a z z′ e e′ p q = p ∙ sym q
 
 pub tight-asn-length-of : (κs : _) (a : _) (z z′ : _) (e e′ : _) → asn_length_of.Learnt κs a z e → asn_length_of.Learnt κs a z′ e′ → z ≡ z′
 tight-asn-length-of κs a z z′ e e′ p q = p ∙ sym q
+
+pub tight-edition-of : (κs : _) (a : _) (z z′ : _) (e e′ : _) → edition_of.Learnt κs a z e → edition_of.Learnt κs a z′ e′ → z ≡ z′
+tight-edition-of κs a z z′ e e′ p q = p ∙ sym q
 
 pub tight-settings-of : (κs : _) (a : _) (z z′ : _) (e e′ : _) → settings_of.Learnt κs a z e → settings_of.Learnt κs a z′ e′ → z ≡ z′
 tight-settings-of κs a z z′ e e′ p q = p ∙ sym q

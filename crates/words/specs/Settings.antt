@@ -1,4 +1,5 @@
--- The flags of a C call that stand for a choice: 0 is no, and any other number is yes. A settings byte is that of a slot: `modeOf` of families.
+-- The numbers of a C call that stand for a choice: 0 is no, or the first of two, and any other number is yes, or the second. A settings byte is that of
+-- a slot: `modeOf` of families.
 use Prim.Native.Nat.{ℕ}
 use mathlib.Core.Bool.{Bool, not}
 use lib.Dec.{eqb}
@@ -11,6 +12,8 @@ use Rattle.families.specs.declared.AddPath.{AddPath}
 use Rattle.families.specs.declared.AddPath.the-variants.{On, Off, Guess}
 use Rattle.asns.specs.declared.AsnLength.{AsnLength}
 use Rattle.asns.specs.declared.AsnLength.the-variants.{Bits16, Bits32}
+use Rattle.messages.specs.declared.Edition.{Edition}
+use Rattle.messages.specs.declared.Edition.the-variants.{Rfc4271, Rfc8654}
 
 abbrev pub isYes : ℕ → Bool
 isYes flag = not (eqb flag 0)
@@ -23,6 +26,14 @@ formOf addPath = pick (eqb addPath 0) Plain Tagged
 
 unfoldable pub asnLengthOf : ℕ → AsnLength
 asnLengthOf fourBytes = pick (eqb fourBytes 0) Bits16 Bits32
+
+unfoldable pub editionOf : ℕ → Edition
+editionOf edition = pick (eqb edition 0) Rfc4271 Rfc8654
+
+-- the header's number of an edition, which is read as that edition
+abbrev pub editionNumber : Edition → ℕ
+editionNumber Rfc4271 = 0
+editionNumber Rfc8654 = 1
 
 -- the settings byte of a setting, which is read as that setting
 abbrev pub settingsOf : AddPath → ℕ

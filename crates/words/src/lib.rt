@@ -1,11 +1,12 @@
 // What the calls for C share: an answer as one word of 64 bits, and the numbers of C that stand for a choice.
 ghost use mathlib.Core.Path.{_≡_};
-ghost use Rattle.words.specs.Settings.{familyOf, formOf, asnLengthOf, settingsOf};
+ghost use Rattle.words.specs.Settings.{familyOf, formOf, asnLengthOf, editionOf, settingsOf};
 ghost use Rattle.words.specs.Word.{fields, wordOf};
 use asns::AsnLength;
 use families::AddPath;
 use families::Afi;
 use families::Form;
+use messages::Edition;
 
 // The family of routes: 0 is IPv4.
 pub fn family_of(ipv6: u8) -> Afi
@@ -33,6 +34,17 @@ pub fn asn_length_of(four_bytes: u8) -> AsnLength
         AsnLength::Bits16
     } else {
         AsnLength::Bits32
+    }
+}
+
+// The edition of a strict reading: 0 is RFC 4271.
+pub fn edition_of(edition: u8) -> Edition
+    ensures { λ r. ⌜ r ≡ editionOf edition ⌝ }
+{
+    if edition == 0 {
+        Edition::Rfc4271
+    } else {
+        Edition::Rfc8654
     }
 }
 
