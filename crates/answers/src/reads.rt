@@ -24,9 +24,10 @@ fn counted(op: u8, settings: u8, s: &[u8]) -> Numbers {
 // Op 9.
 fn message(settings: u8, s: &[u8]) -> Numbers {
     if request::is_strict(settings) {
+        let edition = request::edition(settings);
         return numbers::of_message(
-            messages::parse_bgp_message_strict(s),
-            messages::message_body_strict(s),
+            messages::parse_bgp_message_strict(s, edition),
+            messages::message_body_strict(s, edition),
         );
     }
     numbers::of_message(messages::parse_bgp_message(s), messages::message_body(s))

@@ -2,6 +2,7 @@
 use asns::AsnLength;
 use families::Afi;
 use families::Form;
+use messages::Edition;
 use paths::PathRule;
 
 // The bytes of a head.
@@ -12,6 +13,9 @@ pub const ROOM_LIMIT: usize = 400000;
 
 // The last op; the first is 1.
 const LAST_OP: u8 = 19;
+
+// The largest settings byte.
+const SETTINGS_LIMIT: u8 = 63;
 
 // What stands before the three parts: op, settings, the places lent in two stores, the lengths of the parts, an argument.
 pub struct Head {
@@ -98,7 +102,7 @@ fn is_given(h: Head) -> bool {
     if LAST_OP < h.op {
         return false;
     }
-    if 31 < h.settings {
+    if SETTINGS_LIMIT < h.settings {
         return false;
     }
     if ROOM_LIMIT < largest(h) {
@@ -149,7 +153,7 @@ pub fn last_part(s: &[u8], h: Head) -> &[u8] {
     part_two(s, h)
 }
 
-// Settings, a sum: 1 Add-Path and 2 guess, which `families::mode_of` reads; 4 IPv6, 8 AS numbers of four bytes, 16 strict.
+// Settings, a sum: 1 Add-Path and 2 guess, which `families::mode_of` reads; 4 IPv6, 8 AS numbers of four bytes, 16 strict, 32 RFC 8654.
 pub fn form(settings: u8) -> Form {
     if settings % 2 == 1 {
         return Form::Tagged;
@@ -180,4 +184,11 @@ pub fn rule(settings: u8) -> PathRule {
         return PathRule::Strict;
     }
     PathRule::Crate
+}
+
+pub fn edition(settings: u8) -> Edition {
+    if settings / 32 % 2 == 1 {
+        return Edition::Rfc8654;
+    }
+    Edition::Rfc4271
 }

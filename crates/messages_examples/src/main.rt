@@ -1,6 +1,8 @@
-// Runs the header and UPDATE examples of document 01 through the calls of messages, updates and update_writer, and prints what they answer.
+// Runs the header and UPDATE examples of document 01, and headers that claim a long message, through the calls of messages, updates and
+// update_writer, and prints what they answer.
 use families::AddPath;
 use families::Form;
+use messages::Edition;
 use messages::MessageAnswer;
 use routes::ListAnswer;
 use updates::PartsAnswer;
@@ -62,6 +64,12 @@ fn show_answer(a: MessageAnswer) {
     }
 }
 
+fn show_strict(s: &[u8], edition: Edition) {
+    show_answer(messages::parse_bgp_message_strict(s, edition));
+    text(b"    body");
+    bytes(messages::message_body_strict(s, edition));
+}
+
 fn show_message(name: &[u8], s: &[u8]) {
     text(name);
     text(b"\n  crate ");
@@ -69,9 +77,9 @@ fn show_message(name: &[u8], s: &[u8]) {
     text(b"    body");
     bytes(messages::message_body(s));
     text(b"  strict");
-    show_answer(messages::parse_bgp_message_strict(s));
-    text(b"    body");
-    bytes(messages::message_body_strict(s));
+    show_strict(s, Edition::Rfc4271);
+    text(b"  long  ");
+    show_strict(s, Edition::Rfc8654);
 }
 
 fn show_list(a: ListAnswer) {
@@ -148,7 +156,7 @@ fn show_written(name: &[u8], kind: u8, body: &[u8]) {
             text(b"\n  wrote   ");
             number(n);
             text(b"\n  strict");
-            show_answer(messages::parse_bgp_message_strict(&out));
+            show_answer(messages::parse_bgp_message_strict(&out, Edition::Rfc4271));
         }
         wire::WriteAnswer::Refused(n) => refused(n),
     }
@@ -195,6 +203,14 @@ fn headers() {
     show_message(
         b"OPEN claiming 4096",
         b"\xFF\xFF\xFF\xFF\xFF\xFF\xFF\xFF\xFF\xFF\xFF\xFF\xFF\xFF\xFF\xFF\x10\x00\x01",
+    );
+    show_message(
+        b"UPDATE claiming 4097",
+        b"\xFF\xFF\xFF\xFF\xFF\xFF\xFF\xFF\xFF\xFF\xFF\xFF\xFF\xFF\xFF\xFF\x10\x01\x02",
+    );
+    show_message(
+        b"type 9 claiming 4097",
+        b"\xFF\xFF\xFF\xFF\xFF\xFF\xFF\xFF\xFF\xFF\xFF\xFF\xFF\xFF\xFF\xFF\x10\x01\x09",
     );
 }
 
