@@ -7,7 +7,7 @@ use mathlib.Core.Bool.{Bool, true, false}
 use denote.Ref.{now}
 use lib.ListN.{length}
 use Rattle.wire.specs.Extent.{extent, nothing, PartOf}
-use Rattle.messages.specs.Header.{headerSize, messageLimit, bodyAt}
+use Rattle.messages.specs.Header.{headerSize, limitOf, bodyAt}
 use Rattle.messages.specs.declared.MessageAnswer.{MessageAnswer}
 use Rattle.messages.specs.declared.MessageAnswer.the-variants.{Message, Refused}
 use Rattle.messages.proofs.Framing.{Lengths, cut-marked, Unmarked, strict-unmarked}
@@ -53,7 +53,7 @@ module _ (κs : _) (given : _) (answer : _) (exit : _) (call : parse_bgp_message
     pub no-body : (n : ℕ) → answer ≡ Refused n → PartOf (given .0) nothing part
     no-body n refused = subst (λ (a : MessageAnswer). PartOf (given .0) (bodyAt a) part) (sym call ∙ refused) body
 
--- ---- the strict reading
+-- ---- the strict reading, by whichever edition
 
 module _ (κs : _) (given : _) (answer : _) (exit : _) (call : parse_bgp_message_strict.Learnt κs given answer exit) where
   abbrev bytesStrict : List ℕ
@@ -61,7 +61,7 @@ module _ (κs : _) (given : _) (answer : _) (exit : _) (call : parse_bgp_message
 
   module _ (kind claimed taken : ℕ) (marker cut trailing : Bool) (accepted : answer ≡ Message kind claimed taken marker cut trailing) where
     unmarked : Unmarked bytesStrict kind claimed taken marker cut trailing
-    unmarked = strict-unmarked bytesStrict kind claimed taken marker cut trailing messageLimit (sym call ∙ accepted)
+    unmarked = strict-unmarked bytesStrict kind claimed taken marker cut trailing (limitOf (given .1 .0)) (sym call ∙ accepted)
 
     -- what is accepted was given whole
     pub strict-is-whole : claimed ≤ length bytesStrict

@@ -1,5 +1,6 @@
 pub mod Refusals
 pub mod Cut
+pub mod Editions
 pub mod Routes
 pub mod Paths
 pub mod Attributes

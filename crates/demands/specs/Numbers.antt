@@ -1,9 +1,9 @@
 -- Every number and every order of two checks that documents 01 and 02 fix, and the lister's case, as one table over the definitions with one claim: definition and code
 -- cannot be changed to the same wrong number. A line holds what the definitions say of an input to what the documents say.
 -- Assumes nothing.
-use Prim.Native.Nat.{ℕ, _-_}
+use Prim.Native.Nat.{ℕ, _+_, _-_}
 use mathlib.Core.Path.{_≡_, refl}
-use mathlib.Core.List.{List, [], _∷_, _++_}
+use mathlib.Core.List.{List, [], _∷_, _++_, map}
 use mathlib.Core.Bool.{Bool, true, false, _&&_}
 use lib.ListN.{length, replicate}
 use lib.Dec.{eqb}
@@ -36,7 +36,7 @@ use Rattle.paths.specs.declared.PathRule.the-variants.{Crate, Strict}
 use Rattle.paths.specs.Promises.{pathMeaning}
 use Rattle.path_writer.specs.Write.{mostNumbers, segmentBytes, addsUp, allFit, writeFault, lentOf, lentPath, pathBytes}
 use Rattle.path_writer.specs.Promises as pathWriter
-use Rattle.messages.specs.Header.{markerSize, headerSize, messageLimit, extendedLimit, leastLength, mostLength, crateLimit, isOutside, isUnknown, allFF, messageMeaning, messageOf, strictWithin, strictOf}
+use Rattle.messages.specs.Header.{markerSize, headerSize, messageLimit, extendedLimit, leastLength, mostLength, crateLimit, isOutside, isUnknown, allFF, messageMeaning, messageOf, limitOf, strictWithin, strictOf}
 use Rattle.messages.specs.Written as messageWriter
 use Rattle.attributes.specs.Attribute.{isExtended, lengthSize, headSize, attributeFront, attributeOf}
 use Rattle.attributes.specs.Attribute as attribute
@@ -52,10 +52,12 @@ use Rattle.slot_table.specs.Table.{linesOf, endingText}
 use Rattle.slot_table.specs.declared.Ending.the-variants as Ending
 use Rattle.words.specs.Word.{fields, inFields, wordOf}
 use Rattle.firmware.specs.Fields.{messageFields, updateFields, slotFields, attributeFields, versionFields, aggregatorSize, rowWords, pairWords, keptLimit, bodyRows}
+use Rattle.messages.specs.declared.Edition.{Edition}
+use Rattle.messages.specs.declared.Edition.the-variants.{Rfc4271, Rfc8654}
 use Rattle.messages.specs.declared.MessageAnswer.the-variants.{Message}
 use Rattle.routes.specs.declared.ListAnswer.the-variants as L
 use Rattle.updates.specs.declared.UpdateAnswer.the-variants.{Update}
-use Rattle.words.specs.Settings.{familyOf, formOf, asnLengthOf, settingsOf}
+use Rattle.words.specs.Settings.{familyOf, formOf, asnLengthOf, editionOf, editionNumber, settingsOf}
 
 -- ---- a table of numbers
 
@@ -106,15 +108,19 @@ refusalNumbers =
 abbrev pub header : ℕ → ℕ → ℕ → ℕ → List ℕ
 header first kind claimed size = first ∷ (replicate 15 255 ++ (toBe 2 claimed ++ (kind ∷ zeros (size - 19))))
 
--- the refusal number of the crate's reading and of the strict one, of a header of an all-FF marker; and of the strict one where it is not
+-- the refusal number of the crate's reading of a header of an all-FF marker; of the strict one by an edition, whatever its marker starts with; and by
+-- RFC 4271 of one of an all-FF marker and of another
 abbrev pub byCrate : ℕ → ℕ → ℕ → ℕ
 byCrate kind claimed size = numberIn (messageMeaning (messageOf (header 255 kind claimed size)))
 
+abbrev pub byEdition : Edition → ℕ → ℕ → ℕ → ℕ → ℕ
+byEdition edition first kind claimed size = numberIn (messageMeaning (strictOf edition (header first kind claimed size)))
+
 abbrev pub byStrict : ℕ → ℕ → ℕ → ℕ
-byStrict kind claimed size = numberIn (messageMeaning (strictOf (header 255 kind claimed size)))
+byStrict = byEdition Rfc4271 255
 
 abbrev pub unmarked : ℕ → ℕ → ℕ → ℕ
-unmarked kind claimed size = numberIn (messageMeaning (strictOf (header 254 kind claimed size)))
+unmarked = byEdition Rfc4271 254
 
 -- of writing a type and a body of so many bytes
 abbrev pub written : ℕ → ℕ → ℕ → ℕ
@@ -129,7 +135,7 @@ headers =
     ∷ line extendedLimit 65535
     -- under 19 bytes given, 2, before the marker, the length and the type
     ∷ line (numberIn (messageMeaning (messageOf (zeros 18)))) 2
-    ∷ line (numberIn (messageMeaning (strictOf (zeros 18)))) 2
+    ∷ line (numberIn (messageMeaning (strictOf Rfc4271 (zeros 18)))) 2
     -- the crate: claimed under 19, 3, before the type; the type, 4, before its limit; OPEN and KEEPALIVE claiming over 4,096, 3
     ∷ line (byCrate 9 18 19) 3
     ∷ line (byCrate 2 18 19) 3
@@ -145,7 +151,7 @@ headers =
     ∷ line (byCrate 2 65535 19) 0
     ∷ line (byCrate 3 65535 19) 0
     ∷ line (byCrate 5 65535 19) 0
-    -- the strict reading: the marker, 6, before the length; 3 before the type; 4 before the type's own length; that before what is there, 2
+    -- the strict reading of RFC 4271: the marker, 6, before the length; 3 before the type; 4 before the type's own length; that before what is there, 2
     ∷ line (unmarked 9 18 19) 6
     ∷ line (unmarked 1 19 19) 6
     ∷ line (byStrict 9 18 19) 3
@@ -586,6 +592,65 @@ emptySegments =
     ∷ line (strictWritten [] [] 0) 0
     ∷ []
 
+-- ---- document 02, K3: "Long messages where both ends agreed"
+
+abbrev pub byLong : ℕ → ℕ → ℕ → ℕ
+byLong = byEdition Rfc8654 255
+
+-- the refusal numbers of three messages of a type, which claim a length and have a byte less, all of it and a byte more: a byte to each number
+abbrev pub around : ℕ → ℕ → ℕ
+around kind claimed = be (map (byLong kind claimed) ((claimed - 1) ∷ claimed ∷ (claimed + 1) ∷ []))
+
+abbrev pub longMessages : List Line
+longMessages =
+    line (limitOf Rfc4271) 4096
+    ∷ line (limitOf Rfc8654) 65535
+    -- 4,096, 4,097 and 65,535 bytes: OPEN and KEEPALIVE are not long, the others are by RFC 8654; a byte short is 2
+    ∷ line (around 1 4096) 0x020000
+    ∷ line (around 1 4097) 0x030303
+    ∷ line (around 1 65535) 0x030303
+    ∷ line (around 2 4096) 0x020000
+    ∷ line (around 2 4097) 0x020000
+    ∷ line (around 2 65535) 0x020000
+    ∷ line (around 3 4096) 0x020000
+    ∷ line (around 3 4097) 0x020000
+    ∷ line (around 3 65535) 0x020000
+    ∷ line (around 4 4096) 0x030303
+    ∷ line (around 4 4097) 0x030303
+    ∷ line (around 4 65535) 0x030303
+    ∷ line (around 5 4096) 0x020000
+    ∷ line (around 5 4097) 0x020000
+    ∷ line (around 5 65535) 0x020000
+    -- the order by RFC 8654: 2; 6; 3 for a length under 19; 4, however long; 3 for the type's own length; 2
+    ∷ line (numberIn (messageMeaning (strictOf Rfc8654 (zeros 18)))) 2
+    ∷ line (byEdition Rfc8654 254 9 18 19) 6
+    ∷ line (byEdition Rfc8654 254 1 4097 19) 6
+    ∷ line (byLong 9 18 19) 3
+    ∷ line (byLong 0 4096 19) 4
+    ∷ line (byLong 0 4097 19) 4
+    ∷ line (byLong 6 4097 19) 4
+    ∷ line (byLong 255 65535 19) 4
+    ∷ line (byLong 1 4097 19) 3
+    ∷ line (byLong 4 4097 19) 3
+    ∷ line (byLong 2 4097 19) 2
+    ∷ line (byLong 3 4097 19) 2
+    ∷ line (byLong 5 4097 19) 2
+    -- the least lengths are those of RFC 4271, and a KEEPALIVE is a header
+    ∷ line (byLong 1 28 28) 3
+    ∷ line (byLong 1 29 29) 0
+    ∷ line (byLong 2 22 22) 3
+    ∷ line (byLong 2 23 23) 0
+    ∷ line (byLong 3 20 20) 3
+    ∷ line (byLong 3 21 21) 0
+    ∷ line (byLong 4 19 19) 0
+    ∷ line (byLong 4 20 20) 3
+    ∷ line (byLong 5 22 22) 3
+    ∷ line (byLong 5 23 23) 0
+    -- all that it claims is taken, and a flag says that a byte follows: C's word of a NOTIFICATION of 65,535 bytes
+    ∷ line (wordOf (messageFields (strictOf Rfc8654 (header 255 3 65535 65535)))) 0x3FFFFFFFF
+    ∷ line (wordOf (messageFields (strictOf Rfc8654 (header 255 3 65535 65536)))) 0x403FFFFFFFF
+    ∷ []
+
 -- ---- the limit of a list and of a path to write: 1 over 65,535 bytes, before 11
 
 abbrev pub limits : List Line
@@ -621,6 +686,12 @@ settings =
     ∷ line (widthOf (asnLengthOf 0)) 2
     ∷ line (widthOf (asnLengthOf 1)) 4
     ∷ line (widthOf (asnLengthOf 255)) 4
+    -- 0 is RFC 4271, any other number RFC 8654; the header's numbers of both
+    ∷ line (limitOf (editionOf 0)) 4096
+    ∷ line (limitOf (editionOf 1)) 65535
+    ∷ line (limitOf (editionOf 255)) 65535
+    ∷ line (editionNumber Rfc4271) 0
+    ∷ line (editionNumber Rfc8654) 1
     -- a record: C5 3A, five bytes, settings up to 3
     ∷ line markFirst 0xC5
     ∷ line markSecond 0x3A
@@ -655,7 +726,7 @@ settings =
     ∷ line keptLimit 65535
     ∷ line bodyRows 65512
     -- the version of the calls for C
-    ∷ line (wordOf versionFields) 0x20001
+    ∷ line (wordOf versionFields) 0x30001
     -- an attribute: where its value starts, its length, its type and its flags
     ∷ line (wordOf (attributeFields (A.Attribute 0x50 2 8 3 11))) 0x500200030008
     ∷ line (wordOf (attributeFields A.Absent)) 0
@@ -704,11 +775,11 @@ lister =
     ∷ []
 
 abbrev pub table : List Line
-table = refusalNumbers ++ (headers ++ (bodies ++ (lists ++ (pathsAndAggregators ++ (attributes ++ (emptySegments ++ (limits ++ (settings ++ lister))))))))
+table = refusalNumbers ++ (headers ++ (bodies ++ (lists ++ (pathsAndAggregators ++ (attributes ++ (emptySegments ++ (longMessages ++ (limits ++ (settings ++ lister)))))))))
 
 -- every line of the table holds
 pub numbers : agree table ≡ true
-unfolding agree zeros beAt readAll walk flat modeOf wordAt rowOf itemRow prefixOf inForm guessForm stepOf listOf sectionOf routes.countAnswer routes.readAnswer fourWords rowBytes allZero writable frontRow writeStep writing bytesOf measured routeWriter.writeAnswer limited span aggregatorOf aggregatorBytes aggregatorWritten typeFault numbersOf segmentAt segmentOf pathOf paths.countAnswer paths.readAnswer segmentBytes addsUp allFit writeFault lentOf lentPath pathBytes pathWriter.lentBytes pathWriter.encodeAnswer leastLength mostLength crateLimit isOutside isUnknown allFF messageOf strictWithin messageWriter.writeMessage isExtended lengthSize headSize attributeFront attributeOf attribute.sectionOf standing attributeAt firstOf countOf verdictOf judged findAnswer partsOf withdrawnOf announcedOf countUpdate bodySized bodyAnswer wordOf familyOf formOf asnLengthOf tally found slotOf digits fieldsText sectionText entryOf entryText lineOf stopText headingText linesOf endingText
+unfolding agree zeros beAt readAll walk flat modeOf wordAt rowOf itemRow prefixOf inForm guessForm stepOf listOf sectionOf routes.countAnswer routes.readAnswer fourWords rowBytes allZero writable frontRow writeStep writing bytesOf measured routeWriter.writeAnswer limited span aggregatorOf aggregatorBytes aggregatorWritten typeFault numbersOf segmentAt segmentOf pathOf paths.countAnswer paths.readAnswer segmentBytes addsUp allFit writeFault lentOf lentPath pathBytes pathWriter.lentBytes pathWriter.encodeAnswer leastLength mostLength crateLimit isOutside isUnknown allFF messageOf strictWithin messageWriter.writeMessage isExtended lengthSize headSize attributeFront attributeOf attribute.sectionOf standing attributeAt firstOf countOf verdictOf judged findAnswer partsOf withdrawnOf announcedOf countUpdate bodySized bodyAnswer wordOf familyOf formOf asnLengthOf editionOf tally found slotOf digits fieldsText sectionText entryOf entryText lineOf stopText headingText linesOf endingText
 numbers = refl
 
 -- the limit of a list and of a path to write is of their bytes, whatever they are

@@ -15,8 +15,9 @@ use Rattle.wire.specs.Store.{laid}
 use Rattle.wire.specs.declared.WriteAnswer.the-variants.{Bytes}
 use Rattle.wire.proofs.AnswerLaws.{limited-fits}
 use Rattle.wire.proofs.AnswerLaws.{written-front}
-use Rattle.messages.specs.Header.{openKind, routeRefreshKind, headerSize, messageLimit, leastLength, mostLength, messageOf, strictOf, bodyAt}
+use Rattle.messages.specs.Header.{openKind, routeRefreshKind, headerSize, limitOf, leastLength, mostLength, messageOf, strictOf, bodyAt}
 use Rattle.messages.specs.Written.{messageBytes, writeMessage}
+use Rattle.messages.specs.declared.Edition.{Edition}
 use Rattle.messages.specs.declared.MessageAnswer.{MessageAnswer}
 use Rattle.messages.specs.declared.MessageAnswer.the-variants.{Message}
 use Rattle.messages.proofs.WrittenLaws.{written-fit, fit-written, message-front}
@@ -115,19 +116,19 @@ module _ (κs : _) (given : _) (answer : _) (exit : _) (call : encode_bgp_messag
         ∙ ap (λ (s : List ℕ). within (bodyAt (messageOf s)) s) (bytes (now (given′ .0)) same)
         ∙ written-accepted kind body rest (length out) n written .content
 
-    -- the strict one, of up to 4,096 bytes
-    module _ (short : n ≤ messageLimit) where
-      framed : Framed kind body rest (strictOf (messageBytes kind body ++ rest))
-      framed = written-whole kind body rest (length out) n written messageLimit (omega (arith, size))
+    -- the strict one, by an edition whose limit it keeps
+    module _ (edition : Edition) (short : n ≤ limitOf edition) where
+      framed : Framed kind body rest (strictOf edition (messageBytes kind body ++ rest))
+      framed = written-whole kind body rest (length out) n written (limitOf edition) (omega (arith, size))
 
-      pub strict-message-again : (κs′ : _) (given′ : _) (answer′ : _) (exit′ : _) → parse_bgp_message_strict.Learnt κs′ given′ answer′ exit′ → now (given′ .0) ≡ take n left ++ rest
+      pub strict-message-again : (κs′ : _) (s : _) (answer′ : _) (exit′ : _) → parse_bgp_message_strict.Learnt κs′ (s, (edition, tt)) answer′ exit′ → now s ≡ take n left ++ rest
           → answer′ ≡ again
-      strict-message-again κs′ given′ answer′ exit′ read same =
-          read ∙ ap strictOf (bytes (now (given′ .0)) same) ∙ framed .same ∙ ap (λ (m : ℕ). Message kind m m false false (ltb 0 (length rest))) (sym size)
+      strict-message-again κs′ s answer′ exit′ read same =
+          read ∙ ap (strictOf edition) (bytes (now s) same) ∙ framed .same ∙ ap (λ (m : ℕ). Message kind m m false false (ltb 0 (length rest))) (sym size)
 
-      pub strict-body-again : (κs′ : _) (given′ : _) (part : _) (exit′ : _) → message_body_strict.Learnt κs′ given′ part exit′ → now (given′ .0) ≡ take n left ++ rest → now part ≡ body
-      strict-body-again κs′ given′ part exit′ read same =
-          read .holds ∙ ap (λ (s : List ℕ). within (bodyAt (strictOf s)) s) (bytes (now (given′ .0)) same) ∙ framed .content
+      pub strict-body-again : (κs′ : _) (s : _) (part : _) (exit′ : _) → message_body_strict.Learnt κs′ (s, (edition, tt)) part exit′ → now s ≡ take n left ++ rest → now part ≡ body
+      strict-body-again κs′ s part exit′ read same =
+          read .holds ∙ ap (λ (t : List ℕ). within (bodyAt (strictOf edition t)) t) (bytes (now s) same) ∙ framed .content
 
 -- ---- UPDATE bodies
 
