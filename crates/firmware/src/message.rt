@@ -49,7 +49,8 @@ pub extern "C" fn doorbramble_parse_bgp_message(s: &[u8]) -> u64
 fn strict_word(s: &[u8], edition: Edition) -> u64
     ensures { λ r. ⌜ r ≡ wordOf (messageFields (strictOf edition (now (s .entry)))) ⌝ }
 {
-    message_word(messages::parse_bgp_message_strict(s, edition))
+    let whole = &s[..];
+    message_word(messages::parse_bgp_message_strict(whole, edition))
 }
 
 // As RFC 4271 has it.
