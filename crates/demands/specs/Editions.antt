@@ -16,7 +16,7 @@ use Rattle.messages.specs.declared.Edition.the-variants.{Rfc4271, Rfc8654}
 use Rattle.messages.specs.declared.MessageAnswer.{MessageAnswer}
 use Rattle.messages.specs.declared.MessageAnswer.the-variants.{Message, Refused}
 use Rattle.messages.proofs.HeaderLaws.{whole-by}
-use Rattle.messages.proofs.EditionLaws.{limits-alike, over-limit, accepted-whole, accepted-alike, alone-over, long-whole, whole-long}
+use Rattle.messages.proofs.EditionLaws.{limits-alike, over-refused, accepted-whole, accepted-alike, alone-over, long-whole, whole-long}
 use Rattle.messages.proofs.parse_bgp_message_strict.Reads as parse_bgp_message_strict
 use Rattle.messages.proofs.message_body_strict.Reads as message_body_strict
 
@@ -52,4 +52,4 @@ module _ (s : _) (κs : _) (answer : _) (exit : _) (old : parse_bgp_message_stri
       × (answer′ ≡ Message (kindOf (now s)) (claimedOf (now s)) (claimedOf (now s)) false false (ltb (claimedOf (now s)) (length (now s))))
   long-is-alone bytes m =
       let whole = long-whole (now s) bytes m in
-      (old ∙ over-limit (now s) messageLimit extendedLimit whole (m .over), new ∙ whole-by extendedLimit (now s) whole)
+      (old ∙ over-refused (now s) messageLimit extendedLimit whole (m .over), new ∙ whole-by extendedLimit (now s) whole)

@@ -18,9 +18,10 @@ use Rattle.wire.proofs.AnswerLaws.{written-front}
 use Rattle.messages.specs.Header.{openKind, routeRefreshKind, headerSize, limitOf, leastLength, mostLength, messageOf, strictOf, bodyAt}
 use Rattle.messages.specs.Written.{messageBytes, writeMessage}
 use Rattle.messages.specs.declared.Edition.{Edition}
+use Rattle.messages.specs.declared.Edition.the-variants.{Rfc8654}
 use Rattle.messages.specs.declared.MessageAnswer.{MessageAnswer}
 use Rattle.messages.specs.declared.MessageAnswer.the-variants.{Message}
-use Rattle.messages.proofs.WrittenLaws.{written-fit, fit-written, message-front}
+use Rattle.messages.proofs.WrittenLaws.{most-small, written-fit, fit-written, message-front}
 use Rattle.messages.proofs.Framing.{Framed, written-accepted, written-whole}
 use Rattle.messages.proofs.encode_bgp_message.Reads as encode_bgp_message
 use Rattle.messages.proofs.parse_bgp_message.Reads as parse_bgp_message
@@ -116,7 +117,10 @@ module _ (κs : _) (given : _) (answer : _) (exit : _) (call : encode_bgp_messag
         ∙ ap (λ (s : List ℕ). within (bodyAt (messageOf s)) s) (bytes (now (given′ .0)) same)
         ∙ written-accepted kind body rest (length out) n written .content
 
-    -- the strict one, by an edition whose limit it keeps
+    -- the strict one, by an edition whose limit it keeps: RFC 8654's always
+    pub keeps-extended : n ≤ limitOf Rfc8654
+    keeps-extended = omega (arith, size, written-fit kind body (length out) n written .most, most-small kind)
+
     module _ (edition : Edition) (short : n ≤ limitOf edition) where
       framed : Framed kind body rest (strictOf edition (messageBytes kind body ++ rest))
       framed = written-whole kind body rest (length out) n written (limitOf edition) (omega (arith, size))

@@ -1,24 +1,21 @@
--- Two limits of the strict reading: what is answered the same under both, and what the higher one alone accepts; and which messages the newer edition
--- alone accepts.
+-- Two limits of the strict reading: what is answered the same under both, and what the higher one alone accepts. And long messages, which are what
+-- RFC 8654's alone accepts.
 -- Assumes nothing.
-use Prim.Native.Nat.{ℕ, zero, suc, _^_, _≤_, _<_}
-use mathlib.Core.Path.{_≡_, refl, sym, ap, _∙_}
+use Prim.Native.Nat.{ℕ, zero, suc, _≤_, _<_}
+use mathlib.Core.Path.{_≡_, refl, sym, _∙_}
 use mathlib.Core.List.{List}
 use mathlib.Core.Bool.{Bool, false}
 use mathlib.Core.Logic.{_⊎_, inl, inr, ⊎-elim}
 use native.Mathlib.Nat.{lt-of-not-le}
-use native.Mathlib.Decide.{decLe}
 use native.Mathlib.Omega.{arith}
 use borrow.Author.Tests.{le-ltb, lt-ltb}
 use lib.ListN.{length}
-use lib.Dec.{ltb}
-use Rattle.wire.specs.Number.{Bytes, padded, beAt}
+use Rattle.wire.specs.Number.{Bytes}
 use Rattle.wire.proofs.NumberLaws.{beAt-lt}
 use Rattle.wire.specs.Refusal.{messageLength}
-use Rattle.messages.specs.Header.{openKind, updateKind, notificationKind, keepaliveKind, routeRefreshKind, markerSize, headerSize, messageLimit, extendedLimit, crateLimit, leastLength, mostLength, isOutside, isUnknown, markerOf, allFF, claimedOf, kindOf, acceptedWhole, strictWithin, LongKind, LongMessage}
-use Rattle.messages.specs.declared.MessageAnswer.{MessageAnswer}
+use Rattle.messages.specs.Header.{openKind, updateKind, notificationKind, routeRefreshKind, markerSize, headerSize, messageLimit, extendedLimit, crateLimit, leastLength, mostLength, isOutside, isUnknown, claimedOf, kindOf, strictWithin, LongKind, LongMessage}
 use Rattle.messages.specs.declared.MessageAnswer.the-variants.{Message, Refused}
-use Rattle.messages.proofs.HeaderLaws.{Whole, strict-cases, whole-by, inside-low, inside-high}
+use Rattle.messages.proofs.HeaderLaws.{Whole, strict-cases, inside-low, inside-high}
 
 -- ---- any two limits
 
@@ -34,9 +31,9 @@ module _ (s : List ℕ) where
   limits-alike limit limit′ h h′ = rw (outside-alike headerSize limit limit′ (claimedOf s) h h′)
 
   -- one that claims more than a limit and is else right is refused under it with 3
-  pub over-limit : (limit limit′ : ℕ) → Whole limit′ s → limit < claimedOf s → strictWithin limit s ≡ Refused messageLength
+  pub over-refused : (limit limit′ : ℕ) → Whole limit′ s → limit < claimedOf s → strictWithin limit s ≡ Refused messageLength
   unfolding strictWithin isOutside
-  over-limit limit limit′ h over =
+  over-refused limit limit′ h over =
       simp (le-ltb (length s) headerSize (h .long), h .ones, le-ltb (claimedOf s) headerSize (h .claims), lt-ltb limit (claimedOf s) over)
 
   module _ (kind claimed taken : ℕ) (marker cut trailing : Bool) where
@@ -62,7 +59,7 @@ module _ (s : List ℕ) where
         let z : _≡_ {A = ℕ} 0 1 = cc in
         absurd (omega arith))
 
--- ---- the two editions
+-- ---- long messages
 
 -- a type whose messages may be over 4,096 is one of three
 long-kind : (kind n : ℕ) → isUnknown kind ≡ false → messageLimit < n → n ≤ mostLength kind → LongKind kind
@@ -94,7 +91,7 @@ bounds kind = ⊎-elim (λ e. by updateKind e (record { known = refl; least = om
 claimed-small : (s : List ℕ) → Bytes s → claimedOf s ≤ extendedLimit
 claimed-small s h = omega (arith, beAt-lt s markerSize 2 h)
 
--- a long message is accepted under the newer edition and refused under the older one
+-- a long message is found right under the newer limit
 pub long-whole : (s : List ℕ) → Bytes s → LongMessage s → Whole extendedLimit s
 long-whole s h m =
     let b = bounds (kindOf s) (m .kind) in
@@ -109,7 +106,7 @@ long-whole s h m =
       there = m .there;
     }
 
--- and whatever is accepted there and claims over 4,096 is a long message
+-- and whatever is found right under it and claims over 4,096 is a long message
 pub whole-long : (s : List ℕ) → Whole extendedLimit s → messageLimit < claimedOf s → LongMessage s
 whole-long s h over = record {
   kind = long-kind (kindOf s) (claimedOf s) (h .known) over (h .most);
