@@ -45,12 +45,11 @@ pub extern "C" fn doorbramble_parse_bgp_message(s: &[u8]) -> u64
     message_word(messages::parse_bgp_message(s))
 }
 
-// The header of a message, strictly.
+// The header of a message, strictly: copied into both calls, so that RFC 4271's compares with a number it knows.
 fn strict_word(s: &[u8], edition: Edition) -> u64
     ensures { λ r. ⌜ r ≡ wordOf (messageFields (strictOf edition (now (s .entry)))) ⌝ }
 {
-    let whole = &s[..];
-    message_word(messages::parse_bgp_message_strict(whole, edition))
+    message_word(messages::parse_bgp_message_strict(s, edition))
 }
 
 // As RFC 4271 has it.

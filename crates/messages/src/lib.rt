@@ -122,15 +122,17 @@ fn misfit(kind: u8, n: usize) -> bool
     over_limit(kind, n)
 }
 
-// Eight bytes as one number.
+// Eight bytes as one number: a sum of each in its place, which every processor's compiler makes one load of.
 fn join8(a: u8, b: u8, c: u8, d: u8, e: u8, f: u8, g: u8, h: u8) -> u64
     ensures { λ r. ⌜ r ≡ be (a ∷ b ∷ c ∷ d ∷ e ∷ f ∷ g ∷ h ∷ []) ⌝ }
 {
-    ((((((a as u64 * 256 + b as u64) * 256 + c as u64) * 256 + d as u64) * 256 + e as u64) * 256
-        + f as u64)
-        * 256
-        + g as u64)
-        * 256
+    a as u64 * 72057594037927936
+        + b as u64 * 281474976710656
+        + c as u64 * 1099511627776
+        + d as u64 * 4294967296
+        + e as u64 * 16777216
+        + f as u64 * 65536
+        + g as u64 * 256
         + h as u64
 }
 
