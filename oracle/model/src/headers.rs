@@ -12,6 +12,26 @@ const ROUTE_REFRESH: u8 = 5;
 /// The most bytes of a message that RFC 8654 did not make longer.
 const PLAIN_MOST: usize = 4_096;
 
+/// The most bytes of any other message.
+const EXTENDED_MOST: usize = 65_535;
+
+/// The RFC that says how long a strict message may be.
+#[derive(Clone, Copy)]
+pub enum Edition {
+    Rfc4271,
+    Rfc8654,
+}
+
+impl Edition {
+    /// The most bytes of a message, whatever its type.
+    fn most(self) -> usize {
+        match self {
+            Edition::Rfc4271 => PLAIN_MOST,
+            Edition::Rfc8654 => EXTENDED_MOST,
+        }
+    }
+}
+
 pub struct Header {
     pub kind: u8,
     pub claimed: usize,
@@ -30,6 +50,11 @@ fn least_length(kind: u8) -> Option<usize> {
         KEEPALIVE => Some(HEADER),
         _ => None,
     }
+}
+
+/// Whether this is more than 4,096 bytes of a type that RFC 8654 did not make longer.
+fn is_over_plain(kind: u8, claimed: usize) -> bool {
+    (kind == OPEN || kind == KEEPALIVE) && claimed > PLAIN_MOST
 }
 
 fn marker_is_good(bytes: &[u8]) -> bool {
@@ -53,7 +78,7 @@ pub fn crate_reading(bytes: &[u8]) -> Result<Header, Refusal> {
     if least_length(kind).is_none() {
         return Err(4);
     }
-    if (kind == OPEN || kind == KEEPALIVE) && claimed > PLAIN_MOST {
+    if is_over_plain(kind, claimed) {
         return Err(3);
     }
     let taken = claimed.min(bytes.len());
@@ -70,8 +95,8 @@ pub fn crate_reading(bytes: &[u8]) -> Result<Header, Refusal> {
     })
 }
 
-/// The reading of RFC 4271. Bytes after the message are not taken; the flag says that there are some.
-pub fn strict(bytes: &[u8]) -> Result<Header, Refusal> {
+/// The reading of RFC 4271 or of RFC 8654. Bytes after the message are not taken; the flag says that there are some.
+pub fn strict(bytes: &[u8], edition: Edition) -> Result<Header, Refusal> {
     if bytes.len() < HEADER {
         return Err(2);
     }
@@ -79,12 +104,13 @@ pub fn strict(bytes: &[u8]) -> Result<Header, Refusal> {
         return Err(6);
     }
     let claimed = claimed_length(bytes);
-    if !(HEADER..=PLAIN_MOST).contains(&claimed) {
+    if !(HEADER..=edition.most()).contains(&claimed) {
         return Err(3);
     }
     let kind = bytes[18];
     let least = least_length(kind).ok_or(4u32)?;
-    if claimed < least || (kind == KEEPALIVE && claimed != HEADER) {
+    let keepalive_with_body = kind == KEEPALIVE && claimed != HEADER;
+    if claimed < least || keepalive_with_body || is_over_plain(kind, claimed) {
         return Err(3);
     }
     if claimed > bytes.len() {
@@ -99,7 +125,7 @@ pub fn write(kind: u8, body: &[u8]) -> Result<Vec<u8>, Refusal> {
     let total = HEADER + body.len();
     let open_too_long = kind == OPEN && total > PLAIN_MOST;
     let keepalive_with_body = kind == KEEPALIVE && !body.is_empty();
-    if total < least || total > 65_535 || open_too_long || keepalive_with_body {
+    if total < least || total > EXTENDED_MOST || open_too_long || keepalive_with_body {
         return Err(3);
     }
     let mut out = vec![0xFF; 16];

@@ -7,7 +7,8 @@ mod paths;
 mod routes;
 mod updates;
 
-use records::{lent_of, numbers_of, sum_bytes, Answer, Lent, Request, ADD_PATH, FOUR_BYTE_AS, GUESS, IPV6, STRICT};
+use records::{lent_of, numbers_of, sum_bytes, Answer, Lent, Request};
+use records::{ADD_PATH, EXTENDED, FOUR_BYTE_AS, GUESS, IPV6, STRICT};
 
 /// A number of the table "Refusal numbers".
 pub type Refusal = u32;
@@ -96,6 +97,14 @@ fn rule(request: &Request) -> paths::Rule {
     }
 }
 
+fn edition(request: &Request) -> headers::Edition {
+    if request.has(EXTENDED) {
+        headers::Edition::Rfc8654
+    } else {
+        headers::Edition::Rfc4271
+    }
+}
+
 fn one_route(request: &Request, bytes: &[u8]) -> Done {
     let (used, row) = routes::item(bytes, request.has(ADD_PATH), family(request))?;
     let mut numbers = vec![used as u64];
@@ -143,7 +152,8 @@ fn aggregator(request: &Request, bytes: &[u8]) -> Done {
 }
 
 fn header(request: &Request, bytes: &[u8]) -> Done {
-    let header = if request.has(STRICT) { headers::strict(bytes)? } else { headers::crate_reading(bytes)? };
+    let header =
+        if request.has(STRICT) { headers::strict(bytes, edition(request))? } else { headers::crate_reading(bytes)? };
     let body = &bytes[19..header.taken];
     Ok((
         vec![

@@ -1,6 +1,6 @@
 //! Every example of document 01 and every rule of the requests after it, with the line it comes to.
 
-use records::{Request, ADD_PATH, FOUR_BYTE_AS, GUESS, IPV6, STRICT};
+use records::{Request, ADD_PATH, EXTENDED, FOUR_BYTE_AS, GUESS, IPV6, STRICT};
 
 fn hex(text: &str) -> Vec<u8> {
     text.split_whitespace().map(|byte| u8::from_str_radix(byte, 16).expect("a byte")).collect()
@@ -168,6 +168,67 @@ fn headers() {
     assert_eq!(told(9, STRICT, message("00 13 04")), "0 4 19 19 0 0 0 0 0");
     assert_eq!(told(9, 0, message("00 12 09")), "3 0 0 0 0 0 0 0 0");
     assert_eq!(told(9, 0, message("10 01 01")), "3 0 0 0 0 0 0 0 0");
+}
+
+/// The first bytes of a message of zeros.
+fn message(claimed: u16, kind: u8, given: usize) -> Vec<u8> {
+    let mut bytes = [&[0xFF; 16], claimed.to_be_bytes().as_slice(), &[kind]].concat();
+    bytes.resize(given, 0);
+    bytes
+}
+
+/// What the crate's reading refuses a message with, and the strict one by RFC 4271 and by RFC 8654.
+fn header_refusals(bytes: Vec<u8>) -> [u32; 3] {
+    let asked = |settings| Request { op: 9, settings, parts: [bytes.clone(), vec![], vec![]], ..Request::default() };
+    let refusal = |settings| model::answer(&asked(settings)).refusal;
+    assert_eq!(model::answer(&asked(EXTENDED)), model::answer(&asked(0)), "32 alone is nothing");
+    [0, STRICT, STRICT | EXTENDED].map(refusal)
+}
+
+#[test]
+fn long_messages() {
+    for kind in [2, 3, 5] {
+        assert_eq!(header_refusals(message(4_096, kind, 4_096)), [0, 0, 0]);
+        for claimed in [4_097, 65_535] {
+            let whole = usize::from(claimed);
+            assert_eq!(header_refusals(message(claimed, kind, whole)), [0, 3, 0]);
+            assert_eq!(header_refusals(message(claimed, kind, whole + 1)), [0, 3, 0]);
+            assert_eq!(header_refusals(message(claimed, kind, whole - 1)), [0, 3, 2]);
+            assert_eq!(header_refusals(message(claimed, kind, 19)), [0, 3, 2]);
+        }
+    }
+    for claimed in [4_097, 65_535] {
+        for given in [19, usize::from(claimed), 65_536] {
+            assert_eq!(header_refusals(message(claimed, 1, given)), [3, 3, 3], "an OPEN is never long");
+            assert_eq!(header_refusals(message(claimed, 4, given)), [3, 3, 3], "nor a KEEPALIVE");
+        }
+    }
+    assert_eq!(told(9, STRICT | EXTENDED, message(4_097, 3, 4_097)), "0 3 4097 4097 0 0 0 4078 6600853");
+    let trailing = told(9, STRICT | EXTENDED, message(65_535, 5, 65_536));
+    assert!(trailing.starts_with("0 5 65535 65535 0 0 1 65516 "), "the byte after it is not taken: {trailing}");
+}
+
+#[test]
+fn orders_by_edition() {
+    for kind in [0, 6, 255] {
+        assert_eq!(header_refusals(message(18, kind, 19)), [3, 3, 3], "3 before 4");
+        assert_eq!(header_refusals(message(19, kind, 19)), [4, 4, 4]);
+        assert_eq!(header_refusals(message(4_096, kind, 19)), [4, 4, 4], "4 before 2");
+        for claimed in [4_097, 65_535] {
+            assert_eq!(header_refusals(message(claimed, kind, 19)), [4, 3, 4], "no type has a length of its own");
+        }
+    }
+    for (kind, least) in [(1, 29), (2, 23), (3, 21), (5, 23)] {
+        assert_eq!(header_refusals(message(least, kind, usize::from(least))), [0, 0, 0]);
+        assert_eq!(header_refusals(message(least - 1, kind, 19)), [0, 3, 3], "3 before 2");
+    }
+    assert_eq!(header_refusals(message(4_096, 1, 4_096)), [0, 0, 0]);
+    assert_eq!(header_refusals(message(20, 4, 20)), [0, 3, 3]);
+    for claimed in [18, 4_097] {
+        let marked = [&[0xFE], &message(claimed, 2, 19)[1..]].concat();
+        assert_eq!(header_refusals(marked)[1..], [6, 6], "6 before 3");
+    }
+    assert_eq!(header_refusals(message(65_535, 2, 18)), [2, 2, 2]);
 }
 
 const NONE_LEFT: &str = "0 0 0 0 0 0 0 0";

@@ -12,6 +12,11 @@ pub const GUESS: u8 = 2;
 pub const IPV6: u8 = 4;
 pub const FOUR_BYTE_AS: u8 = 8;
 pub const STRICT: u8 = 16;
+/// A strict header by RFC 8654; by RFC 4271 without.
+pub const EXTENDED: u8 = 32;
+
+/// A settings byte is at most all of them.
+pub const LAST_SETTINGS: u8 = 63;
 
 /// Ops are numbered from 1 up to this one.
 pub const LAST_OP: u8 = 19;
@@ -67,7 +72,7 @@ impl Request {
             18 => self.parts[1].len() == 4,
             _ => true,
         };
-        (1..=LAST_OP).contains(&self.op) && self.settings <= 31 && numbers_whole
+        (1..=LAST_OP).contains(&self.op) && self.settings <= LAST_SETTINGS && numbers_whole
     }
 }
 
