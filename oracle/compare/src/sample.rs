@@ -8,7 +8,7 @@ use crate::programs::Program;
 use crate::rng::Rng;
 use crate::stops;
 use records::ending::about;
-use records::{Request, LAST_OP};
+use records::{Request, LAST_OP, LAST_SETTINGS};
 use std::io::{self, Write};
 use std::path::Path;
 
@@ -22,7 +22,7 @@ fn requests(seed: u64, captures: &[Capture]) -> Vec<Request> {
     let mut rng = Rng::new(seed);
     let mut requests = numbers();
     for op in 1..=LAST_OP {
-        for settings in 0..32 {
+        for settings in 0..=LAST_SETTINGS {
             for _ in 0..OF_EACH {
                 requests.push(random::request_of(&mut rng, op, settings));
             }

@@ -2,7 +2,7 @@
 //! every flags byte, type and settings byte. What needs a large section stands in `limits`.
 
 use super::examples::{hex, request, words};
-use records::Request;
+use records::{Request, LAST_SETTINGS};
 
 /// The attribute at a place.
 pub fn walk(section: &[u8], place: u32) -> Request {
@@ -95,5 +95,5 @@ fn every_type() -> Vec<Request> {
 fn every_settings() -> Vec<Request> {
     let section = hex("40010100 900E00020A0B 800F00");
     let under = |settings| [walk(&section, 4), search(&section, 15)].map(|request| Request { settings, ..request });
-    (0..32).flat_map(under).collect()
+    (0..=LAST_SETTINGS).flat_map(under).collect()
 }

@@ -1,7 +1,7 @@
 //! Captured messages and the requests on them, each with its session's settings.
 
 use super::attributes::{search, walk};
-use super::examples::on_bytes;
+use super::examples::{headers, on_bytes};
 use super::pieces::EXTENDED_LENGTH;
 use records::ending::about;
 use records::{Request, ADD_PATH, FOUR_BYTE_AS, GUESS, IPV6, STRICT};
@@ -135,10 +135,8 @@ impl Capture {
     /// Every request on this message, if it is whole.
     fn all_requests(&self) -> Option<Vec<Request>> {
         let (header, body) = self.bytes.split_at_checked(HEADER)?;
-        let mut requests = vec![
-            on_bytes(9, self.settings(), (0, 0), &self.bytes),
-            on_bytes(9, self.settings() | STRICT, (0, 0), &self.bytes),
-        ];
+        let of_session = |asked: Request| Request { settings: asked.settings | self.settings(), ..asked };
+        let mut requests = headers(&self.bytes).map(of_session).to_vec();
         if header[HEADER - 1] == UPDATE {
             requests.extend(self.update_requests(body)?);
         }

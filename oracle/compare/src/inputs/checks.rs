@@ -1,15 +1,15 @@
 //! Least lengths at, below and above, each order of two checks on inputs that fail both, and every settings byte.
 //! What needs a large input stands in `limits`.
 
-use super::examples::{hex, on_bytes, request, words, PATH_SETTINGS};
+use super::examples::{headers, hex, on_bytes, request, words, PATH_SETTINGS};
 use super::pieces;
-use records::{Request, ADD_PATH, FOUR_BYTE_AS, GUESS, IPV6, STRICT};
+use records::{Request, ADD_PATH, FOUR_BYTE_AS, GUESS, IPV6, LAST_SETTINGS};
 
 pub fn all() -> Vec<Request> {
     [
         settings(),
         lengths_read(),
-        headers(),
+        header_orders(),
         written_messages(),
         routes(),
         lists(),
@@ -35,20 +35,14 @@ fn settings() -> Vec<Request> {
         (7, "02 00"),
         (8, "FD E9 0A 00 00 01"),
         (9, "FF FF FF FF FF FF FF FF FF FF FF FF FF FF FF FE 00 13 04"),
+        (9, "FF FF FF FF FF FF FF FF FF FF FF FF FF FF FF FF 10 01 02"),
         (10, "00 00 00 00 00 18 0A 01 08 18 C8 02 00"),
     ];
     let read = inputs.map(|(op, text)| on_bytes(op, 0, (24, 24), &hex(text)));
     let written = [(14, vec![2, 1, 1, 0], vec![7]), (15, vec![7, 0x0A00_0001], vec![])]
         .map(|(op, first, second)| request(op, 0, (24, 0), [words(&first), words(&second), vec![]], 0));
     let all = read.into_iter().chain(written);
-    all.flat_map(|asked| (0..32).map(move |settings| Request { settings, ..asked.clone() })).collect()
-}
-
-/// The first bytes of a message of zeros, with this last byte of the marker.
-fn message(marker: u8, claimed: usize, kind: u8, given: usize) -> Vec<u8> {
-    let mut bytes = [vec![0xFF; 15], vec![marker], (claimed as u16).to_be_bytes().to_vec(), vec![kind]].concat();
-    bytes.resize(given, 0);
-    bytes
+    all.flat_map(|asked| (0..=LAST_SETTINGS).map(move |settings| Request { settings, ..asked.clone() })).collect()
 }
 
 /// Every type's least and most lengths, given whole; and long ones of which only the header is given.
@@ -56,24 +50,22 @@ fn lengths_read() -> Vec<Request> {
     let mut requests = vec![];
     for kind in 1..=5 {
         let whole = [18, 19, 20, 21, 22, 23, 24, 28, 29, 30, 4_096].map(|claimed: usize| (claimed, claimed.max(19)));
-        let cut = [4_095, 4_096, 4_097, 65_535].map(|claimed| (claimed, 19));
+        let cut = [4_095, 4_096, 4_097, 65_534, 65_535].map(|claimed| (claimed, 19));
         for (claimed, given) in whole.into_iter().chain(cut) {
-            let bytes = message(0xFF, claimed, kind, given);
-            requests.extend([0, STRICT].map(|settings| on_bytes(9, settings, (0, 0), &bytes)));
+            requests.extend(headers(&pieces::message(0xFF, claimed, kind, given)));
         }
     }
     requests
 }
 
 /// 2, 6, 3, 4, a type's own 3 and 2 again, in every pair.
-fn headers() -> Vec<Request> {
+fn header_orders() -> Vec<Request> {
     let mut requests = vec![];
     for marker in [0xFF, 0xFE] {
-        for claimed in [18, 19, 20, 22, 23, 4_097] {
-            for kind in [0, 1, 2, 4, 6] {
+        for claimed in [18, 19, 20, 22, 23, 4_097, 65_535] {
+            for kind in [0, 1, 2, 3, 4, 5, 6, 255] {
                 for given in [18, 19, 23] {
-                    let bytes = message(marker, claimed, kind, given);
-                    requests.extend([0, STRICT].map(|settings| on_bytes(9, settings, (0, 0), &bytes)));
+                    requests.extend(headers(&pieces::message(marker, claimed, kind, given)));
                 }
             }
         }

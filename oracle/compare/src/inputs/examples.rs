@@ -1,6 +1,6 @@
 //! The examples of document 01, each under every setting that its op uses.
 
-use records::{Request, FOUR_BYTE_AS, STRICT};
+use records::{Request, EXTENDED, FOUR_BYTE_AS, STRICT};
 
 /// Bytes from hexadecimal digits, spaces ignored.
 pub fn hex(text: &str) -> Vec<u8> {
@@ -32,6 +32,9 @@ const AGGREGATORS: &[&str] = &["FD E9 0A 00 00 01", "00 00 FD E9 0A 00 00 01", "
 /// Both widths of an AS number, by both rules for a path.
 pub const PATH_SETTINGS: [u8; 4] = [0, FOUR_BYTE_AS, STRICT, STRICT | FOUR_BYTE_AS];
 
+/// The readings of a header: the crate's, and the strict one by RFC 4271 and by RFC 8654.
+pub const HEADER_SETTINGS: [u8; 3] = [0, STRICT, STRICT | EXTENDED];
+
 /// What comes after an all-FF marker.
 const HEADERS: &[&str] =
     &["00 13 04", "00 12 09", "10 01 01", "00 1B 02 00 00 00 00 18 0A 01 08", "00 1B 02 00 00 00 00 18 0A 01"];
@@ -43,6 +46,11 @@ pub fn request(op: u8, settings: u8, rooms: (usize, usize), parts: [Vec<u8>; 3],
 /// A request with one part.
 pub fn on_bytes(op: u8, settings: u8, rooms: (usize, usize), bytes: &[u8]) -> Request {
     request(op, settings, rooms, [bytes.to_vec(), vec![], vec![]], 0)
+}
+
+/// A message's header, read in every way.
+pub fn headers(message: &[u8]) -> [Request; 3] {
+    HEADER_SETTINGS.map(|settings| on_bytes(9, settings, (0, 0), message))
 }
 
 /// Numbers as a part.
@@ -67,7 +75,7 @@ pub fn all() -> Vec<Request> {
     }
     for text in HEADERS {
         let message = [vec![0xFF; 16], hex(text)].concat();
-        requests.extend([0, 16].map(|settings| on_bytes(9, settings, (0, 0), &message)));
+        requests.extend(headers(&message));
         for settings in 0..4 {
             requests.extend([10, 11, 12].map(|op| on_bytes(op, settings, (12, 12), &message[19..])));
         }

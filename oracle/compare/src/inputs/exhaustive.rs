@@ -2,8 +2,8 @@
 //! and all combinations of boundary values for headers, rows and written messages.
 
 use super::attributes::{search, walk};
-use super::examples::{on_bytes, request, words, PATH_SETTINGS};
-use records::{Request, ADD_PATH, FOUR_BYTE_AS, GUESS, IPV6, STRICT};
+use super::examples::{self, on_bytes, request, words, PATH_SETTINGS};
+use records::{Request, ADD_PATH, FOUR_BYTE_AS, GUESS, IPV6};
 
 /// Requests in a fixed order, made one at a time.
 pub struct Short(Box<dyn Iterator<Item = Request>>);
@@ -109,7 +109,7 @@ fn headers() -> impl Iterator<Item = Request> {
     })
 }
 
-/// A header with each of three markers, read both ways.
+/// A header with each of three markers, read in every way.
 fn header_requests(claimed: u16, given: usize, kind: u8) -> Vec<Request> {
     let mut requests = vec![];
     for wrong_at in [None, Some(0), Some(15)] {
@@ -121,7 +121,7 @@ fn header_requests(claimed: u16, given: usize, kind: u8) -> Vec<Request> {
         bytes.push(kind);
         bytes.resize(64, 0);
         bytes.truncate(given);
-        requests.extend([0, STRICT].map(|settings| on_bytes(9, settings, (0, 0), &bytes)));
+        requests.extend(examples::headers(&bytes));
     }
     requests
 }

@@ -2,15 +2,16 @@
 //! the order of the two checks is seen.
 
 use super::attributes::{search, walk};
-use super::examples::{on_bytes, request, words};
+use super::examples::{on_bytes, request, words, HEADER_SETTINGS};
 use super::pieces;
-use records::{Request, ADD_PATH, FOUR_BYTE_AS, GUESS, IPV6, STRICT};
+use records::{Request, ADD_PATH, EXTENDED, FOUR_BYTE_AS, GUESS, IPV6, STRICT};
 
 pub fn all() -> Vec<Request> {
     [
         lists(),
         paths(),
         strict_paths(),
+        messages(),
         updates(),
         written_lists(),
         written_paths(),
@@ -79,6 +80,23 @@ fn strict_paths() -> Vec<Request> {
         on_bytes(6, STRICT, (0, 0), &empty),
         on_bytes(7, STRICT | FOUR_BYTE_AS, (0, 0), &empty),
     ]
+}
+
+/// The most bytes of a message by both editions, and one over the first, of every type: a byte short, whole and a byte over. Numbers that
+/// are no type are asked by RFC 8654 alone, by which they are 4 whatever they claim.
+fn messages() -> Vec<Request> {
+    let types = (1..=5).map(|kind| (kind, HEADER_SETTINGS.to_vec()));
+    let others = [0, 6].map(|kind| (kind, vec![STRICT | EXTENDED]));
+    let mut requests = vec![];
+    for (kind, readings) in types.chain(others) {
+        for claimed in [4_096, 4_097, 65_535] {
+            for given in [claimed - 1, claimed, claimed + 1] {
+                let bytes = pieces::message(0xFF, claimed, kind, given);
+                requests.extend(readings.iter().map(|settings| on_bytes(9, *settings, (0, 0), &bytes)));
+            }
+        }
+    }
+    requests
 }
 
 /// Bodies that are nearly all one section; over the limit a section is not all there.

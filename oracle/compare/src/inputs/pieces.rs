@@ -191,6 +191,13 @@ pub fn any_attribute_list(rng: &mut Rng) -> Vec<Vec<u8>> {
     attributes
 }
 
+/// The first bytes of a message of zeros, with this last byte of the marker.
+pub fn message(marker: u8, claimed: usize, kind: u8, given: usize) -> Vec<u8> {
+    let mut bytes = [vec![0xFF; 15], vec![marker], (claimed as u16).to_be_bytes().to_vec(), vec![kind]].concat();
+    bytes.resize(given, 0);
+    bytes
+}
+
 /// An UPDATE body of three sections.
 pub fn body(withdrawn: &[u8], attributes: &[u8], announced: &[u8]) -> Vec<u8> {
     let length = |section: &[u8]| (section.len() as u16).to_be_bytes();

@@ -5,7 +5,7 @@ use super::examples::{on_bytes, words};
 use super::limits::raw_attribute;
 use super::pieces::{self, damage, Segments};
 use crate::rng::Rng;
-use records::{Request, ADD_PATH, FOUR_BYTE_AS, GUESS, IPV6, LAST_OP};
+use records::{Request, ADD_PATH, FOUR_BYTE_AS, GUESS, IPV6, LAST_OP, LAST_SETTINGS};
 
 /// One in this many requests is large.
 const LARGE: usize = 1_500;
@@ -34,9 +34,13 @@ pub fn request(rng: &mut Rng) -> Request {
     if rng.one_in(LARGE) {
         large(rng, op)
     } else {
-        let settings = rng.under(32) as u8;
+        let settings = any_settings(rng);
         request_of(rng, op, settings)
     }
+}
+
+fn any_settings(rng: &mut Rng) -> u8 {
+    rng.under(usize::from(LAST_SETTINGS) + 1) as u8
 }
 
 fn width(settings: u8) -> usize {
@@ -140,9 +144,15 @@ fn open_body(rng: &mut Rng) -> Vec<u8> {
     body
 }
 
+/// A body of any bytes with which a message has about 4,096 bytes or some more.
+fn long_body(rng: &mut Rng) -> Vec<u8> {
+    let total = if rng.one_in(2) { 4_094 + rng.under(6) } else { 4_097 + rng.under(2_000) };
+    rng.bytes(total - 19)
+}
+
 fn header(rng: &mut Rng, settings: u8) -> Request {
     let kind = if rng.one_in(12) { rng.byte() } else { 1 + rng.under(5) as u8 };
-    let body = message_body(rng, kind, settings);
+    let body = if rng.one_in(12) { long_body(rng) } else { message_body(rng, kind, settings) };
     let mut bytes = vec![0xFF; 16];
     if rng.one_in(8) {
         bytes[rng.under(16)] = rng.byte();
@@ -151,7 +161,7 @@ fn header(rng: &mut Rng, settings: u8) -> Request {
     let claimed = match rng.under(10) {
         0 => exact + rng.under(4),
         1 => exact.saturating_sub(rng.under(4)),
-        2 => rng.pick(&[0, 18, 19, 4_095, 4_096, 4_097, 65_535]),
+        2 => rng.pick(&[0, 18, 19, 4_095, 4_096, 4_097, 65_534, 65_535]),
         _ => exact,
     };
     bytes.extend((claimed as u16).to_be_bytes());
@@ -313,7 +323,7 @@ fn searched(rng: &mut Rng, settings: u8) -> Request {
 
 /// A request near the greatest size of its op.
 pub fn large(rng: &mut Rng, op: u8) -> Request {
-    let settings = rng.under(32) as u8;
+    let settings = any_settings(rng);
     let size = rng.pick(&[65_514, 65_515, 65_516, 65_517, 65_534, 65_535, 65_536, 65_540]);
     match op {
         13..=17 => large_to_write(rng, op, settings, size),
@@ -335,11 +345,9 @@ fn large_to_read(rng: &mut Rng, op: u8, settings: u8, size: usize) -> Request {
         }
         8 => on_bytes(8, settings, (0, 0), &vec![7; size]),
         9 => {
-            let mut bytes = vec![0xFF; 16];
-            bytes.extend(rng.pick(&[4_096u16, 4_097, 65_534, 65_535]).to_be_bytes());
-            bytes.push(1 + rng.under(5) as u8);
-            bytes.resize(rng.pick(&[4_095, 4_096, 4_097, 65_534, 65_535, 65_536, 70_000]), 0);
-            on_bytes(9, settings, (0, 0), &bytes)
+            let (claimed, kind) = (rng.pick(&[4_096, 4_097, 65_534, 65_535]), rng.under(7) as u8);
+            let given = rng.pick(&[4_095, 4_096, 4_097, 65_534, 65_535, 65_536, 70_000]);
+            on_bytes(9, settings, (0, 0), &pieces::message(0xFF, claimed, kind, given))
         }
         10..=12 => {
             let half = rng.under(size - 4);
