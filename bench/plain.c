@@ -374,16 +374,25 @@ uint64_t plain_parse_bgp_message(const uint8_t *s, size_t n) {
     return answer(claimed, claimed < n ? claimed : n, kind | flags);
 }
 
-uint64_t plain_parse_bgp_message_strict(const uint8_t *s, size_t n) {
+// A message of `most` bytes at most, and an OPEN never of more than MOST_PLAIN. A length under HEADER wraps around, and
+// is over the most too.
+INLINE uint64_t parse_strictly(const uint8_t *s, size_t n, size_t most) {
     if (n < HEADER) return refused(TOO_SHORT);
     if (!marker_is_good(s)) return refused(BAD_MARKER);
     size_t claimed = read2(s + 16);
     unsigned kind = s[18];
-    if (claimed < HEADER || claimed > MOST_PLAIN) return refused(BAD_LENGTH);
+    if (claimed - HEADER > most - HEADER) return refused(BAD_LENGTH);
     if (kind < OPEN || kind > ROUTE_REFRESH) return refused(BAD_TYPE);
     if (claimed < least_length[kind] || (kind == KEEPALIVE && claimed != HEADER)) return refused(BAD_LENGTH);
+    if (kind == OPEN && claimed > MOST_PLAIN) return refused(BAD_LENGTH);
     if (claimed > n) return refused(TOO_SHORT);
     return answer(claimed, claimed, kind | (claimed < n ? 1024 : 0));
+}
+
+uint64_t plain_parse_bgp_message_strict(const uint8_t *s, size_t n) { return parse_strictly(s, n, MOST_PLAIN); }
+
+uint64_t plain_parse_bgp_message_by_edition(const uint8_t *s, size_t n, uint8_t edition) {
+    return edition ? parse_strictly(s, n, MOST_BYTES) : parse_strictly(s, n, MOST_PLAIN);
 }
 
 // ---- AS_PATH and AGGREGATOR ----

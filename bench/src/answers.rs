@@ -1,7 +1,8 @@
 //! A library's answer to a request record of the comparison, so that answers of all sides are compared as one kind.
 
 use crate::library::Library;
-use records::{lent_of, numbers_of, sum_bytes, Answer, Lent, Request, ADD_PATH, FOUR_BYTE_AS, GUESS, IPV6, STRICT};
+use records::{lent_of, numbers_of, sum_bytes, Answer, Lent, Request};
+use records::{ADD_PATH, EXTENDED, FOUR_BYTE_AS, GUESS, IPV6, STRICT};
 
 /// The four fields of an answer word; the last is the refusal.
 pub fn fields(word: u64) -> [u64; 4] {
@@ -23,6 +24,11 @@ pub fn ipv6(request: &Request) -> u8 {
 
 pub fn add_path(request: &Request) -> u8 {
     u8::from(request.has(ADD_PATH))
+}
+
+/// 1 for RFC 8654, and 0 for RFC 4271.
+pub fn edition(request: &Request) -> u8 {
+    u8::from(request.has(EXTENDED))
 }
 
 pub fn list_settings(request: &Request) -> u8 {
@@ -93,9 +99,18 @@ fn aggregator<L: Library>(request: &Request) -> (u64, Vec<u64>) {
     (word, vec![u64::from(words[0]), u64::from(words[1]), differs])
 }
 
+/// The strict call is that of RFC 4271 by its edition too.
+fn strict_header<L: Library>(s: &[u8], edition: u8) -> u64 {
+    let word = L::parse_bgp_message_by_edition(s, edition);
+    if edition == 0 {
+        assert_eq!(word, L::parse_bgp_message_strict(s), "the strict call is by RFC 4271");
+    }
+    word
+}
+
 fn header<L: Library>(request: &Request) -> (u64, Vec<u64>) {
     let s = request.parts[0].as_slice();
-    let word = if request.has(STRICT) { L::parse_bgp_message_strict(s) } else { L::parse_bgp_message(s) };
+    let word = if request.has(STRICT) { strict_header::<L>(s, edition(request)) } else { L::parse_bgp_message(s) };
     let [claimed, taken, c, refusal] = fields(word);
     if refusal != 0 {
         return (word, vec![]);

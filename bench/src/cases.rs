@@ -8,7 +8,7 @@ use compare::inputs::captures::Capture;
 use compare::inputs::examples::{on_bytes, request, words};
 use compare::rng::Rng;
 use records::ending::say;
-use records::{Request, ADD_PATH, FOUR_BYTE_AS, GUESS, STRICT};
+use records::{Request, ADD_PATH, EXTENDED, FOUR_BYTE_AS, GUESS, STRICT};
 use std::io;
 
 /// Small lists in a batch, so that no list is learnt by heart.
@@ -142,7 +142,8 @@ impl<'a> Cases<'a> {
                 return Err(io::Error::other(format!("{name}: the crate has no answer")));
             }
         }
-        let calls = Calls::new(&often_enough(timed), Lending::Same);
+        let often = often_enough(timed);
+        let calls = Calls::new(&often, Lending::Same).in_turns(turns(kind, &often));
         self.cases.push(Case { name: name.to_string(), kind, calls });
         Ok(())
     }
@@ -318,7 +319,9 @@ impl<'a> Cases<'a> {
         keepalives.iter_mut().for_each(|read| read.parts[0][18] = 4);
         self.add("header: captures as KEEPALIVEs", Kind::Other, &keepalives)?;
         self.add("header: captures", Kind::WithoutCrate, &crate_reading)?;
-        self.add("header: captures, strict", Kind::WithoutCrate, &strict)
+        self.add("header: captures, strict", Kind::WithoutCrate, &strict)?;
+        self.add("header: captures, strict, RFC 8654", Kind::WithoutCrate, &reads(STRICT | EXTENDED))?;
+        self.add("header: long, strict, RFC 8654", Kind::WithoutCrate, &inputs::long_messages())
     }
 
     fn other_writers(&mut self) -> io::Result<()> {
@@ -345,6 +348,14 @@ fn often_enough(requests: &[Request]) -> Vec<Request> {
     let is_tiny = matches!(requests[0].op, 7..=9 | 15 | 16 | 18 | 19) && bytes / requests.len() < 1_000;
     let times = if is_tiny { TINY_CALLS.div_ceil(requests.len()) } else { 1 };
     requests.iter().cycle().take(times * requests.len()).cloned().collect()
+}
+
+/// How often a batch goes through its calls. A header's call is tiny however long the message is, and long ones are not copied.
+fn turns(kind: Kind, requests: &[Request]) -> usize {
+    match (requests[0].op, kind) {
+        (9, Kind::WithoutCrate) => TINY_CALLS.div_ceil(requests.len()),
+        _ => 1,
+    }
 }
 
 /// Requests to read ten tenths at a time as a whole, and each alone.

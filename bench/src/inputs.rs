@@ -2,8 +2,9 @@
 
 use compare::inputs::captures::Capture;
 use compare::inputs::examples::{on_bytes, request, words};
+use compare::inputs::pieces::message;
 use compare::rng::Rng;
-use records::{Lent, Request, ADD_PATH, FOUR_BYTE_AS, GUESS, IPV6, STRICT};
+use records::{Lent, Request, ADD_PATH, EXTENDED, FOUR_BYTE_AS, GUESS, IPV6, STRICT};
 
 /// The most bytes of a tenth of a list, so that ten of them are a list of the greatest size.
 const TENTH: usize = 6_553;
@@ -215,6 +216,13 @@ pub fn walk(search: &Request) -> Vec<Request> {
         walk.push(asked);
     }
     walk
+}
+
+/// The types that RFC 8654 made longer, from a byte over the old limit up to the new one.
+pub fn long_messages() -> Vec<Request> {
+    let lengths = [4_097, 4_098, 5_000, 8_192, 16_384, 32_768, 65_534, 65_535];
+    let messages = lengths.iter().flat_map(|length| [2, 3, 5].map(|kind| message(0xFF, *length, kind, *length)));
+    messages.map(|message| on_bytes(9, STRICT | EXTENDED, (0, 0), &message)).collect()
 }
 
 /// The same request by the strict rule.

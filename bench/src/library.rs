@@ -37,6 +37,9 @@ type Store = *mut u32;
 libraries! {
     fn parse_bgp_message(s: &[u8]) passes (s.as_ptr() => Bytes, s.len() => usize);
     fn parse_bgp_message_strict(s: &[u8]) passes (s.as_ptr() => Bytes, s.len() => usize);
+    fn parse_bgp_message_by_edition(s: &[u8], edition: u8) passes (
+        s.as_ptr() => Bytes, s.len() => usize, edition => u8
+    );
     fn withdrawn_part(body: &[u8]) passes (body.as_ptr() => Bytes, body.len() => usize);
     fn attribute_part(body: &[u8]) passes (body.as_ptr() => Bytes, body.len() => usize);
     fn announced_part(body: &[u8]) passes (body.as_ptr() => Bytes, body.len() => usize);

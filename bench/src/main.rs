@@ -19,7 +19,7 @@ use std::path::Path;
 use std::process::ExitCode;
 
 /// Requests of the comparison, good, damaged and refused, that all sides answer alike before any timing.
-const COMPARED: u64 = 40_000;
+const COMPARED: u64 = 42_000;
 
 /// What they are made from.
 const SEED: u64 = 7;

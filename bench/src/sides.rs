@@ -2,7 +2,7 @@
 //! Not timed: making the requests, and the handles (`Bytes`) that the crate's readers take and drop. Timed: the calls,
 //! and giving back what the crate's calls hand out.
 
-use crate::answers::{add_path, fields, four_bytes, ipv6, list_settings};
+use crate::answers::{add_path, edition, fields, four_bytes, ipv6, list_settings};
 use crate::library::Library;
 use crate::measure::{timed, Side};
 use bytes::{Bytes, BytesMut};
@@ -12,7 +12,7 @@ use crate_oracle::oracle::{messages, paths, routes};
 use crate_oracle::parser::bgp::attributes::parse_attributes;
 use crate_oracle::parser::bgp::messages::{parse_bgp_message, parse_bgp_update_message};
 use crate_oracle::parser::utils::{encode_nlri_prefixes, parse_nlri_list};
-use records::{Request, ADD_PATH, FOUR_BYTE_AS, IPV6, STRICT};
+use records::{Request, ADD_PATH, EXTENDED, FOUR_BYTE_AS, IPV6, STRICT};
 use std::cell::RefCell;
 use std::hint::black_box;
 use std::net::{IpAddr, Ipv4Addr};
@@ -27,6 +27,7 @@ pub struct Call {
     settings: u8,
     add_path: u8,
     four_bytes: u8,
+    edition: u8,
     first: Range<usize>,
     second: Range<usize>,
 }
@@ -39,6 +40,7 @@ impl Call {
             settings: list_settings(request),
             add_path: add_path(request),
             four_bytes: four_bytes(request),
+            edition: edition(request),
             first: first..first + request.room_a,
             second: second..second + request.room_b,
             request: request.clone(),
@@ -67,11 +69,12 @@ impl Stores {
     }
 }
 
-/// The calls of a case.
+/// The calls of a case, and how often a batch of a library goes through them.
 #[derive(Clone)]
 pub struct Calls {
     calls: Rc<Vec<Call>>,
     stores: Rc<RefCell<Stores>>,
+    turns: usize,
 }
 
 /// Whether each call has its own part of the stores, or all the same.
@@ -95,25 +98,33 @@ impl Calls {
         let end = |range: fn(&Call) -> usize| calls.iter().map(range).max().expect("a call");
         let (first, second) = (end(|call| call.first.end), end(|call| call.second.end));
         let stores = Stores { first: vec![1; first], second: vec![1; second], output: vec![1; first] };
-        Calls { calls: Rc::new(calls), stores: Rc::new(RefCell::new(stores)) }
+        Calls { calls: Rc::new(calls), stores: Rc::new(RefCell::new(stores)), turns: 1 }
     }
 
+    /// The same calls, each made so often in a batch on the same bytes.
+    pub fn in_turns(self, turns: usize) -> Calls {
+        Calls { turns, ..self }
+    }
+
+    /// The calls of a batch.
     pub fn count(&self) -> usize {
-        self.calls.len()
+        self.turns * self.calls.len()
     }
 
     fn op(&self) -> u8 {
         self.calls[0].request.op
     }
 
-    /// A batch: the call on each request in turn.
+    /// A batch: the call on each request in turn, as often as there are turns.
     fn batch(&self, call: impl Fn(&Call, &mut Stores) -> u64 + 'static) -> Side {
         let own = self.clone();
         Box::new(move || {
             let stores = &mut *own.stores.borrow_mut();
             timed(|| {
-                for each in own.calls.iter() {
-                    black_box(call(black_box(each), stores));
+                for _ in 0..own.turns {
+                    for each in own.calls.iter() {
+                        black_box(call(black_box(each), stores));
+                    }
                 }
             })
         })
@@ -123,7 +134,8 @@ impl Calls {
     pub fn library<L: Library>(&self) -> Side {
         match self.op() {
             2 | 3 => self.lists::<L>(),
-            6..=9 => self.values::<L>(),
+            6..=8 => self.values::<L>(),
+            9 => self.headers::<L>(),
             10 | 11 => self.updates::<L>(),
             18 | 19 => self.attributes::<L>(),
             _ => self.writers::<L>(),
@@ -139,7 +151,7 @@ impl Calls {
     }
 
     fn values<L: Library>(&self) -> Side {
-        match (self.op(), self.is_strict()) {
+        match (self.op(), self.has(STRICT)) {
             (6, false) => self.batch(|call, to| {
                 let (pairs, numbers) = to.two(call);
                 L::parse_as_path(call.s(), call.four_bytes, pairs, numbers)
@@ -150,9 +162,15 @@ impl Calls {
             }),
             (7, false) => self.batch(|call, _| L::count_as_path(call.s(), call.four_bytes)),
             (7, true) => self.batch(|call, _| L::count_as_path_strict(call.s(), call.four_bytes)),
-            (8, _) => self.batch(|call, to| L::parse_aggregator(call.s(), call.four_bytes, to.two(call).0)),
-            (_, false) => self.batch(|call, _| L::parse_bgp_message(call.s())),
-            (_, true) => self.batch(|call, _| L::parse_bgp_message_strict(call.s())),
+            _ => self.batch(|call, to| L::parse_aggregator(call.s(), call.four_bytes, to.two(call).0)),
+        }
+    }
+
+    fn headers<L: Library>(&self) -> Side {
+        match (self.has(STRICT), self.has(EXTENDED)) {
+            (false, _) => self.batch(|call, _| L::parse_bgp_message(call.s())),
+            (true, false) => self.batch(|call, _| L::parse_bgp_message_strict(call.s())),
+            (true, true) => self.batch(|call, _| L::parse_bgp_message_by_edition(call.s(), call.edition)),
         }
     }
 
@@ -179,7 +197,7 @@ impl Calls {
         match self.op() {
             13 => self
                 .batch(|call, to| L::encode_nlri_prefixes(&call.words[0], call.ipv6, call.add_path, to.output(call))),
-            14 if self.is_strict() => self.batch(|call, to| {
+            14 if self.has(STRICT) => self.batch(|call, to| {
                 L::encode_as_path_strict(&call.words[0], &call.words[1], call.four_bytes, to.output(call))
             }),
             14 => self
@@ -197,12 +215,14 @@ impl Calls {
         }
     }
 
-    fn is_strict(&self) -> bool {
-        self.calls[0].request.has(STRICT)
+    /// Whether the calls have a setting: all or none of them.
+    fn has(&self, setting: u8) -> bool {
+        self.calls[0].request.has(setting)
     }
 
     /// The side of the crate.
     pub fn by_crate(&self) -> Side {
+        assert_eq!(self.turns, 1, "the crate's batch goes through its calls once");
         let afi = family(&self.calls[0].request);
         match self.op() {
             2 | 3 => self.owning(move |bytes, call| parse_nlri_list(bytes, call.has(ADD_PATH), &afi)),
