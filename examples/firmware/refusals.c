@@ -107,36 +107,113 @@ static void messages(void) {
                  refused(DOORBRAMBLE_NO_ROOM));
 }
 
-/* The header's table of lengths: the least and the most that the crate's reading, the strict one and the writer take of each type. */
+/* the first bytes of a message of zeros of this type, which claims so many */
+static const uint8_t *claiming(size_t claimed, uint8_t kind) {
+    static uint8_t message[65536] = {MARKER};
+    message[16] = (uint8_t)(claimed >> 8);
+    message[17] = (uint8_t)claimed;
+    message[18] = kind;
+    return message;
+}
+
+static void editions(void) {
+    static const uint8_t marked[] = {0, MARKER, 27, 2};
+    const uint8_t kind = DOORBRAMBLE_NOTIFICATION, old = DOORBRAMBLE_RFC_4271, new = DOORBRAMBLE_RFC_8654;
+    const uint64_t truncated = refused(DOORBRAMBLE_TRUNCATED), length = refused(DOORBRAMBLE_MESSAGE_LENGTH);
+    const uint64_t marker = refused(DOORBRAMBLE_BAD_MARKER), type = refused(DOORBRAMBLE_MESSAGE_TYPE);
+    const uint8_t *message = claiming(4097, kind);
+
+    check_answer("by_edition: a long message", doorbramble_parse_bgp_message_by_edition(message, 4097, new), accepted(4097, 4097, kind));
+    check_answer("by_edition: bytes follow it", doorbramble_parse_bgp_message_by_edition(message, 65536, new),
+                 accepted(4097, 4097, kind + 1024));
+    check_answer("by_edition: 3 by RFC 4271", doorbramble_parse_bgp_message_by_edition(message, 4097, old), length);
+    check_answer("by_edition: 2, a byte less", doorbramble_parse_bgp_message_by_edition(message, 4096, new), truncated);
+    check_answer("by_edition: 3 by RFC 4271 before 2", doorbramble_parse_bgp_message_by_edition(message, 19, old), length);
+    check_answer("by_edition: 2, under a header", doorbramble_parse_bgp_message_by_edition(message, 18, new), truncated);
+    check_answer("by_edition: 2, of nothing", doorbramble_parse_bgp_message_by_edition(NULL, 0, new), truncated);
+    check_answer("by_edition: 6", doorbramble_parse_bgp_message_by_edition(marked, 19, new), marker);
+    check_answer("by_edition: 6 before 3", doorbramble_parse_bgp_message_by_edition(marked, 19, old), marker);
+    check_answer("by_edition: 3 before 4", doorbramble_parse_bgp_message_by_edition(claiming(18, 9), 19, new), length);
+    check_answer("by_edition: 4 before 2", doorbramble_parse_bgp_message_by_edition(claiming(65535, 9), 19, new), type);
+    check_answer("by_edition: 3 by RFC 4271 before 4", doorbramble_parse_bgp_message_by_edition(claiming(4097, 9), 19, old), length);
+    message = claiming(4097, DOORBRAMBLE_OPEN);
+    check_answer("by_edition: 3, a long OPEN", doorbramble_parse_bgp_message_by_edition(message, 4097, new), length);
+    check_answer("by_edition: 3, a long OPEN, before 2", doorbramble_parse_bgp_message_by_edition(message, 19, new), length);
+    message = claiming(65535, DOORBRAMBLE_KEEPALIVE);
+    check_answer("by_edition: 3, a long KEEPALIVE", doorbramble_parse_bgp_message_by_edition(message, 65535, new), length);
+    check_answer("by_edition: 3, a long KEEPALIVE, before 2", doorbramble_parse_bgp_message_by_edition(message, 19, new), length);
+}
+
+/* each number as the edition, of which all but 0 are RFC 8654; and as a type, of which all but five are 4 */
+static void edition_numbers(void) {
+    const uint64_t length = refused(DOORBRAMBLE_MESSAGE_LENGTH), type = refused(DOORBRAMBLE_MESSAGE_TYPE);
+    unsigned wrong = 0, wrong_types = 0, i;
+    for (i = 0; i < 256; i++) {
+        const uint64_t first = i ? accepted(4097, 4097, 2) : length, last = i ? accepted(65535, 65535, 5) : length;
+        const uint8_t number = (uint8_t)i;
+        wrong += doorbramble_parse_bgp_message_by_edition(claiming(19, 4), 19, number) != accepted(19, 19, 4);
+        wrong += doorbramble_parse_bgp_message_by_edition(claiming(4096, 2), 4096, number) != accepted(4096, 4096, 2);
+        wrong += doorbramble_parse_bgp_message_by_edition(claiming(4097, 2), 4097, number) != first;
+        wrong += doorbramble_parse_bgp_message_by_edition(claiming(65535, 5), 65535, number) != last;
+        wrong += doorbramble_parse_bgp_message_by_edition(claiming(4097, 1), 4097, number) != length;
+        wrong += doorbramble_parse_bgp_message_by_edition(claiming(4097, 6), 4097, number) != (i ? type : length);
+        if (1 <= i && i <= 5)
+            continue;
+        wrong_types += doorbramble_parse_bgp_message_by_edition(claiming(19, number), 19, DOORBRAMBLE_RFC_4271) != type;
+        wrong_types += doorbramble_parse_bgp_message_by_edition(claiming(65535, number), 65535, DOORBRAMBLE_RFC_4271) != length;
+        wrong_types += doorbramble_parse_bgp_message_by_edition(claiming(19, number), 19, DOORBRAMBLE_RFC_8654) != type;
+        wrong_types += doorbramble_parse_bgp_message_by_edition(claiming(65535, number), 65535, DOORBRAMBLE_RFC_8654) != type;
+    }
+    expect("by_edition: editions of every number", wrong == 0);
+    expect("by_edition: types of every number", wrong_types == 0);
+}
+
+/* the columns of the header's table of lengths */
+enum { BY_CRATE, BY_RFC_4271, BY_RFC_8654, WRITTEN, WAYS };
+
+/* what each way answers to a message of this type and length, and what it is to answer where it takes it */
+static void try_length(uint8_t kind, size_t claimed, uint64_t found[WAYS], uint64_t good[WAYS]) {
+    static uint8_t written[65536];
+    const uint8_t *message = claiming(claimed, kind);
+    found[BY_CRATE] = doorbramble_parse_bgp_message(message, 19);
+    found[BY_RFC_4271] = doorbramble_parse_bgp_message_strict(message, 65535);
+    found[BY_RFC_8654] = doorbramble_parse_bgp_message_by_edition(message, 65535, DOORBRAMBLE_RFC_8654);
+    found[WRITTEN] = claimed < 19 ? refused(DOORBRAMBLE_MESSAGE_LENGTH)
+                                  : doorbramble_encode_bgp_message(kind, message, claimed - 19, written, sizeof written);
+    good[BY_CRATE] = accepted(claimed, 19, kind + (claimed > 19 ? 512 : 0));
+    good[BY_RFC_4271] = good[BY_RFC_8654] = accepted(claimed, claimed, kind + (claimed < 65535 ? 1024 : 0));
+    good[WRITTEN] = accepted(claimed, 0, 0);
+}
+
+/* The header's table of lengths: the least and the most that each reading and the writer take of each type. */
 static void lengths(void) {
     static const struct {
         uint8_t kind;
-        unsigned least[3], most[3];
-    } types[] = {{DOORBRAMBLE_OPEN, {19, 29, 29}, {4096, 4096, 4096}},
-                 {DOORBRAMBLE_UPDATE, {19, 23, 23}, {65535, 4096, 65535}},
-                 {DOORBRAMBLE_NOTIFICATION, {19, 21, 21}, {65535, 4096, 65535}},
-                 {DOORBRAMBLE_KEEPALIVE, {19, 19, 19}, {4096, 19, 19}},
-                 {DOORBRAMBLE_ROUTE_REFRESH, {19, 23, 23}, {65535, 4096, 65535}}};
-    static uint8_t message[65536] = {MARKER}, written[65536];
-    size_t i, n;
+        unsigned least[WAYS], most[WAYS];
+    } types[] = {{DOORBRAMBLE_OPEN, {19, 29, 29, 29}, {4096, 4096, 4096, 4096}},
+                 {DOORBRAMBLE_UPDATE, {19, 23, 23, 23}, {65535, 4096, 65535, 65535}},
+                 {DOORBRAMBLE_NOTIFICATION, {19, 21, 21, 21}, {65535, 4096, 65535, 65535}},
+                 {DOORBRAMBLE_KEEPALIVE, {19, 19, 19, 19}, {4096, 19, 19, 19}},
+                 {DOORBRAMBLE_ROUTE_REFRESH, {19, 23, 23, 23}, {65535, 4096, 65535, 65535}}};
+    static const char *const whats[WAYS] = {"the lengths of a type: parse_bgp_message", "the lengths of a type: parse_bgp_message_strict",
+                                            "the lengths of a type: by_edition, RFC 8654", "the lengths of a type: encode_bgp_message"};
+    size_t i, n, way;
     for (i = 0; i < sizeof types / sizeof types[0]; i++) {
-        unsigned wrong[3] = {0, 0, 0};
+        const uint8_t kind = types[i].kind;
+        unsigned wrong[WAYS] = {0}, apart = 0;
         for (n = 0; n <= 65536; n++) {
-            uint64_t found[3];
-            message[16] = (uint8_t)(n >> 8);
-            message[17] = (uint8_t)n;
-            message[18] = types[i].kind;
-            found[0] = doorbramble_parse_bgp_message(message, 19);
-            found[1] = doorbramble_parse_bgp_message_strict(message, 65535);
-            found[2] = n < 19 ? refused(DOORBRAMBLE_MESSAGE_LENGTH)
-                              : doorbramble_encode_bgp_message(types[i].kind, message, n - 19, written, sizeof written);
-            wrong[0] += n < 65536 && (doorbramble_refusal(found[0]) == 0) != (types[i].least[0] <= n && n <= types[i].most[0]);
-            wrong[1] += n < 65536 && (doorbramble_refusal(found[1]) == 0) != (types[i].least[1] <= n && n <= types[i].most[1]);
-            wrong[2] += (doorbramble_refusal(found[2]) == 0) != (types[i].least[2] <= n && n <= types[i].most[2]);
+            uint64_t found[WAYS], good[WAYS];
+            try_length(kind, n, found, good);
+            apart += doorbramble_parse_bgp_message_by_edition(claiming(n, kind), 65535, DOORBRAMBLE_RFC_4271) != found[BY_RFC_4271];
+            /* two bytes claim 65,535 at most */
+            for (way = n < 65536 ? 0 : WRITTEN; way < WAYS; way++) {
+                const int taken = types[i].least[way] <= n && n <= types[i].most[way];
+                wrong[way] += found[way] != (taken ? good[way] : refused(DOORBRAMBLE_MESSAGE_LENGTH));
+            }
         }
-        expect("the lengths of a type: parse_bgp_message", wrong[0] == 0);
-        expect("the lengths of a type: parse_bgp_message_strict", wrong[1] == 0);
-        expect("the lengths of a type: encode_bgp_message", wrong[2] == 0);
+        for (way = 0; way < WAYS; way++)
+            expect(whats[way], wrong[way] == 0);
+        expect("the lengths of a type: by_edition, RFC 4271", apart == 0);
     }
 }
 
@@ -557,7 +634,7 @@ static void slots(void) {
 
 static void version(void) {
     uint64_t answer = doorbramble_version();
-    check_answer("version", answer, accepted(1, 2, 0));
+    check_answer("version", answer, accepted(1, 3, 0));
     expect("the version of the header", doorbramble_version_major(answer) == DOORBRAMBLE_VERSION_MAJOR &&
                                             doorbramble_version_minor(answer) == DOORBRAMBLE_VERSION_MINOR);
 }
@@ -616,6 +693,8 @@ static void limits(void) {
 int main(void) {
     clear();
     messages();
+    editions();
+    edition_numbers();
     lengths();
     updates();
     attributes();
