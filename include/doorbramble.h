@@ -172,9 +172,9 @@ uint64_t doorbramble_parse_bgp_message(const uint8_t *s, size_t s_len);
  * where under 19 or over 4,096 are claimed; 4; 3 where the type may not claim so many; 2 where they are not all there. */
 uint64_t doorbramble_parse_bgp_message_strict(const uint8_t *s, size_t s_len);
 
-/* The same by an edition: with DOORBRAMBLE_RFC_4271 it is the call above. With DOORBRAMBLE_RFC_8654 the first 3 is given where under 19 are
- * claimed, and the second where the type may not claim so many, an OPEN or a KEEPALIVE over 4,096 among them; so an unknown type is 4, however
- * many it claims. What RFC 4271 accepts RFC 8654 accepts the same. */
+/* The same by an edition; with DOORBRAMBLE_RFC_4271 it answers as the call above does. With DOORBRAMBLE_RFC_8654 the refusals are: 2 under 19
+ * bytes; 6; 3 where under 19 are claimed; 4; 3 where the type may not claim so many, as an OPEN or a KEEPALIVE over 4,096; 2 where they are not
+ * all there. What is accepted by RFC 4271 is answered the same by RFC 8654. */
 uint64_t doorbramble_parse_bgp_message_by_edition(const uint8_t *s, size_t s_len, uint8_t edition);
 
 /* A message of a type and a body, with an all-FF marker, at the front of out. Answer: bytes. Refusals: 4, 3, then 11. */
