@@ -1,5 +1,5 @@
 -- The editions of the strict reading, of calls that are given the same bytes, one by RFC 4271 and one by RFC 8654: what RFC 4271 accepts, RFC 8654 accepts
--- the same; and it alone accepts exactly the long messages. What both share, whatever the edition, stands in Cut and in Written.
+-- the same; and it alone accepts exactly the long messages. What both share, whatever the edition, stands in Cut and in Written. And how C names them.
 use Prim.Native.Nat.{ℕ, _≤_}
 use mathlib.Core.Path.{_≡_, sym, subst, _∙_}
 use mathlib.Core.Bool.{Bool, false}
@@ -12,6 +12,7 @@ use Rattle.wire.specs.Number.{Bytes}
 use Rattle.wire.specs.Refusal.{messageLength}
 use Rattle.wire.proofs.ExtentLaws.{one-part}
 use Rattle.messages.specs.Header.{messageLimit, extendedLimit, claimedOf, kindOf, strictOf, bodyAt, LongMessage}
+use Rattle.messages.specs.declared.Edition.{Edition}
 use Rattle.messages.specs.declared.Edition.the-variants.{Rfc4271, Rfc8654}
 use Rattle.messages.specs.declared.MessageAnswer.{MessageAnswer}
 use Rattle.messages.specs.declared.MessageAnswer.the-variants.{Message, Refused}
@@ -19,6 +20,15 @@ use Rattle.messages.proofs.HeaderLaws.{whole-by}
 use Rattle.messages.proofs.EditionLaws.{limits-alike, over-refused, accepted-whole, accepted-alike, alone-over, long-whole, whole-long}
 use Rattle.messages.proofs.parse_bgp_message_strict.Reads as parse_bgp_message_strict
 use Rattle.messages.proofs.message_body_strict.Reads as message_body_strict
+use Rattle.words.specs.Settings.{editionNumber}
+use Rattle.words.specs.Word.{wordOf}
+use Rattle.words.proofs.SettingsLaws.{edition-read}
+use Rattle.words.proofs.WordLaws.{told}
+use Rattle.firmware.specs.Fields.{messageFields}
+use Rattle.firmware.proofs.message.doorbramble_parse_bgp_message_strict.Reads as c_parse_bgp_message_strict
+use Rattle.firmware.proofs.message.doorbramble_parse_bgp_message_by_edition.Reads as c_parse_bgp_message_by_edition
+
+-- ---- the two editions
 
 module _ (s : _) (κs : _) (answer : _) (exit : _) (old : parse_bgp_message_strict.Learnt κs (s, (Rfc4271, tt)) answer exit)
     (κs′ : _) (answer′ : _) (exit′ : _) (new : parse_bgp_message_strict.Learnt κs′ (s, (Rfc8654, tt)) answer′ exit′) where
@@ -53,3 +63,15 @@ module _ (s : _) (κs : _) (answer : _) (exit : _) (old : parse_bgp_message_stri
   long-is-alone bytes m =
       let whole = long-whole (now s) bytes m in
       (old ∙ over-refused (now s) messageLimit extendedLimit whole (m .over), new ∙ whole-by extendedLimit (now s) whole)
+
+-- ---- in C
+
+-- the header's number of an edition is read as that edition
+pub c-by-edition : (edition : Edition) (κs : _) (s : _) (word : _) (exit : _) → c_parse_bgp_message_by_edition.Learnt κs (s, (editionNumber edition, tt)) word exit
+    → word ≡ wordOf (messageFields (strictOf edition (now s)))
+c-by-edition edition κs s word exit call = told (λ (e : Edition). messageFields (strictOf e (now s))) call (edition-read edition)
+
+-- and the call that takes none is RFC 4271's
+pub c-strict-is-old : (κs : _) (s : _) (word : _) (exit : _) → c_parse_bgp_message_strict.Learnt κs (s, tt) word exit
+    → (κs′ : _) (word′ : _) (exit′ : _) → c_parse_bgp_message_by_edition.Learnt κs′ (s, (editionNumber Rfc4271, tt)) word′ exit′ → word ≡ word′
+c-strict-is-old κs s word exit call κs′ word′ exit′ call′ = call ∙ sym (c-by-edition Rfc4271 κs′ s word′ exit′ call′)
