@@ -58,7 +58,7 @@ messageLimit = 4096
 abbrev pub extendedLimit : ℕ
 extendedLimit = 65535
 
--- what an edition of the strict reading lets a message claim, whatever its type
+-- the most that an edition of the strict reading lets a message claim, whatever its type
 abbrev pub limitOf : Edition → ℕ
 limitOf Rfc4271 = messageLimit
 limitOf Rfc8654 = extendedLimit

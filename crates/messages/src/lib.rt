@@ -122,7 +122,7 @@ fn misfit(kind: u8, n: usize) -> bool
     over_limit(kind, n)
 }
 
-// Eight bytes as one number: a sum of each in its place, which every processor's compiler makes one load of.
+// Eight bytes as one number: a sum of each in its place, which becomes one load on x86-64 and on aarch64 alike.
 fn join8(a: u8, b: u8, c: u8, d: u8, e: u8, f: u8, g: u8, h: u8) -> u64
     ensures { λ r. ⌜ r ≡ be (a ∷ b ∷ c ∷ d ∷ e ∷ f ∷ g ∷ h ∷ []) ⌝ }
 {
