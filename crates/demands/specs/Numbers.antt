@@ -605,22 +605,24 @@ abbrev pub longMessages : List Line
 longMessages =
     line (limitOf Rfc4271) 4096
     ∷ line (limitOf Rfc8654) 65535
-    -- 4,096, 4,097 and 65,535 bytes: OPEN and KEEPALIVE are not long, the others are by RFC 8654; a byte short is 2
+    -- 4,096 and 4,097 bytes, and 65,535: OPEN and KEEPALIVE are not long, the others are by RFC 8654; a byte short is 2
     ∷ line (around 1 4096) 0x020000
     ∷ line (around 1 4097) 0x030303
-    ∷ line (around 1 65535) 0x030303
+    ∷ line (byLong 1 65535 19) 3
     ∷ line (around 2 4096) 0x020000
     ∷ line (around 2 4097) 0x020000
-    ∷ line (around 2 65535) 0x020000
+    ∷ line (byLong 2 65535 65534) 2
+    ∷ line (byLong 2 65535 65535) 0
     ∷ line (around 3 4096) 0x020000
     ∷ line (around 3 4097) 0x020000
-    ∷ line (around 3 65535) 0x020000
+    ∷ line (byLong 3 65535 19) 2
     ∷ line (around 4 4096) 0x030303
     ∷ line (around 4 4097) 0x030303
-    ∷ line (around 4 65535) 0x030303
+    ∷ line (byLong 4 65535 19) 3
     ∷ line (around 5 4096) 0x020000
     ∷ line (around 5 4097) 0x020000
-    ∷ line (around 5 65535) 0x020000
+    ∷ line (byLong 5 65535 19) 2
+    ∷ line (byLong 5 65535 65535) 0
     -- the order by RFC 8654: 2; 6; 3 for a length under 19; 4, however long; 3 for the type's own length; 2
     ∷ line (numberIn (messageMeaning (strictOf Rfc8654 (zeros 18)))) 2
     ∷ line (byEdition Rfc8654 254 9 18 19) 6
