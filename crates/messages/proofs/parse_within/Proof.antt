@@ -83,10 +83,14 @@ left q =
     (simp (le-ltb _ _ (m .before .if1 .left), u .before .if2 .left, sym (o .before .outside .ensures) ∙ o .if3 .left, sym (k .before .unknown .ensures) ∙ k .if4 .left, sym (q .before .misfit .ensures) ∙ q .if5 .left))
 
 returns-6 : tie.Need-returns-6
-returns-6 c = sym (left (c .before) ∙ simp (lt-ltb _ _ (c .if6 .taken)))
+returns-6 c =
+    let claimed = c .before .before .before .before .before .before .before .before .u16-at .result in
+    sym (left (c .before) ∙ simp (lt-ltb _ claimed (c .if6 .taken)))
 
 returns-7 : tie.Need-returns-7
-returns-7 c = sym (left (c .before) ∙ simp (le-ltb _ _ (c .if6 .left)))
+returns-7 c =
+    let claimed = c .before .before .before .before .before .before .before .before .u16-at .result in
+    sym (left (c .before) ∙ simp (le-ltb _ claimed (c .if6 .left)))
 
 pub parse-within-spec : {M : Type 1} → statement M
 parse-within-spec =
