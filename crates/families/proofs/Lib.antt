@@ -1,2 +1,3 @@
 pub mod FamilyLaws
+pub mod OctetLaws
 pub mod Tight

@@ -1,14 +1,11 @@
 -- Two results that the promise of a call allows are equal, and so is what it leaves: of the ensures clauses themselves.
 use mathlib.Core.Path.{_≡_, sym, _∙_}
-use Rattle.families.proofs.max_len.Reads as max_len
 use Rattle.families.proofs.id_size.Reads as id_size
 use Rattle.families.proofs.mark_of.Reads as mark_of
 use Rattle.families.proofs.octet_count.Reads as octet_count
-use Rattle.families.proofs.item_size.Reads as item_size
 use Rattle.families.proofs.mode_of.Reads as mode_of
-
-pub tight-max-len : (κs : _) (a : _) (z z′ : _) (e e′ : _) → max_len.Learnt κs a z e → max_len.Learnt κs a z′ e′ → z ≡ z′
-tight-max-len κs a z z′ e e′ p q = p ∙ sym q
+use Rattle.families.proofs.octets.counts.Reads as counts
+use Rattle.families.proofs.octets.after.Reads as after
 
 pub tight-id-size : (κs : _) (a : _) (z z′ : _) (e e′ : _) → id_size.Learnt κs a z e → id_size.Learnt κs a z′ e′ → z ≡ z′
 tight-id-size κs a z z′ e e′ p q = p ∙ sym q
@@ -19,8 +16,11 @@ tight-mark-of κs a z z′ e e′ p q = p ∙ sym q
 pub tight-octet-count : (κs : _) (a : _) (z z′ : _) (e e′ : _) → octet_count.Learnt κs a z e → octet_count.Learnt κs a z′ e′ → z ≡ z′
 tight-octet-count κs a z z′ e e′ p q = p ∙ sym q
 
-pub tight-item-size : (κs : _) (a : _) (z z′ : _) (e e′ : _) → item_size.Learnt κs a z e → item_size.Learnt κs a z′ e′ → z ≡ z′
-tight-item-size κs a z z′ e e′ p q = p ∙ sym q
-
 pub tight-mode-of : (κs : _) (a : _) (z z′ : _) (e e′ : _) → mode_of.Learnt κs a z e → mode_of.Learnt κs a z′ e′ → z ≡ z′
 tight-mode-of κs a z z′ e e′ p q = p ∙ sym q
+
+pub tight-counts : (κs : _) (a : _) (z z′ : _) (e e′ : _) → counts.Learnt κs a z e → counts.Learnt κs a z′ e′ → z ≡ z′
+tight-counts κs a z z′ e e′ p q = p ∙ sym q
+
+pub tight-after : (κs : _) (a : _) (z z′ : _) (e e′ : _) → after.Learnt κs a z e → after.Learnt κs a z′ e′ → z ≡ z′
+tight-after κs a z z′ e e′ p q = p ∙ sym q

@@ -1,8 +1,9 @@
 // The settings of a list of routes: the family, how an item stands, Add-Path; and the numbers that they fix (RFC 4271 section 4.3,
 // RFC 7911 section 3).
 ghost use mathlib.Core.Path.{_≡_};
-ghost use Prim.Native.Nat.{_+_};
-ghost use Rattle.families.specs.Family.{maxOf, idSize, markOf, octets, modeOf};
+ghost use Rattle.families.specs.Family.{idSize, markOf, octets, modeOf};
+
+pub mod octets;
 
 // The family of a route.
 pub enum Afi {
@@ -21,16 +22,6 @@ pub enum AddPath {
     Off,
     On,
     Guess,
-}
-
-// The longest prefix of a family, in bits.
-pub fn max_len(afi: Afi) -> u8
-    ensures { λ r. ⌜ r ≡ maxOf afi ⌝ }
-{
-    match afi {
-        Afi::Ipv4 => 32,
-        Afi::Ipv6 => 128,
-    }
 }
 
 // The bytes of an id in a form.
@@ -53,18 +44,11 @@ pub fn mark_of(form: Form) -> u32
     }
 }
 
-// The octets of a prefix of that many bits.
+// The octets of a prefix of that many bits, as a writer counts them; a reader has the tables of `octets`.
 pub fn octet_count(len: u8) -> usize
     ensures { λ r. ⌜ r ≡ octets len ⌝ }
 {
     (len as usize + 7) / 8
-}
-
-// The bytes of an item of a form with a prefix of that many bits: its id, the length byte and the octets.
-pub fn item_size(len: u8, form: Form) -> usize
-    ensures { λ r. ⌜ r ≡ idSize form + 1 + octets len ⌝ }
-{
-    (len as usize + 8 * id_size(form) + 15) / 8
 }
 
 // The setting of a settings byte, as a slot has it: the lowest bit is Add-Path, and the next one the guess, which is for Add-Path off alone.
