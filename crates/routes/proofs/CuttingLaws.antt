@@ -20,7 +20,7 @@ use Rattle.families.specs.declared.Form.the-variants.{Plain, Tagged}
 use Rattle.families.specs.declared.AddPath.the-variants.{Off, Guess}
 use Rattle.routes.specs.Prefix.{itemRow}
 use Rattle.routes.specs.WellFormed.{WellFormed, NoZeroFirst}
-use Rattle.routes.specs.List.{fixed, asStep, inForm, stepOf, strange}
+use Rattle.routes.specs.List.{upTo, fixed, asStep, inForm, stepBy, stepOf, strange}
 use Rattle.routes.specs.declared.Row.{Row}
 use Rattle.routes.proofs.PrefixLaws.{Took, took-prefix}
 use Rattle.routes.proofs.ListLaws.{step-form, fixed-form, fixed-step, sound, step-took, guess-plain}
@@ -67,11 +67,11 @@ took-formed s max form used row t =
 formed-step : (max : ℕ) (form st : Form) (item rest : List ℕ) → WellFormed max form item
     → stepOf max (fixed form) st (item ++ rest) ≡ took (length item) (itemRow form item) form
 formed-step max form st item rest w =
-    fixed-step max form st (item ++ rest) ∙ ap (asStep form) (took-prefix (item ++ rest) max form (length item) (itemRow form item) (formed-took max form item rest w))
+    fixed-step (upTo max) form st (item ++ rest) ∙ ap (asStep form) (took-prefix (item ++ rest) max form (length item) (itemRow form item) (formed-took max form item rest w))
 
 -- whatever is taken under such a setting leaves its form
 left-form : (max : ℕ) (form st st′ : Form) (s : List ℕ) (used : ℕ) (row : Row) → stepOf max (fixed form) st s ≡ took used row st′ → st′ ≡ form
-left-form max form st st′ s used row e = sym (step-form max (fixed form) st st′ s used row e) ∙ fixed-form max form st s
+left-form max form st st′ s used row e = sym (step-form (upTo max) (fixed form) st st′ s used row e) ∙ fixed-form (upTo max) form st s
 
 -- so of it all holds that wire's CuttingLaws prove
 pub decides : (max : ℕ) (form : Form) → Decides (stepOf max (fixed form)) (WellFormed max form) (itemRow form)
@@ -85,12 +85,12 @@ decides max form = record {
 
 -- at a byte other than 0 the guess in Plain reads as guess off does
 guess-step : (max : ℕ) (st : Form) (s : List ℕ) → (getD s 0 0 ≡ 0 → ⊥) → stepOf max Guess Plain s ≡ stepOf max Off st s
-unfolding stepOf
-guess-step max st s h = ap (λ (f : Form). inForm max f s) (guess-plain max Plain s (rw (ne-eqb (getD s 0 0) 0 h)))
+unfolding stepBy
+guess-step max st s h = ap (λ (f : Form). inForm (upTo max) f s) (guess-plain (upTo max) Plain s (rw (ne-eqb (getD s 0 0) 0 h)))
 
 -- a refused place does not start with 0, since 00 is a whole item
 zero-item : (max : ℕ) (st : Form) (s : List ℕ) (n : ℕ) → 0 < length s → stepOf max Off st s ≡ stop n → getD s 0 0 ≡ 0 → ⊥
-unfolding stepOf inForm
+unfolding stepBy inForm
 zero-item max st [] n pos e z = not-suc-le-zero pos
 zero-item max st (b ∷ s) n pos e z =
     let item : WellFormed max Plain (0 ∷ []) = record { ident = []; len = 0; prefix = []; parts = refl; ident-size = refl; in-range = omega arith; prefix-size = refl } in

@@ -1,5 +1,6 @@
 pub mod PrefixLaws
 pub mod ListLaws
 pub mod CuttingLaws
-pub mod Seat
+pub mod TableLaws
+pub mod Carried
 pub mod Tight

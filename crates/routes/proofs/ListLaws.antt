@@ -1,10 +1,12 @@
--- Laws of a step under any setting, and of a list's answers.
+-- Laws of a step under any setting, whatever reads one item, and of a list's answers.
 -- Assumes nothing.
 use Prim.Native.Nat.{ℕ, zero, suc, _+_, _-_, _*_, _/_, _≤_, _<_}
 use mathlib.Core.Path.{_≡_, refl, sym, ap, ap₂, _∙_}
 use mathlib.Core.List.{List, [], _∷_}
 use mathlib.Core.Bool.{Bool, true, false, not}
 use lib.Dec.{eqb}
+use native.Mathlib.Nat.{lt-of-not-le}
+use native.Mathlib.Decide.{decLe}
 use native.Mathlib.Omega.{arith}
 use borrow.Author.Tests.{le-leb, lt-leb}
 use lib.ListN.{length, getD, take, drop}
@@ -14,12 +16,12 @@ use Rattle.wire.specs.Choice.{pick}
 use Rattle.wire.proofs.ChoiceLaws.{pick-leb}
 use Rattle.wire.specs.Refusal.{tooLong, oneByteSection, noRoom, pastAll, listLimit}
 use Rattle.wire.specs.Store.{laid}
-use Rattle.wire.proofs.Turn.{rest, Light, Counted, turn-fits, count-start, count-step, count-stop, count-done}
+use Rattle.wire.proofs.Turn.{Light, Counted, turn-fits, count-start, count-step, count-stop, count-done}
 use Rattle.wire.specs.Walk.{readAll, Step, took, stop, Reading, refused, tally, flat}
 use Rattle.wire.proofs.WalkLaws.{Sound, tally-one, flat-length, all-blind}
-use Rattle.routes.specs.Prefix.{itemRow, words, prefixOf}
+use Rattle.routes.specs.Prefix.{itemRow, words}
 use Rattle.routes.proofs.PrefixLaws.{Took, prefix-took, prefix-names}
-use Rattle.routes.specs.List.{asStep, inForm, plainHere, tried, guessForm, formBy, fixed, stepOf, listOf, strange, sectionOf}
+use Rattle.routes.specs.List.{Reader, upTo, asStep, inForm, plainHere, tried, guessForm, formBy, fixed, stepBy, stepOf, listBy, strange, sectionBy}
 use Rattle.routes.specs.Promises.{sized, listMeaning, rowsIn, countAnswer, hasRoom, readAnswer, storeAfter}
 use Rattle.routes.specs.Private.{sizeOf, kept}
 use Rattle.families.specs.declared.Form.{Form}
@@ -40,54 +42,78 @@ zero-ne-one e = omega arith
 
 -- ---- one step
 
--- an item that a form's step takes
-form-took : (s : List ℕ) (max : ℕ) (form : Form) (a : PrefixAnswer) (used : ℕ) (row : Row) (st : Form) → prefixOf s max form ≡ a → asStep form a ≡ took used row st → Took s max st used row
-form-took s max form (P.Prefix u r) used row st e f =
+-- what a step needs of whatever reads one item: it takes some bytes that are there, for their row, and its refusals have numbers that are told from a count
+pub record Fair (read : Reader) : Type 0 where
+  pub takes : (s : List ℕ) (form : Form) (used : ℕ) (row : Row) → read s form ≡ P.Prefix used row → (0 < used) × (used ≤ length s) × (row ≡ itemRow form (take used s))
+  pub names : (s : List ℕ) (form : Form) (n : ℕ) → read s form ≡ P.Refused n → (0 < n) × (n < pastAll)
+
+-- the item behind a step that takes one, and the refusal behind one that does not
+form-took : (form : Form) (a : PrefixAnswer) (used : ℕ) (row : Row) (st : Form) → asStep form a ≡ took used row st → (form ≡ st) × (a ≡ P.Prefix used row)
+form-took form (P.Prefix u r) used row st f =
     let size : u ≡ used = cc in
     let same : r ≡ row = cc in
     let here : form ≡ st = cc in
-    rw here at (prefix-took s max form used row (e ∙ ap₂ P.Prefix size same))
-form-took s max form (P.Refused n) used row st e f = let z : _≡_ {A = ℕ} 0 1 = cc in absurd (zero-ne-one z)
+    (here, ap₂ P.Prefix size same)
+form-took form (P.Refused n) used row st f = let z : _≡_ {A = ℕ} 0 1 = cc in absurd (zero-ne-one z)
 
-form-names : (s : List ℕ) (max : ℕ) (form : Form) (a : PrefixAnswer) (n : ℕ) → prefixOf s max form ≡ a → asStep form a ≡ stop n → (0 < n) × (n < pastAll)
-form-names s max form (P.Prefix u r) n e f = let z : _≡_ {A = ℕ} 0 1 = cc in absurd (zero-ne-one z)
-form-names s max form (P.Refused m) n e f = let same : m ≡ n = cc in prefix-names s max form n (e ∙ ap P.Refused same)
+form-stop : (form : Form) (a : PrefixAnswer) (n : ℕ) → asStep form a ≡ stop n → a ≡ P.Refused n
+form-stop form (P.Prefix u r) n f = let z : _≡_ {A = ℕ} 0 1 = cc in absurd (zero-ne-one z)
+form-stop form (P.Refused m) n f = let same : m ≡ n = cc in ap P.Refused same
 
--- the state that a step leaves is the form that its setting chose
-pub step-form : (max : ℕ) (mode : AddPath) (st st′ : Form) (s : List ℕ) (used : ℕ) (row : Row) → stepOf max mode st s ≡ took used row st′ → formBy max mode st s ≡ st′
-unfolding stepOf inForm
-step-form max mode st st′ s used row e = by (prefixOf s max (formBy max mode st s)) e
-  where
-    by : (a : PrefixAnswer) → asStep (formBy max mode st s) a ≡ took used row st′ → formBy max mode st s ≡ st′
-    by (P.Prefix u r) f = cc
-    by (P.Refused n) f = let z : _≡_ {A = ℕ} 0 1 = cc in absurd (zero-ne-one z)
+-- the state that a step leaves is the form that its setting chose, and its item is read in it
+pub step-form : (read : Reader) (mode : AddPath) (st st′ : Form) (s : List ℕ) (used : ℕ) (row : Row) → stepBy read mode st s ≡ took used row st′ → formBy read mode st s ≡ st′
+unfolding stepBy inForm
+step-form read mode st st′ s used row e = form-took (formBy read mode st s) (read s (formBy read mode st s)) used row st′ e .0
+
+pub step-item : (read : Reader) (mode : AddPath) (st st′ : Form) (s : List ℕ) (used : ℕ) (row : Row) → stepBy read mode st s ≡ took used row st′ → read s st′ ≡ P.Prefix used row
+unfolding stepBy inForm
+step-item read mode st st′ s used row e =
+    let t = form-took (formBy read mode st s) (read s (formBy read mode st s)) used row st′ e in
+    ap (read s) (sym (t .0)) ∙ t .1
+
+step-stop : (read : Reader) (mode : AddPath) (st : Form) (s : List ℕ) (n : ℕ) → stepBy read mode st s ≡ stop n → read s (formBy read mode st s) ≡ P.Refused n
+unfolding stepBy inForm
+step-stop read mode st s n e = form-stop (formBy read mode st s) (read s (formBy read mode st s)) n e
+
+module _ (read : Reader) (fair : Fair read) (mode : AddPath) where
+  pub sound-by : Sound (stepBy read mode)
+  sound-by = record {
+    takes = λ st st′ s used row e. (let t = fair .takes s st′ used row (step-item read mode st st′ s used row e) in (t .0, t .1));
+    names = λ st s n e. fair .names s (formBy read mode st s) n (step-stop read mode st s n e) .0;
+  }
+
+  -- a row weighs one in a count
+  pub light-by : Light (stepBy read mode) (λ _. 1) 1
+  light-by st st′ s used row e = omega (arith, sound-by .takes st st′ s used row e)
+
+-- ---- at most so many bits
+
+pub fair : (max : ℕ) → Fair (upTo max)
+fair max = record {
+  takes = λ s form used row e. (let t = prefix-took s max form used row e in (omega (arith, t .size), t .room, t .is));
+  names = λ s form n e. prefix-names s max form n e;
+}
+
+pub sound : (max : ℕ) (mode : AddPath) → Sound (stepOf max mode)
+sound max mode = sound-by (upTo max) (fair max) mode
+
+pub light : (max : ℕ) (mode : AddPath) → Light (stepOf max mode) (λ _. 1) 1
+light max mode = light-by (upTo max) (fair max) mode
 
 -- whatever the setting, an item that is taken is one in the form that the step leaves
 pub step-took : (max : ℕ) (mode : AddPath) (st st′ : Form) (s : List ℕ) (used : ℕ) (row : Row) → stepOf max mode st s ≡ took used row st′ → Took s max st′ used row
-unfolding stepOf inForm
-step-took max mode st st′ s used row e = form-took s max (formBy max mode st s) _ used row st′ refl e
-
-pub sound : (max : ℕ) (mode : AddPath) → Sound (stepOf max mode)
-unfolding stepOf inForm
-sound max mode = record {
-  takes = λ st st′ s used row e. (let t = form-took s max (formBy max mode st s) _ used row st′ refl e in (omega (arith, t .size), t .room));
-  names = λ st s n e. form-names s max (formBy max mode st s) _ n refl e .0;
-}
-
--- a row weighs one in a count
-pub light : (max : ℕ) (mode : AddPath) → Light (stepOf max mode) (λ _. 1) 1
-light max mode st st′ s used row e = omega (arith, sound max mode .takes st st′ s used row e)
+step-took max mode st st′ s used row e = prefix-took s max st′ used row (step-item (upTo max) mode st st′ s used row e)
 
 -- ---- an item and its size
 
-pub size-took : (s : List ℕ) (max : ℕ) (form : Form) (used : ℕ) → sizeOf (prefixOf s max form) ≡ Z.Size used → Took s max form used (itemRow form (take used s))
-size-took s max form used e = by (prefixOf s max form) refl e
+pub size-took : (read : Reader) → Fair read → (s : List ℕ) (form : Form) (used : ℕ) → sizeOf (read s form) ≡ Z.Size used → read s form ≡ P.Prefix used (itemRow form (take used s))
+size-took read fair s form used e = by (read s form) refl e
   where
-    by : (a : PrefixAnswer) → prefixOf s max form ≡ a → sizeOf a ≡ Z.Size used → Took s max form used (itemRow form (take used s))
+    by : (a : PrefixAnswer) → read s form ≡ a → sizeOf a ≡ Z.Size used → read s form ≡ P.Prefix used (itemRow form (take used s))
     by (P.Prefix u r) f g =
         let size : u ≡ used = cc in
-        let t = prefix-took s max form used r (f ∙ ap (λ (n : ℕ). P.Prefix n r) size) in
-        record { there = t .there; fits = t .fits; size = t .size; room = t .room; is = refl }
+        let here : read s form ≡ P.Prefix used r = f ∙ ap (λ (n : ℕ). P.Prefix n r) size in
+        here ∙ ap (P.Prefix used) (fair .takes s form used r here .2)
     by (P.Refused n) f g = let z : _≡_ {A = ℕ} 0 1 = cc in absurd (zero-ne-one z)
 
 pub size-refused : (a : PrefixAnswer) (n : ℕ) → sizeOf a ≡ Z.Refused n → P.Refused n ≡ a
@@ -101,28 +127,28 @@ sized-in form (P.Prefix used row) = refl
 sized-in form (P.Refused n) = refl
 
 -- the size of an item in the form that the setting chooses is that of the step
-pub size-step : (max : ℕ) (mode : AddPath) (st form : Form) (s : List ℕ) (size : SizeAnswer) → size ≡ sizeOf (prefixOf s max form) → formBy max mode st s ≡ form
-    → kept size form ≡ sized (stepOf max mode st s)
-unfolding stepOf inForm
-size-step max mode st form s size e f =
-    ap (λ (z : SizeAnswer). kept z form) e ∙ sized-in form (prefixOf s max form) ∙ ap (λ (g : Form). sized (asStep g (prefixOf s max g))) (sym f)
+pub size-step : (read : Reader) (mode : AddPath) (st form : Form) (s : List ℕ) (size : SizeAnswer) → size ≡ sizeOf (read s form) → formBy read mode st s ≡ form
+    → kept size form ≡ sized (stepBy read mode st s)
+unfolding stepBy inForm
+size-step read mode st form s size e f =
+    ap (λ (z : SizeAnswer). kept z form) e ∙ sized-in form (read s form) ∙ ap (λ (g : Form). sized (asStep g (read s g))) (sym f)
 
 -- the form of the guess: Plain at a byte other than 0, Tagged where the item is well formed so, and else Plain
-pub guess-plain : (max : ℕ) (st : Form) (s : List ℕ) → plainHere st (getD s 0 0) ≡ true → guessForm max st s ≡ Plain
+pub guess-plain : (read : Reader) (st : Form) (s : List ℕ) → plainHere st (getD s 0 0) ≡ true → guessForm read st s ≡ Plain
 unfolding guessForm
-guess-plain max st s e = rw e
+guess-plain read st s e = rw e
 
-pub guess-tagged : (max : ℕ) (st : Form) (s : List ℕ) (used : ℕ) → plainHere st (getD s 0 0) ≡ false → sizeOf (prefixOf s max Tagged) ≡ Z.Size used → guessForm max st s ≡ Tagged
+pub guess-tagged : (read : Reader) (st : Form) (s : List ℕ) (used : ℕ) → plainHere st (getD s 0 0) ≡ false → sizeOf (read s Tagged) ≡ Z.Size used → guessForm read st s ≡ Tagged
 unfolding guessForm
-guess-tagged max st s used e f = rw e (by (prefixOf s max Tagged) f)
+guess-tagged read st s used e f = rw e (by (read s Tagged) f)
   where
     by : (a : PrefixAnswer) → sizeOf a ≡ Z.Size used → tried a ≡ Tagged
     by (P.Prefix u r) g = refl
     by (P.Refused n) g = let z : _≡_ {A = ℕ} 0 1 = cc in absurd (zero-ne-one z)
 
-pub guess-else : (max : ℕ) (st : Form) (s : List ℕ) (n : ℕ) → plainHere st (getD s 0 0) ≡ false → sizeOf (prefixOf s max Tagged) ≡ Z.Refused n → guessForm max st s ≡ Plain
+pub guess-else : (read : Reader) (st : Form) (s : List ℕ) (n : ℕ) → plainHere st (getD s 0 0) ≡ false → sizeOf (read s Tagged) ≡ Z.Refused n → guessForm read st s ≡ Plain
 unfolding guessForm
-guess-else max st s n e f = rw e (by (prefixOf s max Tagged) f)
+guess-else read st s n e f = rw e (by (read s Tagged) f)
   where
     by : (a : PrefixAnswer) → sizeOf a ≡ Z.Refused n → tried a ≡ Plain
     by (P.Prefix u r) g = let z : _≡_ {A = ℕ} 0 1 = cc in absurd (zero-ne-one z)
@@ -138,23 +164,23 @@ unsize-stop (took u r f) n e = let z : _≡_ {A = ℕ} 0 1 = cc in absurd (zero-
 unsize-stop (stop m) n e = let p : m ≡ n = cc in ap stop p
 
 -- under the setting of a form every item stands in that form, whatever the state
-pub fixed-form : (max : ℕ) (form st : Form) (s : List ℕ) → formBy max (fixed form) st s ≡ form
-fixed-form max Plain st s = refl
-fixed-form max Tagged st s = refl
+pub fixed-form : (read : Reader) (form st : Form) (s : List ℕ) → formBy read (fixed form) st s ≡ form
+fixed-form read Plain st s = refl
+fixed-form read Tagged st s = refl
 
-pub size-fixed : (max : ℕ) (form : Form) (s : List ℕ) (size : SizeAnswer) → size ≡ sizeOf (prefixOf s max form) → kept size form ≡ sized (stepOf max (fixed form) form s)
-size-fixed max form s size e = size-step max (fixed form) form form s size e (fixed-form max form form s)
+pub size-fixed : (read : Reader) (form : Form) (s : List ℕ) (size : SizeAnswer) → size ≡ sizeOf (read s form) → kept size form ≡ sized (stepBy read (fixed form) form s)
+size-fixed read form s size e = size-step read (fixed form) form form s size e (fixed-form read form form s)
 
-pub fixed-step : (max : ℕ) (form st : Form) (s : List ℕ) → stepOf max (fixed form) st s ≡ asStep form (prefixOf s max form)
-unfolding stepOf inForm
-fixed-step max form st s = ap (λ (f : Form). asStep f (prefixOf s max f)) (fixed-form max form st s)
+pub fixed-step : (read : Reader) (form st : Form) (s : List ℕ) → stepBy read (fixed form) st s ≡ asStep form (read s form)
+unfolding stepBy inForm
+fixed-step read form st s = ap (λ (f : Form). asStep f (read s f)) (fixed-form read form st s)
 
 -- so that its walk may as well start in that form
-pub list-fixed : (s : List ℕ) (max : ℕ) (form : Form) → listOf s max (fixed form) ≡ readAll (stepOf max (fixed form)) form s
-unfolding listOf stepOf
-list-fixed s max form =
-    all-blind (λ st t. inForm max (formBy max (fixed form) st t) t)
-    (λ st st′ t. ap (λ (f : Form). inForm max f t) (fixed-form max form st t ∙ sym (fixed-form max form st′ t)))
+pub list-fixed : (read : Reader) (s : List ℕ) (form : Form) → listBy read s (fixed form) ≡ readAll (stepBy read (fixed form)) form s
+unfolding listBy stepBy
+list-fixed read s form =
+    all-blind (λ st t. inForm read (formBy read (fixed form) st t) t)
+    (λ st st′ t. ap (λ (f : Form). inForm read f t) (fixed-form read form st t ∙ sym (fixed-form read form st′ t)))
     Plain form s
 
 -- ---- a list's answers, over any reading
@@ -165,6 +191,21 @@ words-length = flat-length words 6 (λ _. refl)
 answer-rows : (v n m : ℕ) → answerBy v (L.Rows m) L.Refused ≡ L.Rows n → (v ≡ 0) × (m ≡ n)
 answer-rows zero n m e = (refl, cc)
 answer-rows (suc v) n m e = let z : _≡_ {A = ℕ} 0 1 = cc in absurd (zero-ne-one z)
+
+-- the number that stands for an answer, and that there is one
+abbrev numberOf : ListAnswer → ℕ
+numberOf (L.Rows n) = pastAll + n
+numberOf (L.Refused n) = n
+
+pub one-number : (n m : ℕ) → unpacked L.Rows L.Refused n ≡ unpacked L.Rows L.Refused m → n ≡ m
+one-number n m e = back n ∙ ap numberOf e ∙ sym (back m)
+  where
+    back : (k : ℕ) → k ≡ numberOf (unpacked L.Rows L.Refused k)
+    back k =
+        elim (decLe pastAll k) [
+          | yes le ↦ (let whole : k ≡ pastAll + (k - pastAll) = omega arith in whole ∙ sym (ap numberOf (unpacked-count L.Rows L.Refused k le)))
+          | no gt ↦ sym (ap numberOf (unpacked-refused L.Rows L.Refused k (lt-of-not-le gt)))
+        ]
 
 module _ (s : List ℕ) (r : Reading Row) where
   pub count-long : listLimit < length s → countAnswer s r ≡ L.Refused tooLong
@@ -236,56 +277,52 @@ module _ (s : List ℕ) (r : Reading Row) where
     unfolding readAnswer
     leave-rows n e le = leave (L.Rows n) (rw (e, le-leb n (length d / 6) le))
 
--- ---- a turn of a loop over a list, from the size read from the part `&s[at..]`
+-- ---- a turn of a loop over a list, from the size of the item at the front
 
-module _ (s : List ℕ) (at max : ℕ) (mode : AddPath) (st : Form) (r : StepAnswer) (e : r ≡ sized (stepOf max mode st (take (length s - at) (drop at s)))) where
-  here : sized (stepOf max mode st (drop at s)) ≡ r
-  here = sym (rw rest at e)
-
+module _ (read : Reader) (s : List ℕ) (mode : AddPath) (st : Form) (r : StepAnswer) (e : r ≡ sized (stepBy read mode st s)) where
   -- the item that it takes, with its row
-  pub turn-took : (used : ℕ) (form : Form) → r ≡ S.Item used form → stepOf max mode st (drop at s) ≡ took used (itemRow form (take used (drop at s))) form
-  turn-took used form f =
-      let u = unsize (stepOf max mode st (drop at s)) used form (here ∙ f) in
-      u .1 ∙ ap (λ (row : Row). took used row form) (step-took max mode st form (drop at s) used (u .0) (u .1) .is)
+  pub turn-took : Fair read → (used : ℕ) (form : Form) → r ≡ S.Item used form → stepBy read mode st s ≡ took used (itemRow form (take used s)) form
+  turn-took fair used form f =
+      let u = unsize (stepBy read mode st s) used form (sym e ∙ f) in
+      u .1 ∙ ap (λ (row : Row). took used row form) (fair .takes s form used (u .0) (step-item read mode st form s used (u .0) (u .1)) .2)
 
   -- its refusal
-  pub turn-refused : (n : ℕ) → r ≡ S.Refused n → stepOf max mode st (drop at s) ≡ stop n
-  turn-refused n f = unsize-stop (stepOf max mode st (drop at s)) n (here ∙ f)
+  pub turn-refused : (n : ℕ) → r ≡ S.Refused n → stepBy read mode st s ≡ stop n
+  turn-refused n f = unsize-stop (stepBy read mode st s) n (sym e ∙ f)
 
 -- ---- a loop that counts in one number
 
 -- at its head: the count is `pastAll` and the rows before `at`
-pub record Packed (max : ℕ) (mode : AddPath) (st₀ : Form) (s : List ℕ) (st : Form) (at count : ℕ) : Type 0 where
+pub record Packed (read : Reader) (mode : AddPath) (st₀ : Form) (s : List ℕ) (st : Form) (at count : ℕ) : Type 0 where
   pub past : pastAll ≤ count
-  pub counted : Counted (stepOf max mode) (λ _. 1) 1 st₀ s st at (count - pastAll)
+  pub counted : Counted (stepBy read mode) (λ _. 1) 1 st₀ s st at (count - pastAll)
 
-module _ (max : ℕ) (mode : AddPath) (st₀ : Form) (s : List ℕ) where
-  pub packed-start : Packed max mode st₀ s st₀ 0 pastAll
-  packed-start = record { past = omega arith; counted = count-start (stepOf max mode) (sound max mode) (λ _. 1) 1 (light max mode) st₀ s }
+module _ (read : Reader) (fair : Fair read) (mode : AddPath) (st₀ : Form) (s : List ℕ) where
+  pub packed-start : Packed read mode st₀ s st₀ 0 pastAll
+  packed-start = record { past = omega arith; counted = count-start (stepBy read mode) (sound-by read fair mode) (λ _. 1) 1 (light-by read fair mode) st₀ s }
 
-  module _ (st : Form) (at count : ℕ) (h : Packed max mode st₀ s st at count) where
-    pub packed-step : (used : ℕ) (row : Row) (st′ : Form) → stepOf max mode st (drop at s) ≡ took used row st′
-        → (0 < used) × (at + used ≤ length s) × Packed max mode st₀ s st′ (at + used) (count + 1)
+  module _ (st : Form) (at count : ℕ) (h : Packed read mode st₀ s st at count) where
+    pub packed-step : (used : ℕ) (row : Row) (st′ : Form) → stepBy read mode st (drop at s) ≡ took used row st′
+        → (0 < used) × (at + used ≤ length s) × Packed read mode st₀ s st′ (at + used) (count + 1)
     packed-step used row st′ e =
-        let fits = turn-fits (stepOf max mode) (sound max mode) s st at st′ used row e (h .counted .within) in
+        let fits = turn-fits (stepBy read mode) (sound-by read fair mode) s st at st′ used row e (h .counted .within) in
         let more : count - pastAll + 1 ≡ count + 1 - pastAll = omega (arith, h .past) in
-        let next = count-step (stepOf max mode) (sound max mode) (λ _. 1) 1 (light max mode) st₀ s st at (count - pastAll) (h .counted) st′ used row e in
+        let next = count-step (stepBy read mode) (sound-by read fair mode) (λ _. 1) 1 (light-by read fair mode) st₀ s st at (count - pastAll) (h .counted) st′ used row e in
         (fits .0, fits .1, record { past = omega (arith, h .past); counted = rw more at next })
 
     module _ (small : length s ≤ listLimit) where
-      pub packed-stop : (n : ℕ) → at < length s → stepOf max mode st (drop at s) ≡ stop n → unpacked L.Rows L.Refused n ≡ countAnswer s (readAll (stepOf max mode) st₀ s)
-      unfolding stepOf inForm
+      pub packed-stop : (n : ℕ) → at < length s → stepBy read mode st (drop at s) ≡ stop n → unpacked L.Rows L.Refused n ≡ countAnswer s (readAll (stepBy read mode) st₀ s)
       packed-stop n lt e =
-          let named = form-names (drop at s) max (formBy max mode st (drop at s)) _ n refl e in
+          let named = fair .names (drop at s) (formBy read mode st (drop at s)) n (step-stop read mode st (drop at s) n e) in
           unpacked-refused L.Rows L.Refused n (named .1)
-          ∙ sym (count-bad s (readAll (stepOf max mode) st₀ s) n small
-          (count-stop (stepOf max mode) (sound max mode) (λ _. 1) 1 (light max mode) st₀ s st at (count - pastAll) (h .counted) n lt e) (named .0))
+          ∙ sym (count-bad s (readAll (stepBy read mode) st₀ s) n small
+          (count-stop (stepBy read mode) (sound-by read fair mode) (λ _. 1) 1 (light-by read fair mode) st₀ s st at (count - pastAll) (h .counted) n lt e) (named .0))
 
-      pub packed-done : length s ≤ at → unpacked L.Rows L.Refused count ≡ countAnswer s (readAll (stepOf max mode) st₀ s)
+      pub packed-done : length s ≤ at → unpacked L.Rows L.Refused count ≡ countAnswer s (readAll (stepBy read mode) st₀ s)
       packed-done le =
           unpacked-count L.Rows L.Refused count (h .past)
-          ∙ sym (count-good s (readAll (stepOf max mode) st₀ s) (count - pastAll) small
-          (count-done (stepOf max mode) (sound max mode) (λ _. 1) 1 (light max mode) st₀ s st at (count - pastAll) (h .counted) le))
+          ∙ sym (count-good s (readAll (stepBy read mode) st₀ s) (count - pastAll) small
+          (count-done (stepBy read mode) (sound-by read fair mode) (λ _. 1) 1 (light-by read fair mode) st₀ s st at (count - pastAll) (h .counted) le))
 
 -- ---- a section
 
@@ -299,20 +336,20 @@ strange-other [] h = refl
 strange-other (b ∷ []) h = absurd (h refl)
 strange-other (b ∷ c ∷ s) h = refl
 
-pub section-strange : (s : List ℕ) (max : ℕ) (mode : AddPath) → strange s ≡ true → countAnswer s (sectionOf s max mode) ≡ L.Refused oneByteSection
-unfolding sectionOf
-section-strange [] max mode e = absurd (zero-ne-one (let z : _≡_ {A = ℕ} 0 1 = cc in z))
-section-strange (b ∷ []) max mode e = rw e (count-bad (b ∷ []) (refused oneByteSection) oneByteSection (omega arith) refl (omega arith))
-section-strange (b ∷ c ∷ s) max mode e = absurd (zero-ne-one (let z : _≡_ {A = ℕ} 0 1 = cc in z))
+pub section-strange : (read : Reader) (s : List ℕ) (mode : AddPath) → strange s ≡ true → countAnswer s (sectionBy read s mode) ≡ L.Refused oneByteSection
+unfolding sectionBy
+section-strange read [] mode e = absurd (zero-ne-one (let z : _≡_ {A = ℕ} 0 1 = cc in z))
+section-strange read (b ∷ []) mode e = rw e (count-bad (b ∷ []) (refused oneByteSection) oneByteSection (omega arith) refl (omega arith))
+section-strange read (b ∷ c ∷ s) mode e = absurd (zero-ne-one (let z : _≡_ {A = ℕ} 0 1 = cc in z))
 
-pub section-list : (s : List ℕ) (max : ℕ) (mode : AddPath) → strange s ≡ false → sectionOf s max mode ≡ listOf s max mode
-unfolding sectionOf
-section-list s max mode e = rw e
+pub section-list : (read : Reader) (s : List ℕ) (mode : AddPath) → strange s ≡ false → sectionBy read s mode ≡ listBy read s mode
+unfolding sectionBy
+section-list read s mode e = rw e
 
 -- a section that is counted is a list
-pub section-counted : (s : List ℕ) (max : ℕ) (mode : AddPath) (n : ℕ) → countAnswer s (sectionOf s max mode) ≡ L.Rows n → sectionOf s max mode ≡ listOf s max mode
-section-counted s max mode n e = by (strange s) refl
+pub section-counted : (read : Reader) (s : List ℕ) (mode : AddPath) (n : ℕ) → countAnswer s (sectionBy read s mode) ≡ L.Rows n → sectionBy read s mode ≡ listBy read s mode
+section-counted read s mode n e = by (strange s) refl
   where
-    by : (t : Bool) → strange s ≡ t → sectionOf s max mode ≡ listOf s max mode
-    by true h = let f = section-strange s max mode h in let z : _≡_ {A = ℕ} 0 1 = cc in absurd (zero-ne-one z)
-    by false h = section-list s max mode h
+    by : (t : Bool) → strange s ≡ t → sectionBy read s mode ≡ listBy read s mode
+    by true h = let f = section-strange read s mode h in let z : _≡_ {A = ℕ} 0 1 = cc in absurd (zero-ne-one z)
+    by false h = section-list read s mode h

@@ -1,4 +1,5 @@
--- A list of routes: items to the end of the bytes, under each Add-Path setting; and a section of an UPDATE.
+-- A list of routes: items to the end of the bytes, under each Add-Path setting; and a section of an UPDATE. Over any way to read one item: the RFC's is
+-- `upTo` a length.
 use Prim.Native.Nat.{ℕ}
 use mathlib.Core.List.{List, [], _∷_}
 use mathlib.Core.Bool.{Bool, false, not}
@@ -16,13 +17,21 @@ use Rattle.routes.specs.declared.Row.{Row}
 use Rattle.routes.specs.declared.PrefixAnswer.{PrefixAnswer}
 use Rattle.routes.specs.declared.PrefixAnswer.the-variants.{Prefix, Refused}
 
+-- a way to read the item at the front, in a form
+abbrev pub Reader : Type 0
+Reader = List ℕ → Form → PrefixAnswer
+
+-- that of a family whose longest prefix has max bits
+abbrev pub upTo : ℕ → Reader
+upTo max s form = prefixOf s max form
+
 -- an item read in a form, as a step that leaves that form as the state
 abbrev pub asStep : Form → PrefixAnswer → Step Form Row
 asStep form (Prefix used row) = took used row form
 asStep form (Refused n) = stop n
 
-unfoldable pub inForm : ℕ → Form → List ℕ → Step Form Row
-inForm max form s = asStep form (prefixOf s max form)
+unfoldable pub inForm : Reader → Form → List ℕ → Step Form Row
+inForm read form s = asStep form (read s form)
 
 -- Plain, at a byte other than 0
 abbrev pub plainHere : Form → ℕ → Bool
@@ -36,26 +45,32 @@ tried (Refused n) = Plain
 
 -- the form in which the guess reads the item at the front, from a state: in Plain, a byte other than 0 is read without id;
 -- elsewhere the item is tried with id, and the same place is read without id where that is not well formed
-unfoldable pub guessForm : ℕ → Form → List ℕ → Form
-guessForm max st s = pick (plainHere st (getD s 0 0)) Plain (tried (prefixOf s max Tagged))
+unfoldable pub guessForm : Reader → Form → List ℕ → Form
+guessForm read st s = pick (plainHere st (getD s 0 0)) Plain (tried (read s Tagged))
 
 -- the form in which a setting reads the item at the front
-abbrev pub formBy : ℕ → AddPath → Form → List ℕ → Form
-formBy max On st s = Tagged
-formBy max Off st s = Plain
-formBy max Guess st s = guessForm max st s
+abbrev pub formBy : Reader → AddPath → Form → List ℕ → Form
+formBy read On st s = Tagged
+formBy read Off st s = Plain
+formBy read Guess st s = guessForm read st s
 
 -- the setting under which every item stands in a form
 abbrev pub fixed : Form → AddPath
 fixed Plain = Off
 fixed Tagged = On
 
-unfoldable pub stepOf : ℕ → AddPath → Form → List ℕ → Step Form Row
-stepOf max mode st s = inForm max (formBy max mode st s) s
+unfoldable pub stepBy : Reader → AddPath → Form → List ℕ → Step Form Row
+stepBy read mode st s = inForm read (formBy read mode st s) s
+
+abbrev pub stepOf : ℕ → AddPath → Form → List ℕ → Step Form Row
+stepOf max = stepBy (upTo max)
 
 -- the rows of a list before its refusal, and the refusal's number; the walk starts in Plain
-unfoldable pub listOf : List ℕ → ℕ → AddPath → Reading Row
-listOf s max mode = readAll (stepOf max mode) Plain s
+unfoldable pub listBy : Reader → List ℕ → AddPath → Reading Row
+listBy read s mode = readAll (stepBy read mode) Plain s
+
+abbrev pub listOf : List ℕ → ℕ → AddPath → Reading Row
+listOf s max mode = listBy (upTo max) s mode
 
 -- one byte, and not 0
 abbrev pub strange : List ℕ → Bool
@@ -64,5 +79,8 @@ strange (b ∷ []) = not (eqb b 0)
 strange (b ∷ c ∷ s) = false
 
 -- a section of an UPDATE: a list, but that such a byte is refused before any item
-unfoldable pub sectionOf : List ℕ → ℕ → AddPath → Reading Row
-sectionOf s max mode = pick (strange s) (refused oneByteSection) (listOf s max mode)
+unfoldable pub sectionBy : Reader → List ℕ → AddPath → Reading Row
+sectionBy read s mode = pick (strange s) (refused oneByteSection) (listBy read s mode)
+
+abbrev pub sectionOf : List ℕ → ℕ → AddPath → Reading Row
+sectionOf s max mode = sectionBy (upTo max) s mode

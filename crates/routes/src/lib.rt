@@ -7,12 +7,14 @@ ghost use Rattle.wire.specs.Number.{beAt};
 ghost use Rattle.wire.specs.Refusal.{listLimit};
 ghost use Rattle.families.specs.Family.{maxOf, idSize};
 ghost use Rattle.routes.specs.Prefix.{itemRow, prefixOf};
+ghost use Rattle.routes.specs.ByTable.{byTable};
 ghost use Rattle.routes.specs.Private.{Bounded, sizeOf, kept};
-ghost use Rattle.routes.specs.List.{plainHere, fixed, stepOf, listOf, sectionOf, strange};
+ghost use Rattle.routes.specs.List.{plainHere, fixed, stepBy, listBy, sectionBy, listOf, sectionOf, strange};
 ghost use Rattle.routes.specs.Promises.{sized, rowsIn, verdictIn, countAnswer};
 use families::AddPath;
 use families::Afi;
 use families::Form;
+use families::octets;
 use wire::refusal;
 
 // A route as six words: length, plus 256 where there is an id; id or 0; four address words.
@@ -49,19 +51,19 @@ pub enum StepAnswer {
     Refused(u8),
 }
 
-// How many bytes the item at the front takes.
-fn front_size(s: &[u8], max: u8, form: Form) -> SizeAnswer
-    ensures { λ r. ⌜ r ≡ sizeOf (prefixOf (now (s .entry)) max form) ⌝ }
+// How many bytes the item at the front takes. Here and below, `counts` says how many octets follow a length byte.
+fn front_size(s: &[u8], counts: &[u8; 256], form: Form) -> SizeAnswer
+    ensures { λ r. ⌜ r ≡ sizeOf (byTable (now (counts .entry)) (now (s .entry)) form) ⌝ }
 {
     let k = families::id_size(form);
     if s.len() <= k {
         return SizeAnswer::Refused(refusal::TRUNCATED);
     }
-    let l = s[k];
-    if max < l {
+    let n = octets::after(counts, s[k]);
+    if n == octets::REFUSED {
         return SizeAnswer::Refused(refusal::PREFIX_LENGTH);
     }
-    let e = families::item_size(l, form);
+    let e = k + 1 + n as usize;
     if s.len() < e {
         return SizeAnswer::Refused(refusal::TRUNCATED);
     }
@@ -100,8 +102,8 @@ fn row_of(s: &[u8], e: usize, form: Form) -> Row
 pub fn try_parse_prefix(s: &[u8], afi: Afi, form: Form) -> PrefixAnswer
     ensures answer { λ r. ⌜ r ≡ prefixOf (now (s .entry)) (maxOf afi) form ⌝ }
 {
-    let max = families::max_len(afi);
-    match front_size(s, max, form) {
+    let counts = octets::counts(afi);
+    match front_size(s, &counts, form) {
         SizeAnswer::Size(used) => PrefixAnswer::Prefix {
             used,
             row: row_of(s, used, form),
@@ -131,89 +133,105 @@ fn plain_here(s: &[u8], form: Form) -> bool
 }
 
 // A step of the guess: the item is tried with an id, and else the same place is read without.
-fn guess_size(s: &[u8], max: u8, form: Form) -> StepAnswer
-    ensures { λ r. ⌜ r ≡ sized (stepOf max AddPath.Guess form (now (s .entry))) ⌝ }
+fn guess_size(s: &[u8], counts: &[u8; 256], form: Form) -> StepAnswer
+    ensures { λ r. ⌜ r ≡ sized (stepBy (byTable (now (counts .entry))) AddPath.Guess form (now (s .entry))) ⌝ }
 {
     if plain_here(s, form) {
-        return keep_size(front_size(s, max, Form::Plain), Form::Plain);
+        return keep_size(front_size(s, counts, Form::Plain), Form::Plain);
     }
-    match front_size(s, max, Form::Tagged) {
+    match front_size(s, counts, Form::Tagged) {
         SizeAnswer::Size(used) => StepAnswer::Item {
             used,
             form: Form::Tagged,
         },
-        SizeAnswer::Refused(_) => keep_size(front_size(s, max, Form::Plain), Form::Plain),
+        SizeAnswer::Refused(_) => keep_size(front_size(s, counts, Form::Plain), Form::Plain),
     }
 }
 
 // A step in one form.
-fn form_size(s: &[u8], max: u8, form: Form) -> StepAnswer
-    ensures { λ r. ⌜ r ≡ sized (stepOf max (fixed form) form (now (s .entry))) ⌝ }
+fn form_size(s: &[u8], counts: &[u8; 256], form: Form) -> StepAnswer
+    ensures { λ r. ⌜ r ≡ sized (stepBy (byTable (now (counts .entry))) (fixed form) form (now (s .entry))) ⌝ }
 {
-    keep_size(front_size(s, max, form), form)
+    keep_size(front_size(s, counts, form), form)
 }
 
 // A step under a setting.
-pub fn item_step(s: &[u8], max: u8, mode: AddPath, form: Form) -> StepAnswer
-    ensures { λ r. ⌜ r ≡ sized (stepOf max mode form (now (s .entry))) ⌝ }
+pub fn item_step(s: &[u8], counts: &[u8; 256], mode: AddPath, form: Form) -> StepAnswer
+    ensures { λ r. ⌜ r ≡ sized (stepBy (byTable (now (counts .entry))) mode form (now (s .entry))) ⌝ }
 {
     match mode {
-        AddPath::On => form_size(s, max, Form::Tagged),
-        AddPath::Off => form_size(s, max, Form::Plain),
-        AddPath::Guess => guess_size(s, max, form),
+        AddPath::On => form_size(s, counts, Form::Tagged),
+        AddPath::Off => form_size(s, counts, Form::Plain),
+        AddPath::Guess => guess_size(s, counts, form),
     }
 }
 
-// How many rows a list has whose items all stand in one form, in one number. It goes from length byte to length byte: an item that is
-// not all there is the last, and alone leaves the place elsewhere than at the end.
-fn count_form(s: &[u8], max: u8, form: Form) -> usize
+// How many rows a list has whose items all stand in one form, in one number. It carries the bytes from the octets of the item before on and how many these
+// are, so that the next length byte waits for nothing but the table.
+fn count_form(s: &[u8], counts: &[u8; 256], form: Form) -> usize
     requires { ⌜ length (now s) ≤ listLimit ⌝ }
-    ensures { λ r. ⌜ unpacked ListAnswer.Rows ListAnswer.Refused r ≡ countAnswer (now (s .entry)) (listOf (now (s .entry)) max (fixed form)) ⌝ }
+    ensures { λ r. ⌜ unpacked ListAnswer.Rows ListAnswer.Refused r ≡ countAnswer (now (s .entry)) (listBy (byTable (now (counts .entry))) (now (s .entry)) (fixed form)) ⌝ }
 {
-    let k = families::id_size(form);
-    let mut seat: usize = k;
+    let b = families::id_size(form) + 1;
+    let mut rest = s;
+    let mut n: usize = 0;
     let mut count: usize = refusal::PAST_ALL;
-    while seat < s.len() {
-        let len = s[seat];
-        if max < len {
+    while n + b <= rest.len() {
+        let next = octets::after(counts, rest[n + families::id_size(form)]);
+        if next == octets::REFUSED {
             return refusal::PREFIX_LENGTH as usize;
         }
-        seat = seat + families::item_size(len, form);
+        rest = &rest[n + b..];
+        n = next as usize;
+        if rest.len() < n {
+            return refusal::TRUNCATED as usize;
+        }
         count = count + 1;
     }
-    if seat == s.len() + k {
+    if n == rest.len() {
         count
     } else {
         refusal::TRUNCATED as usize
     }
 }
 
-// How many rows a list has by the guess, in one number.
-fn count_guess(s: &[u8], max: u8) -> usize
+// How many rows a list has by the guess, in one number; carried as in count_form.
+fn count_guess(s: &[u8], counts: &[u8; 256]) -> usize
     requires { ⌜ length (now s) ≤ listLimit ⌝ }
-    ensures { λ r. ⌜ unpacked ListAnswer.Rows ListAnswer.Refused r ≡ countAnswer (now (s .entry)) (listOf (now (s .entry)) max AddPath.Guess) ⌝ }
+    ensures { λ r. ⌜ unpacked ListAnswer.Rows ListAnswer.Refused r ≡ countAnswer (now (s .entry)) (listBy (byTable (now (counts .entry))) (now (s .entry)) AddPath.Guess) ⌝ }
 {
-    let mut at: usize = 0;
+    let mut rest = s;
+    let mut n: usize = 0;
     let mut count: usize = refusal::PAST_ALL;
     let mut form = Form::Plain;
-    while at < s.len() {
-        match guess_size(&s[at..], max, form) {
+    while n < rest.len() {
+        match guess_size(&rest[n..], counts, form) {
             StepAnswer::Item { used, form: next } => {
-                at = at + used;
+                // Each form takes its own bytes out again, so that the count from the table is carried as it is.
+                match next {
+                    Form::Plain => {
+                        rest = &rest[n + 1..];
+                        n = used - 1;
+                    }
+                    Form::Tagged => {
+                        rest = &rest[n + 5..];
+                        n = used - 5;
+                    }
+                }
                 count = count + 1;
                 form = next;
             }
-            StepAnswer::Refused(n) => {
-                return n as usize;
+            StepAnswer::Refused(why) => {
+                return why as usize;
             }
         }
     }
     count
 }
 
-// How many rows a list has under a setting, in one number.
-fn count_rows(s: &[u8], max: u8, mode: AddPath) -> usize
-    ensures { λ r. ⌜ unpacked ListAnswer.Rows ListAnswer.Refused r ≡ countAnswer (now (s .entry)) (listOf (now (s .entry)) max mode) ⌝ }
+// How many rows a list has by a table that the caller lends, with no store: in one number, which stays in a register. `counted` is the answer.
+pub fn count_list_by(s: &[u8], counts: &[u8; 256], mode: AddPath) -> usize
+    ensures answer { λ r. ⌜ unpacked ListAnswer.Rows ListAnswer.Refused r ≡ countAnswer (now (s .entry)) (listBy (byTable (now (counts .entry))) (now (s .entry)) mode) ⌝ }
 {
     // So that the slice is handed on in registers.
     let whole = &s[..];
@@ -221,25 +239,28 @@ fn count_rows(s: &[u8], max: u8, mode: AddPath) -> usize
         return refusal::TOO_LONG as usize;
     }
     match mode {
-        AddPath::On => count_form(whole, max, Form::Tagged),
-        AddPath::Off => count_form(whole, max, Form::Plain),
-        AddPath::Guess => count_guess(whole, max),
+        AddPath::On => count_form(whole, counts, Form::Tagged),
+        AddPath::Off => count_form(whole, counts, Form::Plain),
+        AddPath::Guess => count_guess(whole, counts),
     }
+}
+
+// The answer that such a number stands for.
+pub fn counted(n: usize) -> ListAnswer
+    ensures answer { λ r. ⌜ r ≡ unpacked ListAnswer.Rows ListAnswer.Refused n ⌝ }
+{
+    if n < refusal::PAST_ALL {
+        return ListAnswer::Refused(n as u8);
+    }
+    ListAnswer::Rows(n - refusal::PAST_ALL)
 }
 
 // How many rows a list has, with no store.
 pub fn count_nlri_list(s: &[u8], afi: Afi, mode: AddPath) -> ListAnswer
     ensures answer { λ r. ⌜ r ≡ countAnswer (now (s .entry)) (listOf (now (s .entry)) (maxOf afi) mode) ⌝ }
 {
-    // Two calls: so this function is copied into its callers, and the number stays in a register.
-    let n = match afi {
-        Afi::Ipv4 => count_rows(s, families::max_len(Afi::Ipv4), mode),
-        Afi::Ipv6 => count_rows(s, families::max_len(Afi::Ipv6), mode),
-    };
-    if n < refusal::PAST_ALL {
-        return ListAnswer::Refused(n as u8);
-    }
-    ListAnswer::Rows(n - refusal::PAST_ALL)
+    let counts = octets::counts(afi);
+    counted(count_list_by(s, &counts, mode))
 }
 
 // Whether a section is one byte, and not 0.
@@ -271,12 +292,21 @@ pub fn verdict_in(a: ListAnswer) -> u8
     }
 }
 
+// How many rows a section of an UPDATE has by a table that the caller lends, as count_list_by.
+pub fn count_section_by(s: &[u8], counts: &[u8; 256], mode: AddPath) -> usize
+    ensures answer { λ r. ⌜ unpacked ListAnswer.Rows ListAnswer.Refused r ≡ countAnswer (now (s .entry)) (sectionBy (byTable (now (counts .entry))) (now (s .entry)) mode) ⌝ }
+{
+    let whole = &s[..];
+    if is_strange(whole) {
+        return refusal::ONE_BYTE_SECTION as usize;
+    }
+    count_list_by(whole, counts, mode)
+}
+
 // How many rows a section of an UPDATE has, with no store.
 pub fn count_nlri(s: &[u8], afi: Afi, mode: AddPath) -> ListAnswer
     ensures answer { λ r. ⌜ r ≡ countAnswer (now (s .entry)) (sectionOf (now (s .entry)) (maxOf afi) mode) ⌝ }
 {
-    if is_strange(s) {
-        return ListAnswer::Refused(refusal::ONE_BYTE_SECTION);
-    }
-    count_nlri_list(s, afi, mode)
+    let counts = octets::counts(afi);
+    counted(count_section_by(s, &counts, mode))
 }

@@ -1,22 +1,25 @@
-use mathlib.Core.Path.{sym, _∙_}
-use Rattle.families.specs.Family.{maxOf}
-use Rattle.routes.proofs.ListLaws.{section-strange, section-list}
+use mathlib.Core.Path.{ap, _∙_}
+use Rattle.routes.specs.Promises.{countAnswer}
+use Rattle.routes.proofs.TableLaws.{section-family}
 use borrow.Author.Needs.{needs}
 use Rattle.routes.proofs.count_nlri.Statement.{statement}
 use Rattle.routes.proofs.count_nlri.Tie as tie
 
-is-strange-requires : tie.Need-is-strange-requires
-is-strange-requires c κs = search needs
+counts-requires : tie.Need-counts-requires
+counts-requires c κs = search needs
+
+count-section-by-requires : tie.Need-count-section-by-requires
+count-section-by-requires c κs = search needs
+
+counted-requires : tie.Need-counted-requires
+counted-requires c κs = search needs
 
 returns : tie.Need-returns
-returns c = let a = c .before .before .before .args in sym (section-strange (a .s .now) (maxOf (a .afi)) (a .mode) (sym (c .before .is-strange .ensures) ∙ c .if1 .taken))
-
-count-nlri-list-requires : tie.Need-count-nlri-list-requires
-count-nlri-list-requires c κs = search needs
-
-returns-2 : tie.Need-returns-2
-returns-2 c = let a = c .before .before .before .before .args in rw (section-list (a .s .now) (maxOf (a .afi)) (a .mode) (sym (c .before .before .is-strange .ensures) ∙ c .before .if1 .left)) (c .count-nlri-list .ensures)
+returns c =
+    let a = c .before .before .before .before .before .args in
+    c .counted .ensures
+    ∙ c .before .count-section-by .ensures
+    ∙ ap (countAnswer (a .s .now)) (section-family _ (a .afi) (c .before .before .before .counts .ensures) (a .s .now) (a .mode))
 
 pub count-nlri-spec : {M : Type 1} → statement M
-count-nlri-spec =
-    tie.close (tie.spec is-strange-requires returns count-nlri-list-requires returns-2)
+count-nlri-spec = tie.close (tie.spec counts-requires count-section-by-requires counted-requires returns)

@@ -1,4 +1,5 @@
 use mathlib.Core.Path.{_∙_}
+use Rattle.routes.specs.ByTable.{byTable}
 use Rattle.routes.proofs.ListLaws.{size-fixed}
 use borrow.Author.Needs.{needs}
 use Rattle.routes.proofs.form_size.Statement.{statement}
@@ -11,7 +12,7 @@ keep-size-requires : tie.Need-keep-size-requires
 keep-size-requires c κs = search needs
 
 returns : tie.Need-returns
-returns c = let a = c .before .before .before .args in c .keep-size .ensures ∙ size-fixed (a .max) (a .form) (a .s .now) _ (c .before .front-size .ensures)
+returns c = let a = c .before .before .before .args in c .keep-size .ensures ∙ size-fixed (byTable (a .counts .now)) (a .form) (a .s .now) _ (c .before .front-size .ensures)
 
 pub form-size-spec : {M : Type 1} → statement M
 form-size-spec = tie.close (tie.spec front-size-requires keep-size-requires returns)

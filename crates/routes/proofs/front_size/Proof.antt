@@ -1,10 +1,12 @@
-use mathlib.Core.Path.{_≡_, refl, sym, ap, _∙_}
+use mathlib.Core.Path.{_≡_, sym, ap, ap₂, _∙_}
 use native.Mathlib.Omega.{arith}
 use Prim.Native.Nat.{ℕ, _+_}
 use lib.ListN.{getD}
-use Rattle.families.specs.Family.{idSize, octets}
-use Rattle.routes.specs.Prefix.{itemEnd}
-use Rattle.routes.proofs.PrefixLaws.{prefix-none, prefix-long, prefix-short, took-prefix}
+use Rattle.families.specs.Family.{idSize}
+use Rattle.families.specs.Octets.{refusedLength, entry}
+use Rattle.routes.specs.ByTable.{endBy}
+use Rattle.routes.proofs.TableLaws.{table-none, table-long, table-short, table-took}
+use Rattle.routes.specs.declared.SizeAnswer.the-variants.{Size}
 use Rattle.routes.specs.Private.{sizeOf}
 use borrow.Author.Needs.{needs}
 use Rattle.routes.proofs.front_size.Statement.{statement}
@@ -14,33 +16,49 @@ id-size-requires : tie.Need-id-size-requires
 id-size-requires c κs = search needs
 
 returns : tie.Need-returns
-returns c = let a = c .before .before .before .args in sym (ap sizeOf (prefix-none (a .s .now) (a .max) (a .form) (omega arith)))
+returns c = let a = c .before .before .before .args in sym (ap sizeOf (table-none (a .counts .now) (a .s .now) (a .form) (omega arith)))
 
-shared-slice-read-l : tie.Need-shared-slice-read-l
-shared-slice-read-l c = search needs
+shared-slice-read-after : tie.Need-shared-slice-read-after
+shared-slice-read-after c = search needs
+
+after-requires : tie.Need-after-requires
+after-requires c κs = search needs
+
+-- what the table says of the length byte, and where the item ends by it
+count : (c : tie.After-after) → let a = c .before .before .before .before .before .args in c .after .result ≡ entry (a .counts .now) (getD (a .s .now) (idSize (a .form)) 0)
+count c =
+    let a = c .before .before .before .before .before .args in
+    c .after .ensures ∙ ap (λ (k : ℕ). entry (a .counts .now) (getD (a .s .now) k 0)) (c .before .before .before .id-size .ensures)
+
+end : (c : tie.After-after) → let a = c .before .before .before .before .before .args in c .before .before .before .id-size .result + 1 + c .after .result ≡ endBy (a .counts .now) (a .form) (a .s .now)
+end c = ap₂ (λ (k n : ℕ). k + 1 + n) (c .before .before .before .id-size .ensures) (count c)
 
 returns-2 : tie.Need-returns-2
 returns-2 c =
-    let a = c .before .before .before .before .before .args in
-    let k : idSize (a .form) ≡ c .before .before .before .id-size .result = sym (c .before .before .before .id-size .ensures) in
-    sym (ap sizeOf (prefix-long (a .s .now) (a .max) (a .form) (omega arith) (rw k (c .if2 .taken))))
+    let a = c .before .before .before .before .before .before .args in
+    sym (ap sizeOf (table-long (a .counts .now) (a .s .now) (a .form) (omega arith) (sym (count (c .before)) ∙ c .if2 .taken)))
 
-item-size-requires : tie.Need-item-size-requires
-item-size-requires c κs = search needs
+add-e : tie.Need-add-e
+add-e c = search needs
+
+cast-e : tie.Need-cast-e
+cast-e c = search needs
+
+add-e-2 : tie.Need-add-e-2
+add-e-2 c = search needs
 
 returns-3 : tie.Need-returns-3
 returns-3 c =
     let a = c .before .before .before .before .before .before .before .args in
-    let k : idSize (a .form) ≡ c .before .before .before .before .before .id-size .result = sym (c .before .before .before .before .before .id-size .ensures) in
-    let e : c .before .item-size .result ≡ itemEnd (a .form) (a .s .now) = c .before .item-size .ensures ∙ ap (λ (i : ℕ). idSize (a .form) + 1 + octets (getD (a .s .now) i 0)) (sym k) in
-    sym (ap sizeOf (prefix-short (a .s .now) (a .max) (a .form) (omega arith) (rw k (c .before .before .if2 .left)) (rw e at (c .if3 .taken))))
+    let known : entry (a .counts .now) (getD (a .s .now) (idSize (a .form)) 0) ≡ refusedLength → ⊥ = λ e. c .before .if2 .left (count (c .before .before) ∙ e) in
+    sym (ap sizeOf (table-short (a .counts .now) (a .s .now) (a .form) (omega arith) known (omega (arith, c .if3 .taken, end (c .before .before)))))
 
 returns-4 : tie.Need-returns-4
 returns-4 c =
     let a = c .before .before .before .before .before .before .before .args in
-    let k : idSize (a .form) ≡ c .before .before .before .before .before .id-size .result = sym (c .before .before .before .before .before .id-size .ensures) in
-    let e : c .before .item-size .result ≡ itemEnd (a .form) (a .s .now) = c .before .item-size .ensures ∙ ap (λ (i : ℕ). idSize (a .form) + 1 + octets (getD (a .s .now) i 0)) (sym k) in
-    sym (ap sizeOf (took-prefix (a .s .now) (a .max) (a .form) _ _ (record { there = omega arith; fits = rw k (c .before .before .if2 .left); size = e; room = c .if3 .left; is = refl })))
+    let known : entry (a .counts .now) (getD (a .s .now) (idSize (a .form)) 0) ≡ refusedLength → ⊥ = λ e. c .before .if2 .left (count (c .before .before) ∙ e) in
+    ap Size (end (c .before .before))
+    ∙ sym (ap sizeOf (table-took (a .counts .now) (a .s .now) (a .form) (omega arith) known (omega (arith, c .if3 .left, end (c .before .before)))))
 
 pub front-size-spec : {M : Type 1} → statement M
 front-size-spec =
@@ -48,8 +66,11 @@ front-size-spec =
     (tie.spec
     id-size-requires
     returns
-    shared-slice-read-l
+    shared-slice-read-after
+    after-requires
     returns-2
-    item-size-requires
+    add-e
+    cast-e
+    add-e-2
     returns-3
     returns-4)

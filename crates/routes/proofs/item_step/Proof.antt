@@ -1,4 +1,4 @@
-use Rattle.routes.specs.List.{stepOf}
+use Rattle.routes.specs.List.{stepBy}
 use borrow.Author.Needs.{needs}
 use Rattle.routes.proofs.item_step.Statement.{statement}
 use Rattle.routes.proofs.item_step.Tie as tie
@@ -22,11 +22,11 @@ guess-size-requires : tie.Need-guess-size-requires
 guess-size-requires c κs = search needs
 
 returns : tie.Need-returns
-unfolding stepOf
+unfolding stepBy
 returns c = rw (c .before .enum-told .given .1) (c .form-size .ensures)
 
 returns-2 : tie.Need-returns-2
-unfolding stepOf
+unfolding stepBy
 returns-2 c = rw (c .before .enum-told2 .given .1) (c .form-size2 .ensures)
 
 returns-3 : tie.Need-returns-3

@@ -1,15 +1,19 @@
-use mathlib.Core.Path.{sym, ap, _∙_}
+use mathlib.Core.Path.{_≡_, sym, ap, _∙_}
 use native.Mathlib.Omega.{arith}
+use Rattle.families.specs.Family.{maxOf}
 use Rattle.routes.specs.declared.PrefixAnswer.the-variants.{Prefix}
 use Rattle.routes.specs.Prefix.{prefixOf}
-use Rattle.routes.proofs.PrefixLaws.{took-prefix}
-use Rattle.routes.proofs.ListLaws.{size-took, size-refused}
+use Rattle.routes.specs.List.{Reader, upTo}
+use Rattle.routes.specs.Private.{sizeOf}
+use Rattle.routes.proofs.PrefixLaws.{prefix-took}
+use Rattle.routes.proofs.ListLaws.{fair, size-took, size-refused}
+use Rattle.routes.proofs.TableLaws.{item-family}
 use borrow.Author.Needs.{needs}
 use Rattle.routes.proofs.try_parse_prefix.Statement.{statement}
 use Rattle.routes.proofs.try_parse_prefix.Tie as tie
 
-max-len-requires : tie.Need-max-len-requires
-max-len-requires c κs = search needs
+counts-requires : tie.Need-counts-requires
+counts-requires c κs = search needs
 
 front-size-requires : tie.Need-front-size-requires
 front-size-requires c κs = search needs
@@ -17,10 +21,17 @@ front-size-requires c κs = search needs
 enum-known-used : tie.Need-enum-known-used
 enum-known-used c = search needs
 
+-- the size, as the RFC has it
+size : (c : tie.After-front-size) → let a = c .before .before .before .before .args in sizeOf (prefixOf (a .s .now) (maxOf (a .afi)) (a .form)) ≡ c .front-size .result
+size c =
+    let a = c .before .before .before .before .args in
+    sym (c .front-size .ensures ∙ ap (λ (read : Reader). sizeOf (read (a .s .now) (a .form))) (item-family _ (a .afi) (c .before .before .counts .ensures)))
+
 row-of-requires : tie.Need-row-of-requires
 row-of-requires c κs =
-    let a = c .before .before .before .before .before .before .args in
-    let t = size-took (a .s .now) (c .before .before .before .before .max-len .result) (a .form) _ (sym (c .before .before .before .front-size .ensures) ∙ c .before .used .given .1) in
+    let a = c .before .before .before .before .before .before .before .args in
+    let item = size-took (upTo (maxOf (a .afi))) (fair (maxOf (a .afi))) (a .s .now) (a .form) _ (size (c .before .before .before) ∙ c .before .used .given .1) in
+    let t = prefix-took (a .s .now) (maxOf (a .afi)) (a .form) _ _ item in
     record { front = omega (arith, t .size); within = t .room }
 
 enum-known-n : tie.Need-enum-known-n
@@ -28,22 +39,20 @@ enum-known-n c = search needs
 
 returns : tie.Need-returns
 returns c =
-    let a = c .before .before .before .before .before .before .before .args in
-    let m = c .before .before .before .before .before .max-len in
-    let t = size-took (a .s .now) (m .result) (a .form) _ (sym (c .before .before .before .before .front-size .ensures) ∙ c .before .before .used .given .1) in
-    rw (← m .ensures) (ap (Prefix (c .before .before .used .given .0 .0)) (c .row-of .ensures) ∙ sym (took-prefix (a .s .now) (m .result) (a .form) _ _ t))
+    let a = c .before .before .before .before .before .before .before .before .args in
+    let item = size-took (upTo (maxOf (a .afi))) (fair (maxOf (a .afi))) (a .s .now) (a .form) _ (size (c .before .before .before .before) ∙ c .before .before .used .given .1) in
+    ap (Prefix (c .before .before .used .given .0 .0)) (c .row-of .ensures) ∙ sym item
 
 returns-2 : tie.Need-returns-2
 returns-2 c =
-    let a = c .before .before .before .before .before .before .args in
-    let m = c .before .before .before .before .max-len in
-    rw (← m .ensures) (size-refused (prefixOf (a .s .now) (m .result) (a .form)) _ (sym (c .before .before .before .front-size .ensures) ∙ c .before .n .given .1))
+    let a = c .before .before .before .before .before .before .before .args in
+    size-refused (prefixOf (a .s .now) (maxOf (a .afi)) (a .form)) _ (size (c .before .before .before) ∙ c .before .n .given .1)
 
 pub try-parse-prefix-spec : {M : Type 1} → statement M
 try-parse-prefix-spec =
     tie.close
     (tie.spec
-    max-len-requires
+    counts-requires
     front-size-requires
     enum-known-used
     row-of-requires

@@ -1,19 +1,22 @@
 use mathlib.Core.Path.{sym, _∙_}
 use native.Mathlib.Omega.{arith}
 use Rattle.wire.specs.Refusal.{tooLong}
-use Rattle.routes.specs.List.{listOf}
+use Rattle.routes.specs.List.{listBy}
+use Rattle.routes.specs.ByTable.{byTable}
 use Rattle.wire.proofs.AnswerLaws.{unpacked-refused}
 use Rattle.routes.specs.declared.ListAnswer.the-variants.{Rows, Refused}
 use Rattle.routes.proofs.ListLaws.{count-long}
 use borrow.Author.Needs.{needs}
-use Rattle.routes.proofs.count_rows.Statement.{statement}
-use Rattle.routes.proofs.count_rows.Tie as tie
+use Rattle.routes.proofs.count_list_by.Statement.{statement}
+use Rattle.routes.proofs.count_list_by.Tie as tie
 
 cast-result : tie.Need-cast-result
 cast-result c = search needs
 
 returns : tie.Need-returns
-returns c = let a = c .before .before .args in unpacked-refused Rows Refused tooLong (omega arith) ∙ sym (count-long (a .s .now) (listOf (a .s .now) (a .max) (a .mode)) (c .if1 .taken))
+returns c =
+    let a = c .before .before .args in
+    unpacked-refused Rows Refused tooLong (omega arith) ∙ sym (count-long (a .s .now) (listBy (byTable (a .counts .now)) (a .s .now) (a .mode)) (c .if1 .taken))
 
 enum-told : tie.Need-enum-told
 enum-told c = search needs
@@ -42,8 +45,8 @@ returns-3 c = rw (c .before .enum-told2 .given .1) (c .count-form2 .ensures)
 returns-4 : tie.Need-returns-4
 returns-4 c = rw (c .before .enum-told3 .given .1) (c .count-guess .ensures)
 
-pub count-rows-spec : {M : Type 1} → statement M
-count-rows-spec =
+pub count-list-by-spec : {M : Type 1} → statement M
+count-list-by-spec =
     tie.close
     (tie.spec
     cast-result
