@@ -4,20 +4,24 @@ use Prim.Native.Nat.{ℕ, _+_, _-_, _≤_, _<_}
 use mathlib.Core.Path.{_≡_, sym, ap, ap₂, _∙_}
 use mathlib.Core.List.{List, _++_}
 use native.Mathlib.Omega.{arith}
-use lib.ListN.{length, take, drop}
+use lib.ListN.{length, getD, take, drop}
 use lib.Seq.{drop-drop}
 use Rattle.wire.specs.Store.{laid}
 use Rattle.wire.proofs.StoreLaws.{length-laid, laid-laid}
 use Rattle.wire.proofs.Turn.{rest, Filled, fill-fits, fill-step, fill-takes}
 use Rattle.wire.specs.Walk.{readAll, took}
 use Rattle.families.specs.Family.{idSize, octets}
+use Rattle.families.specs.Octets.{tableOf, entry}
 use Rattle.families.specs.declared.Form.{Form}
 use Rattle.families.specs.declared.AddPath.{AddPath}
-use Rattle.routes.specs.Prefix.{itemEnd, itemRow, words}
+use Rattle.routes.specs.Prefix.{itemRow, words}
 use Rattle.routes.proofs.PrefixLaws.{Took}
 use Rattle.routes.specs.Private.{Bounded}
-use Rattle.routes.specs.List.{formBy, fixed, stepOf, listOf}
+use Rattle.routes.specs.List.{upTo, formBy, fixed, stepOf, listOf}
+use Rattle.routes.specs.ByTable.{endBy}
 use Rattle.routes.proofs.ListLaws.{sound, step-form, step-took, list-fixed}
+use Rattle.routes.proofs.TableLaws.{end-same}
+use Rattle.routes.proofs.Carried.{Behind, behind-byte}
 use Rattle.routes.specs.declared.Row.{Row}
 use Rattle.route_reader.specs.Private.{headWords, addressWords, between, Octets, Fitting}
 use Rattle.route_reader.proofs.WordsLaws.{item-words}
@@ -71,25 +75,31 @@ module _ (max : ℕ) (mode : AddPath) (st₀ : Form) (s d₀ : List ℕ) (st : F
             );
       }
 
-  -- from the item in the form that the setting chooses
-  pub turn-chosen : at < length s → (form : Form) → formBy max mode st (drop at s) ≡ form → (used : ℕ) → used ≡ itemEnd form (from s at) → Turn max mode st₀ s d₀ at to d used form
-  turn-chosen lt form chosen used size =
+  -- from the item in the form that the setting chooses, whose end the table of the longest prefix says
+  pub turn-chosen : at < length s → (form : Form) → formBy (upTo max) mode st (drop at s) ≡ form → (counts : List ℕ) → counts ≡ tableOf max → max < 256 → (used : ℕ) → used ≡ endBy counts form (from s at)
+      → Turn max mode st₀ s d₀ at to d used form
+  turn-chosen lt form chosen counts table small used size =
       let x = fill-takes (stepOf max mode) (sound max mode) words st₀ s d₀ st at to d h lt in
-      let same : x .2 ≡ form = sym (step-form max mode st (x .2) (drop at s) (x .0) (x .1) (x .3)) ∙ chosen in
+      let same : x .2 ≡ form = sym (step-form (upTo max) mode st (x .2) (drop at s) (x .0) (x .1) (x .3)) ∙ chosen in
       let t : Took (drop at s) max form (x .0) (x .1) = rw same at (step-took max mode st (x .2) (drop at s) (x .0) (x .1) (x .3)) in
-      let long : x .0 ≡ used = t .size ∙ sym (rw rest at size) in
+      let long : x .0 ≡ used = t .size ∙ sym (end-same max small form (drop at s) (t .fits)) ∙ ap (λ (l : List ℕ). endBy l form (drop at s)) (sym table) ∙ sym (rw rest at size) in
       turn-by used form
       (x .3 ∙ ap (took (x .0) (x .1)) same
       ∙ ap₂ (λ (n : ℕ) (row : Row). took n row form) long (t .is ∙ ap (λ (n : ℕ). itemRow form (take n (drop at s))) long))
 
   -- the id and the length byte of an item in the form that the setting chooses are there
-  pub front-there : at < length s → (form : Form) → formBy max mode st (drop at s) ≡ form → idSize form < length (from s at)
+  pub front-there : at < length s → (form : Form) → formBy (upTo max) mode st (drop at s) ≡ form → idSize form < length (from s at)
   front-there lt form chosen =
       let x = fill-takes (stepOf max mode) (sound max mode) words st₀ s d₀ st at to d h lt in
-      let same : x .2 ≡ form = sym (step-form max mode st (x .2) (drop at s) (x .0) (x .1) (x .3)) ∙ chosen in
+      let same : x .2 ≡ form = sym (step-form (upTo max) mode st (x .2) (drop at s) (x .0) (x .1) (x .3)) ∙ chosen in
       let t : Took (drop at s) max form (x .0) (x .1) = rw same at (step-took max mode st (x .2) (drop at s) (x .0) (x .1) (x .3)) in
       rw rest (t .there)
 
+-- where the item at `at` ends, from its length byte among the bytes that are carried
+pub behind-end : (counts : List ℕ) (form : Form) (s left : List ℕ) (n at : ℕ) → Behind s left n at → (m : ℕ) → m ≡ entry counts (getD left (n + idSize form) 0) → idSize form + 1 + m ≡ endBy counts form (from s at)
+behind-end counts form s left n at h m says =
+    ap (λ (i : ℕ). idSize form + 1 + i) (says ∙ ap (entry counts) (behind-byte s left n at h (idSize form) ∙ ap (λ (l : List ℕ). getD l (idSize form) 0) (sym (rest s at))))
+
 -- a list in one form, whose walk may as well start in that form
 pub fitting-form : (s : List ℕ) (max : ℕ) (form : Form) (d : List ℕ) → Fitting (listOf s max (fixed form)) d → Fitting (readAll (stepOf max (fixed form)) form s) d
-fitting-form s max form d h = rw (list-fixed s max form) at h
+fitting-form s max form d h = rw (list-fixed (upTo max) s form) at h

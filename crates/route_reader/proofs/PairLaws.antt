@@ -10,7 +10,7 @@ use lib.ListN.{length}
 use Rattle.wire.specs.Refusal.{noRoom}
 use Rattle.wire.proofs.ChoiceLaws.{pick-any}
 use Rattle.wire.specs.Walk.{Reading}
-use Rattle.routes.specs.List.{listOf, sectionOf}
+use Rattle.routes.specs.List.{upTo, listOf, sectionOf}
 use Rattle.routes.proofs.ListLaws.{words-length, count-rows, section-counted}
 use Rattle.routes.specs.Promises.{countAnswer, hasRoom}
 use Rattle.route_reader.specs.Pair.{readPairBy}
@@ -47,7 +47,7 @@ module _ (a b : ListAnswer) (places places′ : ℕ) where
 pub counted-fits : (s : List ℕ) (max : ℕ) (mode : AddPath) (store : List ℕ) (n : ℕ) → countAnswer s (sectionOf s max mode) ≡ L.Rows n → hasRoom (L.Rows n) (length store) ≡ true
     → Fitting (listOf s max mode) store
 counted-fits s max mode store n e room =
-    let same = section-counted s max mode n e in
+    let same = section-counted (upTo max) s mode n e in
     let h = count-rows s (sectionOf s max mode) n e in
     let good : listOf s max mode .verdict ≡ 0 = sym (ap (λ (r : Reading Row). r .verdict) same) ∙ h .0 in
     let many : length (listOf s max mode .rows) ≡ n = sym (ap (λ (r : Reading Row). length (r .rows)) same) ∙ h .1 in

@@ -4,22 +4,25 @@ ghost use mathlib.Core.Path.{_≡_};
 ghost use mathlib.Core.Bool.{true};
 ghost use Prim.Native.Nat.{_+_, _-_, _≤_, _<_};
 ghost use mathlib.Core.List.{[], _∷_};
-ghost use lib.ListN.{length};
+ghost use lib.ListN.{length, drop};
 ghost use Rattle.wire.specs.Answer.{filled};
 ghost use Rattle.wire.specs.Number.{beAt};
 ghost use Rattle.wire.specs.Store.{laid};
 ghost use Rattle.wire.specs.Walk.{flat};
 ghost use Rattle.families.specs.Family.{maxOf, idSize};
+ghost use Rattle.families.specs.Octets.{tableOf};
 ghost use Rattle.families.specs.declared.Afi.the-variants.{Ipv4, Ipv6};
 ghost use Rattle.families.specs.declared.AddPath.the-variants.{Guess};
-ghost use Rattle.routes.specs.Prefix.{itemEnd, words};
-ghost use Rattle.routes.specs.List.{fixed, listOf, sectionOf};
-ghost use Rattle.routes.specs.Promises.{listMeaning, countAnswer, hasRoom, readAnswer, storeAfter};
+ghost use Rattle.routes.specs.Prefix.{words};
+ghost use Rattle.routes.specs.ByTable.{endBy, byTable};
+ghost use Rattle.routes.specs.List.{fixed, stepBy, listOf, sectionOf};
+ghost use Rattle.routes.specs.Promises.{sized, listMeaning, countAnswer, hasRoom, readAnswer, storeAfter};
 ghost use Rattle.route_reader.specs.Private.{headWords, addressWords, between, masks, Octets, Fitting};
 ghost use Rattle.route_reader.specs.Pair.{readPair, readPairFirst, readPairSecond};
 use families::AddPath;
 use families::Afi;
 use families::Form;
+use families::octets;
 use routes::ListAnswer;
 use routes::StepAnswer;
 use wire::refusal;
@@ -190,34 +193,41 @@ fn put_long(store: &mut [u32], to: usize, s: &[u8], seam: usize, end: usize, tab
 }
 
 // The bytes of the item at the front of a list that is known to be good.
-fn item_end(s: &[u8], form: Form) -> usize
+fn item_end(s: &[u8], form: Form, counts: &[u8; 256]) -> usize
     requires { ⌜ idSize form < length (now s) ⌝ }
-    ensures { λ r. ⌜ r ≡ itemEnd form (now (s .entry)) ⌝ }
+    ensures { λ r. ⌜ r ≡ endBy (now (counts .entry)) form (now (s .entry)) ⌝ }
 {
     let k = families::id_size(form);
-    families::item_size(s[k], form)
+    k + 1 + octets::after(counts, s[k]) as usize
 }
 
-// IPv4 items in one form.
-fn fill_short(s: &[u8], form: Form, store: &mut [u32])
+// IPv4 items in one form; carried as in count_form of routes.
+fn fill_short(s: &[u8], form: Form, counts: &[u8; 256], store: &mut [u32])
     requires { ⌜ Fitting (listOf (now s) (maxOf Ipv4) (fixed form)) (now store) ⌝ }
+    requires { ⌜ now counts ≡ tableOf (maxOf Ipv4) ⌝ }
     ensures { λ _. ⌜ now (store .exit) ≡ laid (now (store .entry)) 0 (flat words (listOf (now (s .entry)) (maxOf Ipv4) (fixed form) .rows)) ⌝ }
 {
     let b = families::id_size(form) + 1;
     let mut at: usize = 0;
     let mut to: usize = 0;
-    while at < s.len() {
-        let end = at + item_end(&s[at..], form);
+    let mut rest = s;
+    let mut n: usize = 0;
+    while n < rest.len() {
+        let next = octets::after(counts, rest[n + families::id_size(form)]) as usize;
+        let end = at + b + next;
         put_head(store, to, &s[at..], form);
         put_short(store, to + 2, s, at + b, end);
+        rest = &rest[n + b..];
+        n = next;
         at = end;
         to = to + 6;
     }
 }
 
 // IPv6 items in one form.
-fn fill_long(s: &[u8], form: Form, store: &mut [u32])
+fn fill_long(s: &[u8], form: Form, counts: &[u8; 256], store: &mut [u32])
     requires { ⌜ Fitting (listOf (now s) (maxOf Ipv6) (fixed form)) (now store) ⌝ }
+    requires { ⌜ now counts ≡ tableOf (maxOf Ipv6) ⌝ }
     ensures { λ _. ⌜ now (store .exit) ≡ laid (now (store .entry)) 0 (flat words (listOf (now (s .entry)) (maxOf Ipv6) (fixed form) .rows)) ⌝ }
 {
     let table = MASKS;
@@ -225,7 +235,7 @@ fn fill_long(s: &[u8], form: Form, store: &mut [u32])
     let mut at: usize = 0;
     let mut to: usize = 0;
     while at < s.len() {
-        let end = at + item_end(&s[at..], form);
+        let end = at + item_end(&s[at..], form, counts);
         put_head(store, to, &s[at..], form);
         put_long(store, to + 2, s, at + b, end, &table);
         at = end;
@@ -233,16 +243,25 @@ fn fill_long(s: &[u8], form: Form, store: &mut [u32])
     }
 }
 
+// The item at a place, by the guess.
+fn guess_at(s: &[u8], at: usize, counts: &[u8; 256], form: Form) -> StepAnswer
+    requires { ⌜ at ≤ length (now s) ⌝ }
+    ensures { λ r. ⌜ r ≡ sized (stepBy (byTable (now (counts .entry))) Guess form (drop at (now (s .entry)))) ⌝ }
+{
+    routes::item_step(&s[at..], counts, AddPath::Guess, form)
+}
+
 // IPv4 items by the guess.
-fn guess_short(s: &[u8], store: &mut [u32])
+fn guess_short(s: &[u8], counts: &[u8; 256], store: &mut [u32])
     requires { ⌜ Fitting (listOf (now s) (maxOf Ipv4) Guess) (now store) ⌝ }
+    requires { ⌜ now counts ≡ tableOf (maxOf Ipv4) ⌝ }
     ensures { λ _. ⌜ now (store .exit) ≡ laid (now (store .entry)) 0 (flat words (listOf (now (s .entry)) (maxOf Ipv4) Guess .rows)) ⌝ }
 {
     let mut at: usize = 0;
     let mut to: usize = 0;
     let mut form = Form::Plain;
     while at < s.len() {
-        match routes::item_step(&s[at..], families::max_len(Afi::Ipv4), AddPath::Guess, form) {
+        match guess_at(s, at, counts, form) {
             StepAnswer::Item { used, form: next } => {
                 let seam = at + (families::id_size(next) + 1);
                 put_head(store, to, &s[at..], next);
@@ -259,8 +278,9 @@ fn guess_short(s: &[u8], store: &mut [u32])
 }
 
 // IPv6 items by the guess.
-fn guess_long(s: &[u8], store: &mut [u32])
+fn guess_long(s: &[u8], counts: &[u8; 256], store: &mut [u32])
     requires { ⌜ Fitting (listOf (now s) (maxOf Ipv6) Guess) (now store) ⌝ }
+    requires { ⌜ now counts ≡ tableOf (maxOf Ipv6) ⌝ }
     ensures { λ _. ⌜ now (store .exit) ≡ laid (now (store .entry)) 0 (flat words (listOf (now (s .entry)) (maxOf Ipv6) Guess .rows)) ⌝ }
 {
     let table = MASKS;
@@ -268,7 +288,7 @@ fn guess_long(s: &[u8], store: &mut [u32])
     let mut to: usize = 0;
     let mut form = Form::Plain;
     while at < s.len() {
-        match routes::item_step(&s[at..], families::max_len(Afi::Ipv6), AddPath::Guess, form) {
+        match guess_at(s, at, counts, form) {
             StepAnswer::Item { used, form: next } => {
                 let seam = at + (families::id_size(next) + 1);
                 put_head(store, to, &s[at..], next);
@@ -285,43 +305,54 @@ fn guess_long(s: &[u8], store: &mut [u32])
 }
 
 // Items in one form.
-fn fill_form(s: &[u8], afi: Afi, form: Form, store: &mut [u32])
+fn fill_form(s: &[u8], afi: Afi, form: Form, counts: &[u8; 256], store: &mut [u32])
     requires { ⌜ Fitting (listOf (now s) (maxOf afi) (fixed form)) (now store) ⌝ }
+    requires { ⌜ now counts ≡ tableOf (maxOf afi) ⌝ }
     ensures { λ _. ⌜ now (store .exit) ≡ laid (now (store .entry)) 0 (flat words (listOf (now (s .entry)) (maxOf afi) (fixed form) .rows)) ⌝ }
 {
     let whole = &s[..];
     match afi {
-        Afi::Ipv4 => fill_short(whole, form, store),
-        Afi::Ipv6 => fill_long(whole, form, store),
+        Afi::Ipv4 => match form {
+            Form::Plain => fill_short(whole, Form::Plain, counts, store),
+            Form::Tagged => fill_short(whole, Form::Tagged, counts, store),
+        },
+        Afi::Ipv6 => fill_long(whole, form, counts, store),
     }
 }
 
 // Items by the guess.
-fn fill_guess(s: &[u8], afi: Afi, store: &mut [u32])
+fn fill_guess(s: &[u8], afi: Afi, counts: &[u8; 256], store: &mut [u32])
     requires { ⌜ Fitting (listOf (now s) (maxOf afi) Guess) (now store) ⌝ }
+    requires { ⌜ now counts ≡ tableOf (maxOf afi) ⌝ }
     ensures { λ _. ⌜ now (store .exit) ≡ laid (now (store .entry)) 0 (flat words (listOf (now (s .entry)) (maxOf afi) Guess .rows)) ⌝ }
 {
     let whole = &s[..];
     match afi {
-        Afi::Ipv4 => guess_short(whole, store),
-        Afi::Ipv6 => guess_long(whole, store),
+        Afi::Ipv4 => guess_short(whole, counts, store),
+        Afi::Ipv6 => guess_long(whole, counts, store),
     }
 }
 
-// The rows of a good list that has room, from the front of a store. The guess is called from two places, so that it stays apart and the rest of this is
-// copied into its callers.
-fn fill_rows(s: &[u8], afi: Afi, mode: AddPath, store: &mut [u32])
+// The rows of a good list that has room, from the front of a store. The guess is called from two places, so that it stays apart; a form that is no
+// constant here keeps the rest of this in one function.
+fn fill_rows(s: &[u8], afi: Afi, mode: AddPath, counts: &[u8; 256], store: &mut [u32])
     requires { ⌜ Fitting (listOf (now s) (maxOf afi) mode) (now store) ⌝ }
+    requires { ⌜ now counts ≡ tableOf (maxOf afi) ⌝ }
     ensures { λ _. ⌜ now (store .exit) ≡ laid (now (store .entry)) 0 (flat words (listOf (now (s .entry)) (maxOf afi) mode .rows)) ⌝ }
 {
-    match mode {
-        AddPath::On => fill_form(s, afi, Form::Tagged, store),
-        AddPath::Off => fill_form(s, afi, Form::Plain, store),
-        AddPath::Guess => match afi {
-            Afi::Ipv4 => fill_guess(s, Afi::Ipv4, store),
-            Afi::Ipv6 => fill_guess(s, Afi::Ipv6, store),
-        },
-    }
+    let whole = &s[..];
+    let form = match mode {
+        AddPath::On => Form::Tagged,
+        AddPath::Off => Form::Plain,
+        AddPath::Guess => {
+            match afi {
+                Afi::Ipv4 => fill_guess(whole, Afi::Ipv4, counts, store),
+                Afi::Ipv6 => fill_guess(whole, Afi::Ipv6, counts, store),
+            }
+            return;
+        }
+    };
+    fill_form(whole, afi, form, counts, store)
 }
 
 // A list into a lent store, six words a row.
@@ -329,12 +360,13 @@ pub fn parse_nlri_list(s: &[u8], afi: Afi, mode: AddPath, store: &mut [u32]) -> 
     ensures answer { λ r. ⌜ r ≡ readAnswer (now (s .entry)) (listOf (now (s .entry)) (maxOf afi) mode) (length (now (store .entry))) ⌝ }
     ensures store { λ _. ⌜ now (store .exit) ≡ storeAfter (now (s .entry)) (listOf (now (s .entry)) (maxOf afi) mode) (now (store .entry)) ⌝ }
 {
-    match routes::count_nlri_list(s, afi, mode) {
+    let counts = octets::counts(afi);
+    match routes::counted(routes::count_list_by(s, &counts, mode)) {
         ListAnswer::Rows(n) => {
             if store.len() / 6 < n {
                 return ListAnswer::Refused(refusal::NO_ROOM);
             }
-            fill_rows(s, afi, mode, store);
+            fill_rows(s, afi, mode, &counts, store);
             ListAnswer::Rows(n)
         }
         ListAnswer::Refused(n) => ListAnswer::Refused(n),
@@ -372,14 +404,22 @@ fn has_room(counted: ListAnswer, places: usize) -> bool
 }
 
 // The rows of a section that was counted, into a store that has room; nothing of one that was refused.
-fn fill_counted(s: &[u8], afi: Afi, mode: AddPath, counted: ListAnswer, store: &mut [u32])
+fn fill_counted(
+    s: &[u8],
+    afi: Afi,
+    mode: AddPath,
+    counts: &[u8; 256],
+    counted: ListAnswer,
+    store: &mut [u32],
+)
+    requires { ⌜ now counts ≡ tableOf (maxOf afi) ⌝ }
     requires { ⌜ counted ≡ countAnswer (now s) (sectionOf (now s) (maxOf afi) mode) ⌝ }
     requires { ⌜ hasRoom counted (length (now store)) ≡ true ⌝ }
     ensures { λ _. ⌜ now (store .exit) ≡ filled (listMeaning counted) (flat words (sectionOf (now (s .entry)) (maxOf afi) mode .rows)) (now (store .entry)) ⌝ }
 {
     match counted {
         ListAnswer::Rows(_) => {
-            fill_rows(s, afi, mode, store);
+            fill_rows(s, afi, mode, counts, store);
         }
         ListAnswer::Refused(_) => {}
     }
@@ -398,16 +438,17 @@ pub fn read_nlri_pair(
     ensures first { λ r. ⌜ now (first .exit) ≡ readPairFirst r (sectionOf (now (s .entry)) (maxOf afi) mode) (now (first .entry)) ⌝ }
     ensures second { λ r. ⌜ now (second .exit) ≡ readPairSecond r (sectionOf (now (t .entry)) (maxOf afi) mode) (now (second .entry)) ⌝ }
 {
-    let a = routes::count_nlri(s, afi, mode);
-    let b = routes::count_nlri(t, afi, mode);
+    let counts = octets::counts(afi);
+    let a = routes::counted(routes::count_section_by(s, &counts, mode));
+    let b = routes::counted(routes::count_section_by(t, &counts, mode));
     if !has_room(a, first.len()) {
         return PairAnswer::Refused(refusal::NO_ROOM);
     }
     if !has_room(b, second.len()) {
         return PairAnswer::Refused(refusal::NO_ROOM);
     }
-    fill_counted(s, afi, mode, a, first);
-    fill_counted(t, afi, mode, b, second);
+    fill_counted(s, afi, mode, &counts, a, first);
+    fill_counted(t, afi, mode, &counts, b, second);
     PairAnswer::Sections {
         first: a,
         second: b,

@@ -1,6 +1,7 @@
-use mathlib.Core.Path.{sym, ap, _∙_}
+use mathlib.Core.Path.{refl, sym, ap, _∙_}
 use lib.ListN.{length}
 use Rattle.families.specs.Family.{maxOf}
+use Rattle.routes.specs.List.{upTo}
 use Rattle.routes.specs.Promises.{hasRoom}
 use Rattle.routes.proofs.ListLaws.{section-counted}
 use Rattle.route_reader.proofs.PairLaws.{counted-fits}
@@ -17,7 +18,7 @@ fill-rows-requires c κs =
     let g = c .before .before .before .before .before in
     let a = g .args in
     let told = c .before .enum-told .given .1 in
-    counted-fits (a .s .now) (maxOf (a .afi)) (a .mode) (a .store .now) _ (sym (g .pre .0) ∙ told) (sym (ap (λ (x : ListAnswer). hasRoom x (length (a .store .now))) told) ∙ g .pre .1)
+    (counted-fits (a .s .now) (maxOf (a .afi)) (a .mode) (a .store .now) _ (sym (g .pre .1 .0) ∙ told) (sym (ap (λ (x : ListAnswer). hasRoom x (length (a .store .now))) told) ∙ g .pre .1 .1), g .pre .0)
 
 enum-told-2 : tie.Need-enum-told-2
 enum-told-2 c = search needs
@@ -30,11 +31,11 @@ returns c =
     let g = c .before .before .before .before .before .before .before .before in
     let a = g .args in
     let told = c .before .before .before .before .enum-told .given .1 in
-    let same = section-counted (a .s .now) (maxOf (a .afi)) (a .mode) _ (sym (g .pre .0) ∙ told) in
+    let same = section-counted (upTo (maxOf (a .afi))) (a .s .now) (a .mode) _ (sym (g .pre .1 .0) ∙ told) in
     rw (told, same) (c .before .before .fill-rows .ensures)
 
 returns-2 : tie.Need-returns-2
-returns-2 c = search needs
+returns-2 c = rw (c .enum-told2 .given .1) refl
 
 pub fill-counted-spec : {M : Type 1} → statement M
 fill-counted-spec =

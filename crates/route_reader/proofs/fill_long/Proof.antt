@@ -9,7 +9,7 @@ use Rattle.families.specs.Family.{maxOf}
 use Rattle.families.proofs.FamilyLaws.{id-small}
 use Rattle.families.specs.declared.Afi.the-variants.{Ipv6}
 use Rattle.routes.specs.Prefix.{words}
-use Rattle.routes.specs.List.{fixed, stepOf}
+use Rattle.routes.specs.List.{upTo, fixed, stepOf}
 use Rattle.routes.proofs.ListLaws.{sound, fixed-form, list-fixed}
 use Rattle.routes.specs.declared.Row.{Row}
 use Rattle.route_reader.specs.Private.{Octets}
@@ -19,10 +19,10 @@ use Rattle.route_reader.proofs.fill_long.Statement.{statement}
 use Rattle.route_reader.proofs.fill_long.Tie as tie
 
 abbrev Inv-loop : tie.InvT-loop
-Inv-loop s form store₀ table b at₀ to₀ store at to = Filled (stepOf (maxOf Ipv6) (fixed form)) words form s store₀ form at to store
+Inv-loop s form counts store₀ table b at₀ to₀ store at to = Filled (stepOf (maxOf Ipv6) (fixed form)) words form s store₀ form at to store
 
 abbrev μ-loop : tie.MeasureT-loop
-μ-loop s form store₀ table b at₀ to₀ store at to = length s - at
+μ-loop s form counts store₀ table b at₀ to₀ store at to = length s - at
 
 id-size-requires : tie.Need-id-size-requires Inv-loop μ-loop
 id-size-requires c κs = search needs
@@ -34,7 +34,7 @@ loop-holds : tie.Need-loop-holds Inv-loop μ-loop
 loop-holds c =
     let g = c .before .before .before in
     let a = g .args in
-    let f = fitting-form (a .s .now) (maxOf Ipv6) (a .form) (a .store .now) (g .pre) in
+    let f = fitting-form (a .s .now) (maxOf Ipv6) (a .form) (a .store .now) (g .pre .0) in
     fill-start (stepOf (maxOf Ipv6) (fixed (a .form))) (sound (maxOf Ipv6) (fixed (a .form))) words (a .form) (a .s .now) (a .store .now) (f .good) (f .room)
 
 sub-item-end : tie.Need-sub-item-end Inv-loop μ-loop
@@ -50,7 +50,7 @@ item-end-requires : tie.Need-item-end-requires Inv-loop μ-loop
 item-end-requires c κs =
     let l = c .before .before in
     let a = l .before .before .before .before .args in
-    front-there (maxOf Ipv6) (fixed (a .form)) (a .form) (a .s .now) (a .store .now) (a .form) (l .loop .at) (l .loop .to) (l .loop .store) (l .loop .inv) (c .before .loop-test .taken) (a .form) (fixed-form (maxOf Ipv6) (a .form) (a .form) _)
+    front-there (maxOf Ipv6) (fixed (a .form)) (a .form) (a .s .now) (a .store .now) (a .form) (l .loop .at) (l .loop .to) (l .loop .store) (l .loop .inv) (c .before .loop-test .taken) (a .form) (fixed-form (upTo (maxOf Ipv6)) (a .form) (a .form) _)
 
 -- the item that the turn takes
 item : (c : tie.After-item-end Inv-loop μ-loop) →
@@ -60,7 +60,7 @@ item : (c : tie.After-item-end Inv-loop μ-loop) →
 item c =
     let l = c .before .before .before in
     let a = l .before .before .before .before .args in
-    turn-chosen (maxOf Ipv6) (fixed (a .form)) (a .form) (a .s .now) (a .store .now) (a .form) (l .loop .at) (l .loop .to) (l .loop .store) (l .loop .inv) (c .before .before .loop-test .taken) (a .form) (fixed-form (maxOf Ipv6) (a .form) (a .form) _) _ (c .item-end .ensures)
+    turn-chosen (maxOf Ipv6) (fixed (a .form)) (a .form) (a .s .now) (a .store .now) (a .form) (l .loop .at) (l .loop .to) (l .loop .store) (l .loop .inv) (c .before .before .loop-test .taken) (a .form) (fixed-form (upTo (maxOf Ipv6)) (a .form) (a .form) _) (a .counts .now) (l .before .before .before .before .pre .1) (omega arith) _ (c .item-end .ensures)
 
 -- and where its octets are
 spot : (c : tie.After-item-end Inv-loop μ-loop) →
@@ -114,7 +114,7 @@ returns c =
     let l = c .before in
     let a = l .before .before .before .before .args in
     fill-done (stepOf (maxOf Ipv6) (fixed (a .form))) (sound (maxOf Ipv6) (fixed (a .form))) words (a .form) (a .s .now) (a .store .now) (a .form) (l .loop .at) (l .loop .to) (l .loop .store) (l .loop .inv) (c .loop-test .left)
-    ∙ ap (λ (r : Reading Row). laid (a .store .now) 0 (flat words (r .rows))) (sym (list-fixed (a .s .now) (maxOf Ipv6) (a .form)))
+    ∙ ap (λ (r : Reading Row). laid (a .store .now) 0 (flat words (r .rows))) (sym (list-fixed (upTo (maxOf Ipv6)) (a .s .now) (a .form)))
 
 pub fill-long-spec : {M : Type 1} → statement M
 fill-long-spec =

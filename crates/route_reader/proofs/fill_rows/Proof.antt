@@ -1,3 +1,6 @@
+use mathlib.Core.Logic.{⊎-elim}
+use mathlib.Core.Path.{_≡_, sym, ap, _∙_}
+use Rattle.routes.specs.List.{fixed}
 use borrow.Author.Needs.{needs}
 use Rattle.route_reader.proofs.fill_rows.Statement.{statement}
 use Rattle.route_reader.proofs.fill_rows.Tie as tie
@@ -5,14 +8,8 @@ use Rattle.route_reader.proofs.fill_rows.Tie as tie
 enum-told : tie.Need-enum-told
 enum-told c = search needs
 
-fill-form-requires : tie.Need-fill-form-requires
-fill-form-requires c κs = rw (c .before .enum-told .given .1) at (c .before .before .before .before .before .pre)
-
 enum-told-2 : tie.Need-enum-told-2
 enum-told-2 c = search needs
-
-fill-form-requires-2 : tie.Need-fill-form-requires-2
-fill-form-requires-2 c κs = rw (c .before .enum-told2 .given .1) at (c .before .before .before .before .before .pre)
 
 enum-told-3 : tie.Need-enum-told-3
 enum-told-3 c = search needs
@@ -33,34 +30,37 @@ same-length : tie.Need-same-length
 same-length c = search needs
 
 returns : tie.Need-returns
-returns c = rw (c .before .before .before .before .enum-told .given .1) (c .before .before .fill-form .ensures)
+returns c = rw (c .before .before .before .before .enum-told4 .given .1, c .before .before .before .before .before .before .enum-told3 .given .1) (c .before .before .fill-guess .ensures)
 
 same-length-2 : tie.Need-same-length-2
 same-length-2 c = search needs
 
 returns-2 : tie.Need-returns-2
-returns-2 c = rw (c .before .before .before .before .enum-told2 .given .1) (c .before .before .fill-form2 .ensures)
+returns-2 c = rw (c .before .before .before .before .enum-told5 .given .1, c .before .before .before .before .before .before .enum-told3 .given .1) (c .before .before .fill-guess2 .ensures)
+
+-- the form is the setting's
+chosen : (c : tie.At-match-came) → c .before .before .before .args .mode ≡ fixed (c .match .form)
+chosen c =
+    ⊎-elim
+    (λ w. w .1 .given .1 ∙ ap fixed (sym (w .2)))
+    (λ w. w .1 .given .1 ∙ ap fixed (sym (w .2)))
+    (c .match .came)
+
+fill-form-requires : tie.Need-fill-form-requires
+fill-form-requires c κs = rw (chosen (c .before)) at (c .before .before .before .before .pre)
 
 same-length-3 : tie.Need-same-length-3
 same-length-3 c = search needs
 
 returns-3 : tie.Need-returns-3
-returns-3 c = rw (c .before .before .before .before .enum-told4 .given .1, c .before .before .before .before .before .before .enum-told3 .given .1) (c .before .before .fill-guess .ensures)
-
-same-length-4 : tie.Need-same-length-4
-same-length-4 c = search needs
-
-returns-4 : tie.Need-returns-4
-returns-4 c = rw (c .before .before .before .before .enum-told5 .given .1, c .before .before .before .before .before .before .enum-told3 .given .1) (c .before .before .fill-guess2 .ensures)
+returns-3 c = rw (chosen (c .before .before .before .before)) (c .before .before .fill-form .ensures)
 
 pub fill-rows-spec : {M : Type 1} → statement M
 fill-rows-spec =
     tie.close
     (tie.spec
     enum-told
-    fill-form-requires
     enum-told-2
-    fill-form-requires-2
     enum-told-3
     enum-told-4
     fill-guess-requires
@@ -70,7 +70,6 @@ fill-rows-spec =
     returns
     same-length-2
     returns-2
+    fill-form-requires
     same-length-3
-    returns-3
-    same-length-4
-    returns-4)
+    returns-3)

@@ -1,15 +1,16 @@
 use Prim.Native.Nat.{ℕ, _+_, _-_}
 use mathlib.Core.Path.{refl, ap, _∙_}
 use native.Mathlib.Omega.{arith}
-use lib.ListN.{length, take, drop}
+use lib.ListN.{length, drop}
 use Rattle.wire.proofs.Turn.{Filled, fill-start, fill-never, fill-done}
 use Rattle.families.specs.Family.{maxOf}
 use Rattle.families.specs.declared.Afi.the-variants.{Ipv4}
 use Rattle.families.specs.declared.AddPath.the-variants.{Guess}
 use Rattle.families.specs.declared.Form.the-variants.{Plain}
 use Rattle.routes.specs.Prefix.{words}
-use Rattle.routes.specs.List.{stepOf, listOf}
-use Rattle.routes.proofs.ListLaws.{sound, turn-took, turn-refused}
+use Rattle.routes.specs.List.{upTo, stepOf, listBy}
+use Rattle.routes.proofs.ListLaws.{fair, sound, turn-took, turn-refused}
+use Rattle.routes.proofs.TableLaws.{step-family}
 use Rattle.routes.specs.Promises.{sized}
 use Rattle.route_reader.specs.Private.{Octets}
 use Rattle.route_reader.proofs.FillLaws.{Turn, turn-by}
@@ -18,54 +19,42 @@ use Rattle.route_reader.proofs.guess_short.Statement.{statement}
 use Rattle.route_reader.proofs.guess_short.Tie as tie
 
 abbrev Inv-loop : tie.InvT-loop
-Inv-loop s store₀ at₀ to₀ form₀ store at to form = Filled (stepOf (maxOf Ipv4) Guess) words Plain s store₀ form at to store
+Inv-loop s counts store₀ at₀ to₀ form₀ store at to form = Filled (stepOf (maxOf Ipv4) Guess) words Plain s store₀ form at to store
 
 abbrev μ-loop : tie.MeasureT-loop
-μ-loop s store₀ at₀ to₀ form₀ store at to form = length s - at
+μ-loop s counts store₀ at₀ to₀ form₀ store at to form = length s - at
 
 loop-holds : tie.Need-loop-holds Inv-loop μ-loop
-unfolding listOf
+unfolding listBy
 loop-holds c =
     let g = c .before .before in
-    fill-start (stepOf (maxOf Ipv4) Guess) (sound (maxOf Ipv4) Guess) words Plain (g .args .s .now) (g .args .store .now) (g .pre .good) (g .pre .room)
+    fill-start (stepOf (maxOf Ipv4) Guess) (sound (maxOf Ipv4) Guess) words Plain (g .args .s .now) (g .args .store .now) (g .pre .0 .good) (g .pre .0 .room)
 
-sub-item-step : tie.Need-sub-item-step Inv-loop μ-loop
-sub-item-step c = c .before .loop .inv .within
-
-part-item-step-start : tie.Need-part-item-step-start Inv-loop μ-loop
-part-item-step-start c = search needs
-
-part-item-step-end : tie.Need-part-item-step-end Inv-loop μ-loop
-part-item-step-end c = search needs
-
-max-len-requires : tie.Need-max-len-requires Inv-loop μ-loop
-max-len-requires c κs = search needs
-
-item-step-requires : tie.Need-item-step-requires Inv-loop μ-loop
-item-step-requires c κs = search needs
+guess-at-requires : tie.Need-guess-at-requires Inv-loop μ-loop
+guess-at-requires c κs = c .before .loop .inv .within
 
 enum-known-used : tie.Need-enum-known-used Inv-loop μ-loop
 enum-known-used c = search needs
 
 -- the item that the turn takes
 item : (c : tie.After-known-told Inv-loop μ-loop) →
-    let l = c .before .before .before .before .before .before .before in
+    let l = c .before .before .before .before .before in
     let a = l .before .before .before .args in
     Turn (maxOf Ipv4) Guess Plain (a .s .now) (a .store .now) (l .loop .at) (l .loop .to) (l .loop .store) (c .before .used .given .0 .0) (c .before .used .given .0 .1 .0)
 item c =
-    let l = c .before .before .before .before .before .before .before in
+    let l = c .before .before .before .before .before in
     let a = l .before .before .before .args in
     let at = l .loop .at in
     let form = l .loop .form in
-    let step = c .before .before .before .item-step .ensures ∙ ap (λ (max : ℕ). sized (stepOf max Guess form (take (length (a .s .now) - at) (drop at (a .s .now))))) (c .before .before .before .before .max-len .ensures) in
+    let step = c .before .before .before .guess-at .ensures ∙ ap sized (step-family (a .counts .now) Ipv4 (l .before .before .before .pre .1) Guess form (drop at (a .s .now))) in
     turn-by (maxOf Ipv4) Guess Plain (a .s .now) (a .store .now) form at (l .loop .to) (l .loop .store) (l .loop .inv) _ _
-    (turn-took (a .s .now) at (maxOf Ipv4) Guess form _ step _ _ (c .before .used .given .1))
+    (turn-took (upTo (maxOf Ipv4)) (drop at (a .s .now)) Guess form _ step (fair (maxOf Ipv4)) _ _ (c .before .used .given .1))
 
 -- and where its octets are
 spot : (c : tie.After-id-size Inv-loop μ-loop) →
-    let l = c .before .before .before .before .before .before .before .before in
+    let l = c .before .before .before .before .before .before in
     Octets 4 (l .loop .at + (c .id-size .result + 1)) (l .loop .at + c .before .before .used .given .0 .0) (l .before .before .before .args .s .now)
-spot c = let l = c .before .before .before .before .before .before .before .before in item (c .before) .place 4 _ _ (omega arith) (ap (λ (k : ℕ). l .loop .at + (k + 1)) (c .id-size .ensures)) refl
+spot c = let l = c .before .before .before .before .before .before in item (c .before) .place 4 _ _ (omega arith) (ap (λ (k : ℕ). l .loop .at + (k + 1)) (c .id-size .ensures)) refl
 
 id-size-requires : tie.Need-id-size-requires Inv-loop μ-loop
 id-size-requires c κs = search needs
@@ -77,7 +66,7 @@ add-seam-2 : tie.Need-add-seam-2 Inv-loop μ-loop
 add-seam-2 c = let o = spot c in omega (arith, o .front, o .there)
 
 sub-put-head : tie.Need-sub-put-head Inv-loop μ-loop
-sub-put-head c = c .before .before .before .before .before .before .before .before .before .loop .inv .within
+sub-put-head c = c .before .before .before .before .before .before .before .loop .inv .within
 
 part-put-head-start : tie.Need-part-put-head-start Inv-loop μ-loop
 part-put-head-start c = search needs
@@ -109,30 +98,30 @@ loop-less c = let i = item (c .before .before .before .before .before .before .b
 loop-again : tie.Need-loop-again Inv-loop μ-loop
 loop-again c =
     let k = c .before .before .before .before .before .before .before .before .before in
-    let l = c .before .before .before .before .before .before .before .before .before .before .before .before .before .before .before .before .before in
+    let l = c .before .before .before .before .before .before .before .before .before .before .before .before .before .before .before in
     item (k .before) .next _ _ _ _ (ap (λ (j : ℕ). l .loop .at + (j + 1)) (k .id-size .ensures)) refl (c .before .before .before .before .before .before .put-head .ensures) (c .before .before .put-short .ensures)
 
 enum-told : tie.Need-enum-told Inv-loop μ-loop
 enum-told c = search needs
 
 same-length : tie.Need-same-length Inv-loop μ-loop
-same-length c = c .before .before .before .before .before .before .loop .inv .long
+same-length c = c .before .before .before .before .loop .inv .long
 
 returns : tie.Need-returns Inv-loop μ-loop
 returns c =
-    let l = c .before .before .before .before .before .before in
+    let l = c .before .before .before .before in
     let a = l .before .before .before .args in
     let at = l .loop .at in
     let form = l .loop .form in
-    let step = c .before .before .item-step .ensures ∙ ap (λ (max : ℕ). sized (stepOf max Guess form (take (length (a .s .now) - at) (drop at (a .s .now))))) (c .before .before .before .max-len .ensures) in
-    absurd (fill-never (stepOf (maxOf Ipv4) Guess) (sound (maxOf Ipv4) Guess) words Plain (a .s .now) (a .store .now) form at (l .loop .to) (l .loop .store) (l .loop .inv) _ (c .before .before .before .before .before .loop-test .taken)
-    (turn-refused (a .s .now) at (maxOf Ipv4) Guess form _ step _ (c .enum-told .given .1)))
+    let step = c .before .before .guess-at .ensures ∙ ap sized (step-family (a .counts .now) Ipv4 (l .before .before .before .pre .1) Guess form (drop at (a .s .now))) in
+    absurd (fill-never (stepOf (maxOf Ipv4) Guess) (sound (maxOf Ipv4) Guess) words Plain (a .s .now) (a .store .now) form at (l .loop .to) (l .loop .store) (l .loop .inv) _ (c .before .before .before .loop-test .taken)
+    (turn-refused (upTo (maxOf Ipv4)) (drop at (a .s .now)) Guess form _ step _ (c .enum-told .given .1)))
 
 same-length-2 : tie.Need-same-length-2 Inv-loop μ-loop
 same-length-2 c = c .before .loop .inv .long
 
 returns-2 : tie.Need-returns-2 Inv-loop μ-loop
-unfolding listOf
+unfolding listBy
 returns-2 c =
     let l = c .before in
     let a = l .before .before .before .args in
@@ -145,11 +134,7 @@ guess-short-spec =
     Inv-loop
     μ-loop
     loop-holds
-    sub-item-step
-    part-item-step-start
-    part-item-step-end
-    max-len-requires
-    item-step-requires
+    guess-at-requires
     enum-known-used
     id-size-requires
     add-seam

@@ -1,6 +1,6 @@
 use mathlib.Core.Path.{sym, _∙_}
 use Rattle.families.specs.Family.{maxOf}
-use Rattle.routes.specs.List.{sectionOf}
+use Rattle.routes.specs.List.{upTo, sectionOf}
 use Rattle.routes.proofs.ListLaws.{section-strange, section-list, leave-refused}
 use borrow.Author.Needs.{needs}
 use Rattle.route_reader.proofs.read_nlri.Statement.{statement}
@@ -13,7 +13,7 @@ returns : tie.Need-returns
 returns c =
     let a = c .before .before .before .before .args in
     let strange = sym (c .before .is-strange .ensures) ∙ c .if1 .taken in
-    leave-refused (a .s .now) (sectionOf (a .s .now) (maxOf (a .afi)) (a .mode)) (a .store .now) _ (section-strange (a .s .now) (maxOf (a .afi)) (a .mode) strange)
+    leave-refused (a .s .now) (sectionOf (a .s .now) (maxOf (a .afi)) (a .mode)) (a .store .now) _ (section-strange (upTo (maxOf (a .afi))) (a .s .now) (a .mode) strange)
 
 parse-nlri-list-requires : tie.Need-parse-nlri-list-requires
 parse-nlri-list-requires c κs = search needs
@@ -25,7 +25,7 @@ returns-2 : tie.Need-returns-2
 returns-2 c =
     let a = c .before .before .before .before .before .before .before .before .args in
     let list = sym (c .before .before .before .before .before .is-strange .ensures) ∙ c .before .before .before .before .if1 .left in
-    rw (section-list (a .s .now) (maxOf (a .afi)) (a .mode) list) (c .before .before .parse-nlri-list .ensures)
+    rw (section-list (upTo (maxOf (a .afi))) (a .s .now) (a .mode) list) (c .before .before .parse-nlri-list .ensures)
 
 pub read-nlri-spec : {M : Type 1} → statement M
 read-nlri-spec =
