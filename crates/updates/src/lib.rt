@@ -11,6 +11,7 @@ ghost use Rattle.updates.specs.Body.{partsOf, withdrawnAt, attributesAt,
 ghost use Rattle.updates.specs.Update.{countUpdate, readUpdate, asUpdate, withdrawnFilled, announcedFilled, withdrawnAfter, announcedAfter};
 use families::AddPath;
 use families::Afi;
+use families::octets;
 use route_reader::PairAnswer;
 use routes::ListAnswer;
 use wire::refusal;
@@ -123,10 +124,15 @@ pub fn count_bgp_update_message(body: &[u8], mode: AddPath) -> UpdateAnswer
             withdrawn: _,
             attributes: _,
             announced: _,
-        } => UpdateAnswer::Update {
-            withdrawn: routes::count_nlri(withdrawn_part(body), Afi::Ipv4, mode),
-            announced: routes::count_nlri(announced_part(body), Afi::Ipv4, mode),
-        },
+        } => {
+            let counts = octets::counts(Afi::Ipv4);
+            let first = routes::count_section_by(withdrawn_part(body), &counts, mode);
+            let second = routes::count_section_by(announced_part(body), &counts, mode);
+            UpdateAnswer::Update {
+                withdrawn: routes::counted(first),
+                announced: routes::counted(second),
+            }
+        }
         PartsAnswer::Refused(n) => UpdateAnswer::Refused(n),
     }
 }

@@ -1,4 +1,7 @@
-use mathlib.Core.Path.{ap₂, sym, _∙_}
+use mathlib.Core.Path.{ap, ap₂, sym, _∙_}
+use Rattle.families.specs.declared.Afi.the-variants.{Ipv4}
+use Rattle.routes.specs.Promises.{countAnswer}
+use Rattle.routes.proofs.TableLaws.{section-family}
 use Rattle.updates.specs.declared.UpdateAnswer.the-variants.{Update}
 use Rattle.updates.specs.Update.{countUpdate}
 use Rattle.updates.proofs.BodyLaws.{holds-withdrawn, holds-announced}
@@ -12,17 +15,26 @@ update-parts-requires c κs = search needs
 enum-told : tie.Need-enum-told
 enum-told c = search needs
 
+counts-requires : tie.Need-counts-requires
+counts-requires c κs = search needs
+
 withdrawn-part-requires : tie.Need-withdrawn-part-requires
 withdrawn-part-requires c κs = search needs
 
-count-nlri-requires : tie.Need-count-nlri-requires
-count-nlri-requires c κs = search needs
+count-section-by-requires : tie.Need-count-section-by-requires
+count-section-by-requires c κs = search needs
 
 announced-part-requires : tie.Need-announced-part-requires
 announced-part-requires c κs = search needs
 
-count-nlri-requires-2 : tie.Need-count-nlri-requires-2
-count-nlri-requires-2 c κs = search needs
+count-section-by-requires-2 : tie.Need-count-section-by-requires-2
+count-section-by-requires-2 c κs = search needs
+
+counted-requires : tie.Need-counted-requires
+counted-requires c κs = search needs
+
+counted-requires-2 : tie.Need-counted-requires-2
+counted-requires-2 c κs = search needs
 
 enum-known-n : tie.Need-enum-known-n
 enum-known-n c = search needs
@@ -30,11 +42,17 @@ enum-known-n c = search needs
 returns : tie.Need-returns
 unfolding countUpdate
 returns c =
-    let k = c .before .before .before .before in
-    let b = k .before .before .before .before .args .body in
-    let w = holds-withdrawn b _ (c .before .before .before .withdrawn-part .ensures) in
-    let a = holds-announced b _ (c .before .announced-part .ensures) in
-    rw (sym (k .before .before .update-parts .ensures) ∙ k .enum-told .given .1, ← w, ← a) (ap₂ Update (c .before .before .count-nlri .ensures) (c .count-nlri2 .ensures))
+    let k = c .before .before .before .before .before .before .before .before .before in
+    let g = k .before .before .before .before .args in
+    let first = c .before .before .before .before .before .before .before .withdrawn-part in
+    let second = c .before .before .before .before .announced-part in
+    let table = c .before .before .before .before .before .before .before .before .counts .ensures in
+    let w = holds-withdrawn (g .body) _ (first .ensures) in
+    let a = holds-announced (g .body) _ (second .ensures) in
+    rw (sym (k .before .before .update-parts .ensures) ∙ k .enum-told .given .1, ← w, ← a)
+    (ap₂ Update
+    (c .before .counted .ensures ∙ c .before .before .before .before .before .count-section-by .ensures ∙ ap (countAnswer (first .result .now)) (section-family _ Ipv4 table (first .result .now) (g .mode)))
+    (c .counted2 .ensures ∙ c .before .before .count-section-by2 .ensures ∙ ap (countAnswer (second .result .now)) (section-family _ Ipv4 table (second .result .now) (g .mode))))
 
 returns-2 : tie.Need-returns-2
 unfolding countUpdate
@@ -46,10 +64,13 @@ count-bgp-update-message-spec =
     (tie.spec
     update-parts-requires
     enum-told
+    counts-requires
     withdrawn-part-requires
-    count-nlri-requires
+    count-section-by-requires
     announced-part-requires
-    count-nlri-requires-2
+    count-section-by-requires-2
+    counted-requires
+    counted-requires-2
     enum-known-n
     returns
     returns-2)
