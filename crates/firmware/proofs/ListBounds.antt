@@ -14,7 +14,7 @@ use Rattle.wire.specs.Walk as Walk
 use Rattle.wire.specs.Walk.{stop, Reading, readAll}
 use Rattle.wire.proofs.WalkLaws.{all-ind, tally-one}
 use Rattle.routes.proofs.PrefixLaws.{prefix-cases}
-use Rattle.routes.specs.List.{asStep, inForm, formBy, stepOf, listOf, sectionOf, strange}
+use Rattle.routes.specs.List.{upTo, asStep, inForm, formBy, stepBy, stepOf, listBy, listOf, sectionBy, sectionOf, strange}
 use Rattle.routes.proofs.ListLaws.{sound, light}
 use Rattle.routes.specs.Promises as routes
 use Rattle.families.specs.declared.Form.{Form}
@@ -31,7 +31,7 @@ use Rattle.words.proofs.WordLaws.{refused-narrow, number-narrow}
 use Rattle.firmware.proofs.Bounds.{tally-few, answer-any, limited-narrow}
 
 -- an item is refused with 2 or 7
-item-low : (max : ℕ) (form : Form) (s : List ℕ) (n : ℕ) → inForm max form s ≡ stop n → n < 256
+item-low : (max : ℕ) (form : Form) (s : List ℕ) (n : ℕ) → inForm (upTo max) form s ≡ stop n → n < 256
 unfolding inForm
 item-low max form s n =
     prefix-cases s max form (λ a. asStep form a ≡ stop n → n < 256)
@@ -45,19 +45,19 @@ pub record Modest (s : List ℕ) (r : Reading Row) : Type 0 where
   pub low : r .verdict < 256
 
 list-modest : (s : List ℕ) (max : ℕ) (mode : AddPath) → Modest s (listOf s max mode)
-unfolding listOf stepOf
+unfolding listBy stepBy
 list-modest s max mode = record {
   few = omega (arith, tally-one (readAll (stepOf max mode) Plain s .rows), tally-few (stepOf max mode) (sound max mode) (λ _. 1) (light max mode) Plain s);
   low =
       all-ind (stepOf max mode) (sound max mode) (λ st t r. r .verdict < 256)
       (λ st. omega arith)
-      (λ st t n _ e. item-low max (formBy max mode st t) t n e)
+      (λ st t n _ e. item-low max (formBy (upTo max) mode st t) t n e)
       (λ st st′ t used row _ e low. low)
       Plain s;
 }
 
 pub section-modest : (s : List ℕ) (max : ℕ) (mode : AddPath) → Modest s (sectionOf s max mode)
-unfolding sectionOf
+unfolding sectionBy
 section-modest s max mode =
     pick-any (Modest s) (strange s) (Walk.refused oneByteSection) (listOf s max mode) (record { few = omega arith; low = omega arith }) (list-modest s max mode)
 

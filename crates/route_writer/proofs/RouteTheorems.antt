@@ -21,7 +21,7 @@ use Rattle.families.specs.declared.AddPath.{AddPath}
 use Rattle.families.specs.declared.AddPath.the-variants.{Off, Guess}
 use Rattle.families.specs.declared.Form.{Form}
 use Rattle.families.specs.declared.Form.the-variants.{Plain}
-use Rattle.routes.specs.List.{fixed, stepOf, listOf, sectionOf}
+use Rattle.routes.specs.List.{upTo, fixed, stepOf, listBy, listOf, sectionBy, sectionOf}
 use Rattle.routes.specs.Prefix.{itemRow, words}
 use Rattle.routes.specs.Promises.{countAnswer, readAnswer, storeAfter}
 use Rattle.routes.specs.WellFormed.{WellFormed, NoZeroFirst}
@@ -71,7 +71,7 @@ pub record Reads (max : ℕ) (form : Form) (s : List ℕ) (r : Reading Row) : Ty
 module _ (max : ℕ) (form : Form) (s : List ℕ) where
   -- a list under the setting that has the form
   fixed-reads : Reads max form s (listOf s max (fixed form))
-  unfolding listOf
+  unfolding listBy
   fixed-reads = record {
     cut = λ n e. Cuttings.read-cut (stepOf max (fixed form)) (WellFormed max form) (itemRow form) (decides max form) Plain s (count-rows s (listOf s max (fixed form)) n e .0);
     read = λ items c. Cuttings.cut-read (stepOf max (fixed form)) (WellFormed max form) (itemRow form) (decides max form) Plain s items c;
@@ -80,8 +80,8 @@ module _ (max : ℕ) (form : Form) (s : List ℕ) where
   -- and a section, since the rule of one byte refuses nothing that has a cutting
   fixed-section : Reads max form s (sectionOf s max (fixed form))
   fixed-section = record {
-    cut = λ n e. fixed-reads .cut n (ap (countAnswer s) (sym (section-counted s max (fixed form) n e)) ∙ e);
-    read = λ items c. section-list s max (fixed form) (cut-not-strange max form s items c) ∙ fixed-reads .read items c;
+    cut = λ n e. fixed-reads .cut n (ap (countAnswer s) (sym (section-counted (upTo max) s (fixed form) n e)) ∙ e);
+    read = λ items c. section-list (upTo max) s (fixed form) (cut-not-strange max form s items c) ∙ fixed-reads .read items c;
   }
 
   module _ (mode : AddPath) (on : mode ≡ fixed form) where
@@ -185,11 +185,11 @@ module _ (max : ℕ) (small : max ≤ 128) (form : Form) where
 module _ (max max′ : ℕ) (s s′ : List ℕ) (mode mode′ : AddPath) (same : s ≡ s′) (alike : max ≡ max′) (on : mode ≡ Guess) (off : mode′ ≡ Off)
     (no : NoZeroFirst (pieces (stepOf max Off) Plain s)) where
   plain-list : listOf s max Guess ≡ listOf s max Off
-  unfolding listOf
+  unfolding listBy
   plain-list = guess-same max Plain s no
 
   plain-section : sectionOf s max Guess ≡ sectionOf s max Off
-  unfolding sectionOf
+  unfolding sectionBy
   plain-section = rw plain-list
 
   pub guess-list : listOf s max mode ≡ listOf s′ max′ mode′

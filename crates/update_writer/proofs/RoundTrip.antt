@@ -19,7 +19,7 @@ use Rattle.families.specs.declared.Form.{Form}
 use Rattle.families.specs.declared.Form.the-variants.{Plain}
 use Rattle.routes.specs.Prefix.{itemRow, words}
 use Rattle.routes.specs.WellFormed.{WellFormed}
-use Rattle.routes.specs.List.{fixed, stepOf, listOf, sectionOf}
+use Rattle.routes.specs.List.{upTo, fixed, stepOf, listBy, sectionOf}
 use Rattle.routes.specs.Promises.{countAnswer}
 use Rattle.routes.proofs.ListLaws.{words-length, count-good, section-list}
 use Rattle.routes.proofs.CuttingLaws.{decides, cut-not-strange}
@@ -170,13 +170,13 @@ module _ (withdrawn attributes announced : List ℕ) (form : Form) (places : ℕ
 -- the rows of a store that is written are read again, from its bytes as a section
 module _ (max : ℕ) (small : max ≤ 128) (form : Form) (ws : List ℕ) (wide : Words ws) (good : writing ws max form .verdict ≡ 0) where
   pub rows-again : sectionOf (bytesOf ws max form) max (fixed form) ≡ record { rows = writing ws max form .rows; verdict = 0 }
-  unfolding bytesOf writing listOf
+  unfolding bytesOf writing listBy
   rows-again =
       let rows : List Row = writing ws max form .rows in
       let s : List ℕ = flat (rowBytes form) rows in
       let h = store-rows max form ws wide good in
       let c = rows-cut (WellFormed max form) (itemRow form) (GoodRow max form) (rowBytes form) (stands max small form) rows (h .0) in
-      section-list s max (fixed form) (cut-not-strange max form s (map (rowBytes form) rows) (c .0))
+      section-list (upTo max) s (fixed form) (cut-not-strange max form s (map (rowBytes form) rows) (c .0))
       ∙ cut-read (stepOf max (fixed form)) (WellFormed max form) (itemRow form) (decides max form) Plain s (map (rowBytes form) rows) (c .0)
       ∙ ap (λ (l : List Row). record { rows = l; verdict = 0 }) (c .1)
 

@@ -15,7 +15,7 @@ use Rattle.wire.proofs.WalkLaws.{all-ind}
 use Rattle.families.specs.Family.{maxOf}
 use Rattle.routes.specs.Prefix.{prefixOf}
 use Rattle.routes.proofs.PrefixLaws.{prefix-cases}
-use Rattle.routes.specs.List.{asStep, inForm, formBy, stepOf, listOf, strange, sectionOf}
+use Rattle.routes.specs.List.{upTo, asStep, inForm, formBy, stepBy, stepOf, listBy, listOf, strange, sectionBy, sectionOf}
 use Rattle.routes.proofs.ListLaws.{sound}
 use Rattle.wire.specs.Answer.{answerBy}
 use Rattle.routes.specs.Promises.{verdictIn, countAnswer, hasRoom}
@@ -109,16 +109,16 @@ module _ (max : ℕ) (mode : AddPath) where
   stop-verdict s form (P.Refused m) n e f = let same : m ≡ n = cc in prefix-verdict s form n (e ∙ ap P.Refused same)
 
   list-verdict : (s : List ℕ) → ListVerdict (listOf s max mode .verdict)
-  unfolding listOf stepOf inForm
+  unfolding listBy stepBy inForm
   list-verdict s =
       all-ind (stepOf max mode) (sound max mode) (λ st t r. ListVerdict (r .verdict))
       (λ st. good)
-      (λ st t n pos e. stop-verdict t (formBy max mode st t) _ n refl e)
+      (λ st t n pos e. stop-verdict t (formBy (upTo max) mode st t) _ n refl e)
       (λ st st′ t used row pos e h. h)
       Plain s
 
   pub section-verdict : (s : List ℕ) → SectionVerdict (sectionOf s max mode .verdict)
-  unfolding sectionOf
+  unfolding sectionBy
   section-verdict s = pick-any (λ (r : Reading Row). SectionVerdict (r .verdict)) (strange s) (refused oneByteSection) (listOf s max mode) single (ofList (list-verdict s))
 
 answered : (v count : ℕ) → SectionVerdict v → SectionVerdict (verdictIn (answerBy v (L.Rows count) L.Refused))
