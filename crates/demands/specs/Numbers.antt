@@ -12,6 +12,7 @@ use Rattle.wire.specs.Number.{be, beAt, toBe}
 use Rattle.wire.specs.Refusal as refusals
 use Rattle.wire.specs.Walk.{readAll, walk, flat, tally}
 use Rattle.families.specs.Family.{maxOf, idSize, markOf, octets, modeOf}
+use Rattle.families.specs.Octets.{tableOf, entry}
 use Rattle.families.specs.declared.Afi.{Afi}
 use Rattle.families.specs.declared.Afi.the-variants.{Ipv4, Ipv6}
 use Rattle.families.specs.declared.Form.{Form}
@@ -19,7 +20,7 @@ use Rattle.families.specs.declared.Form.the-variants.{Plain, Tagged}
 use Rattle.families.specs.declared.AddPath.{AddPath}
 use Rattle.families.specs.declared.AddPath.the-variants.{On, Off, Guess}
 use Rattle.routes.specs.Prefix.{words, wordAt, rowOf, itemRow, prefixMeaning, prefixOf}
-use Rattle.routes.specs.List.{inForm, guessForm, stepOf, listOf, sectionOf}
+use Rattle.routes.specs.List.{inForm, guessForm, stepBy, listBy, sectionBy, listOf, sectionOf}
 use Rattle.routes.specs.Promises as routes
 use Rattle.routes.specs.Promises.{listMeaning}
 use Rattle.route_bytes.specs.Encode.{fourWords, rowBytes, allZero, writable, frontRow, writeStep, writing, bytesOf}
@@ -653,6 +654,38 @@ longMessages =
     ∷ line (wordOf (messageFields (strictOf Rfc8654 (header 255 3 65535 65536)))) 0x403FFFFFFFF
     ∷ []
 
+-- ---- document 02, K4: "Let a reader see the octet count"
+
+-- what a family's table says of a length byte
+abbrev pub after : Afi → ℕ → ℕ
+after afi length = entry (tableOf (maxOf afi)) length
+
+abbrev pub octetCounts : List Line
+octetCounts =
+    line (after Ipv4 0) 0
+    ∷ line (after Ipv4 1) 1
+    ∷ line (after Ipv4 8) 1
+    ∷ line (after Ipv4 9) 2
+    ∷ line (after Ipv4 16) 2
+    ∷ line (after Ipv4 17) 3
+    ∷ line (after Ipv4 24) 3
+    ∷ line (after Ipv4 25) 4
+    ∷ line (after Ipv4 32) 4
+    ∷ line (after Ipv4 33) 255
+    ∷ line (after Ipv4 128) 255
+    ∷ line (after Ipv4 255) 255
+    ∷ line (after Ipv6 0) 0
+    ∷ line (after Ipv6 32) 4
+    ∷ line (after Ipv6 33) 5
+    ∷ line (after Ipv6 64) 8
+    ∷ line (after Ipv6 65) 9
+    ∷ line (after Ipv6 120) 15
+    ∷ line (after Ipv6 121) 16
+    ∷ line (after Ipv6 128) 16
+    ∷ line (after Ipv6 129) 255
+    ∷ line (after Ipv6 255) 255
+    ∷ []
+
 -- ---- the limit of a list and of a path to write: 1 over 65,535 bytes, before 11
 
 abbrev pub limits : List Line
@@ -777,11 +810,11 @@ lister =
     ∷ []
 
 abbrev pub table : List Line
-table = refusalNumbers ++ (headers ++ (bodies ++ (lists ++ (pathsAndAggregators ++ (attributes ++ (emptySegments ++ (longMessages ++ (limits ++ (settings ++ lister)))))))))
+table = refusalNumbers ++ (headers ++ (bodies ++ (lists ++ (pathsAndAggregators ++ (attributes ++ (emptySegments ++ (longMessages ++ (octetCounts ++ (limits ++ (settings ++ lister))))))))))
 
 -- every line of the table holds
 pub numbers : agree table ≡ true
-unfolding agree zeros beAt readAll walk flat modeOf wordAt rowOf itemRow prefixOf inForm guessForm stepOf listOf sectionOf routes.countAnswer routes.readAnswer fourWords rowBytes allZero writable frontRow writeStep writing bytesOf measured routeWriter.writeAnswer limited span aggregatorOf aggregatorBytes aggregatorWritten typeFault numbersOf segmentAt segmentOf pathOf paths.countAnswer paths.readAnswer segmentBytes addsUp allFit writeFault lentOf lentPath pathBytes pathWriter.lentBytes pathWriter.encodeAnswer leastLength mostLength crateLimit isOutside isUnknown allFF messageOf strictWithin messageWriter.writeMessage isExtended lengthSize headSize attributeFront attributeOf attribute.sectionOf standing attributeAt firstOf countOf verdictOf judged findAnswer partsOf withdrawnOf announcedOf countUpdate bodySized bodyAnswer wordOf familyOf formOf asnLengthOf editionOf tally found slotOf digits fieldsText sectionText entryOf entryText lineOf stopText headingText linesOf endingText
+unfolding agree zeros tableOf beAt readAll walk flat modeOf wordAt rowOf itemRow prefixOf inForm guessForm stepBy listBy sectionBy routes.countAnswer routes.readAnswer fourWords rowBytes allZero writable frontRow writeStep writing bytesOf measured routeWriter.writeAnswer limited span aggregatorOf aggregatorBytes aggregatorWritten typeFault numbersOf segmentAt segmentOf pathOf paths.countAnswer paths.readAnswer segmentBytes addsUp allFit writeFault lentOf lentPath pathBytes pathWriter.lentBytes pathWriter.encodeAnswer leastLength mostLength crateLimit isOutside isUnknown allFF messageOf strictWithin messageWriter.writeMessage isExtended lengthSize headSize attributeFront attributeOf attribute.sectionOf standing attributeAt firstOf countOf verdictOf judged findAnswer partsOf withdrawnOf announcedOf countUpdate bodySized bodyAnswer wordOf familyOf formOf asnLengthOf editionOf tally found slotOf digits fieldsText sectionText entryOf entryText lineOf stopText headingText linesOf endingText
 numbers = refl
 
 -- the limit of a list and of a path to write is of their bytes, whatever they are

@@ -8,7 +8,7 @@ use Rattle.wire.specs.Refusal.{truncated, prefixLength, oneByteSection, segment
 use Rattle.wire.specs.Walk.{Reading, readAll, walk}
 use Rattle.families.specs.Family.{maxOf}
 use Rattle.routes.specs.Prefix.{wordAt, rowOf, itemRow, prefixOf}
-use Rattle.routes.specs.List.{inForm, guessForm, stepOf, listOf, sectionOf}
+use Rattle.routes.specs.List.{inForm, guessForm, stepBy, listBy, sectionBy, listOf, sectionOf}
 use Rattle.families.specs.declared.Afi.the-variants.{Ipv4}
 use Rattle.families.specs.declared.AddPath.{AddPath}
 use Rattle.families.specs.declared.AddPath.the-variants.{On, Off, Guess}
@@ -70,5 +70,5 @@ table =
 
 -- every example of the table holds
 pub starred : AllHold table
-unfolding listOf sectionOf stepOf inForm guessForm prefixOf itemRow rowOf wordAt beAt readAll walk pathOf segmentOf segmentAt numbersOf typeFault span
+unfolding listBy sectionBy stepBy inForm guessForm prefixOf itemRow rowOf wordAt beAt readAll walk pathOf segmentOf segmentAt numbersOf typeFault span
 starred = (refl, (refl, (refl, (refl, (refl, (refl, (refl, (refl, (refl, (refl, (refl, (refl, (refl, tt)))))))))))))
