@@ -76,13 +76,24 @@ INLINE void write8(uint8_t *to, uint64_t number) {
 
 INLINE uint32_t most_bits(bool ipv6) { return ipv6 ? 128 : 32; }
 
-INLINE uint32_t octets_of(uint32_t bits) { return (bits + 7) >> 3; }
+enum { REFUSED_LENGTH = 255 };
+
+// The octets after a length byte, or REFUSED_LENGTH.
+static const uint8_t ipv4_octets[256] = {
+    [0] = 0, [1 ... 8] = 1, [9 ... 16] = 2, [17 ... 24] = 3, [25 ... 32] = 4, [33 ... 255] = REFUSED_LENGTH,
+};
+
+static const uint8_t ipv6_octets[256] = {
+    [0] = 0,           [1 ... 8] = 1,      [9 ... 16] = 2,     [17 ... 24] = 3,    [25 ... 32] = 4,   [33 ... 40] = 5,
+    [41 ... 48] = 6,   [49 ... 56] = 7,    [57 ... 64] = 8,    [65 ... 72] = 9,    [73 ... 80] = 10,  [81 ... 88] = 11,
+    [89 ... 96] = 12,  [97 ... 104] = 13,  [105 ... 112] = 14, [113 ... 120] = 15, [121 ... 128] = 16,
+    [129 ... 255] = REFUSED_LENGTH,
+};
+
+INLINE uint32_t octets_after(uint8_t bits, bool ipv6) { return ipv6 ? ipv6_octets[bits] : ipv4_octets[bits]; }
 
 // The bytes of an id, if there is one.
 INLINE uint32_t head_of(bool id) { return id ? 4 : 0; }
-
-// The bytes of an item with `head` bytes before its length.
-INLINE uint32_t item_bytes(uint32_t bits, uint32_t head) { return (bits + 8 * head + 15) >> 3; }
 
 // The first octets of a word of four.
 INLINE uint32_t mask4(uint32_t octets) { return (uint32_t)(0xFFFFFFFF00000000u >> (8 * octets)); }
@@ -103,34 +114,44 @@ INLINE uint64_t rest16(uint32_t octets) { return octet_masks[octets]; }
 
 // Whether a well-formed item with an id begins at `at`.
 INLINE bool item_with_id(const uint8_t *s, size_t n, size_t at, bool ipv6) {
-    return n - at >= 5 && s[at + 4] <= most_bits(ipv6) && n - at >= item_bytes(s[at + 4], 4);
+    if (n - at < 5) return false;
+    uint32_t octets = octets_after(s[at + 4], ipv6);
+    return octets != REFUSED_LENGTH && n - at >= 5 + octets;
 }
 
-// The rows of a list whose items have `head` bytes before the length, or the refusal. An item that is not all there is
-// the last: it alone leaves the place elsewhere than at the end.
+// The rows of a list whose items have `head` bytes before the length, or the refusal. `s` goes on from the octets of the
+// item before, so that the next length byte waits for the table alone. An item that is not all there is the last.
 INLINE uint64_t count_items(const uint8_t *s, size_t n, bool ipv6, uint32_t head) {
-    size_t at = 0, rows = 0;
-    while (at + head < n) {
-        uint32_t bits = s[at + head];
-        if (bits > most_bits(ipv6)) return refused(BAD_PREFIX_LENGTH);
-        at += item_bytes(bits, head);
+    size_t octets = 0, rows = 0;
+    while (octets + head < n) {
+        size_t next = octets_after(s[octets + head], ipv6);
+        if (next == REFUSED_LENGTH) return refused(BAD_PREFIX_LENGTH);
+        s += octets + head + 1;
+        n -= octets + head + 1;
+        octets = next;
         rows++;
     }
-    return at == n ? rows : refused(TOO_SHORT);
+    return octets == n ? rows : refused(TOO_SHORT);
 }
 
 INLINE uint64_t count_guessed(const uint8_t *s, size_t n, bool ipv6) {
-    size_t at = 0, rows = 0;
+    size_t octets = 0, rows = 0;
     bool tagged = false;
-    while (at < n) {
-        tagged |= s[at] == 0;
-        if (tagged && item_with_id(s, n, at, ipv6)) {
-            at += item_bytes(s[at + 4], 4);
+    while (octets < n) {
+        const uint8_t *item = s + octets;
+        size_t left = n - octets;
+        tagged |= item[0] == 0;
+        if (tagged && item_with_id(item, left, 0, ipv6)) {
+            octets = octets_after(item[4], ipv6);
+            s = item + 5;
+            n = left - 5;
         } else {
             tagged = false;
-            if (s[at] > most_bits(ipv6)) return refused(BAD_PREFIX_LENGTH);
-            at += item_bytes(s[at], 0);
-            if (at > n) return refused(TOO_SHORT);
+            octets = octets_after(item[0], ipv6);
+            if (octets == REFUSED_LENGTH) return refused(BAD_PREFIX_LENGTH);
+            s = item + 1;
+            n = left - 1;
+            if (octets > n) return refused(TOO_SHORT);
         }
         rows++;
     }
@@ -153,7 +174,7 @@ INLINE void put_row(uint32_t *row, uint32_t first, uint32_t id, uint64_t address
 // Puts the row of a checked item; `last` where its address may end within 16 (IPv4: 4) bytes of the end.
 INLINE size_t fill_item(const uint8_t *restrict s, size_t at, bool ipv6, bool id, bool last, uint32_t *restrict row) {
     uint32_t bits = s[at + head_of(id)];
-    uint32_t octets = octets_of(bits);
+    uint32_t octets = octets_after(bits, ipv6);
     uint32_t first = bits + (id ? HAS_ID : 0), path = id ? read4(s + at) : 0;
     uint8_t copied[16] = {0};
     const uint8_t *address = s + at + head_of(id) + 1;
@@ -165,11 +186,11 @@ INLINE size_t fill_item(const uint8_t *restrict s, size_t at, bool ipv6, bool id
         put_row(row, first, path, read8(address) & mask16(octets), read8(address + 8) & rest16(octets));
     else
         put_row(row, first, path, (uint64_t)(read4(address) & mask4(octets)) << 32, 0);
-    return at + item_bytes(bits, head_of(id));
+    return at + head_of(id) + 1 + octets;
 }
 
 // The bytes of the longest item.
-INLINE uint32_t longest(bool ipv6, bool id) { return item_bytes(most_bits(ipv6), head_of(id)); }
+INLINE uint32_t longest(bool ipv6, bool id) { return head_of(id) + 1 + (ipv6 ? 16 : 4); }
 
 INLINE void fill_items(const uint8_t *s, size_t n, bool ipv6, bool id, uint32_t *store) {
     size_t at = 0;
@@ -179,7 +200,7 @@ INLINE void fill_items(const uint8_t *s, size_t n, bool ipv6, bool id, uint32_t 
 
 INLINE size_t fill_guessed_item(const uint8_t *s, size_t n, size_t at, bool ipv6, bool *tagged, bool last,
                                 uint32_t *row) {
-    *tagged = (*tagged || s[at] == 0) && (last ? item_with_id(s, n, at, ipv6) : s[at + 4] <= most_bits(ipv6));
+    *tagged = (*tagged || s[at] == 0) && (last ? item_with_id(s, n, at, ipv6) : octets_after(s[at + 4], ipv6) != REFUSED_LENGTH);
     return *tagged ? fill_item(s, at, ipv6, true, last, row) : fill_item(s, at, ipv6, false, last, row);
 }
 
@@ -476,6 +497,11 @@ uint64_t plain_parse_aggregator(const uint8_t *value, size_t n, uint8_t four_byt
 // ---- Writers ----
 
 INLINE uint64_t joined(const uint32_t *words) { return (uint64_t)words[0] << 32 | words[1]; }
+
+// A writer computes what a reader has in the tables: the octets of a length, and the bytes of an item with `head` bytes before it.
+INLINE uint32_t octets_of(uint32_t bits) { return (bits + 7) >> 3; }
+
+INLINE uint32_t item_bytes(uint32_t bits, uint32_t head) { return (bits + 8 * head + 15) >> 3; }
 
 // The bytes of checked rows, or the refusal.
 INLINE uint64_t measure_rows(const uint32_t *rows, size_t places, bool ipv6, bool id) {
