@@ -1,6 +1,7 @@
-use mathlib.Core.Path.{ap, _∙_}
+use mathlib.Core.Path.{_≡_, ap, _∙_}
 use mathlib.Core.List.{List}
-use Prim.Native.Nat.{ℕ}
+use Prim.Native.Nat.{ℕ, _-_}
+use lib.ListN.{length, take, drop}
 use Rattle.wire.proofs.Turn.{rest}
 use Rattle.families.specs.declared.AddPath.the-variants.{Guess}
 use Rattle.routes.specs.List.{stepBy}
@@ -23,7 +24,10 @@ item-step-requires : tie.Need-item-step-requires
 item-step-requires c κs = search needs
 
 returns : tie.Need-returns
-returns c = let a = c .before .before .before .args in c .item-step .ensures ∙ ap (λ (l : List ℕ). sized (stepBy (byTable (a .counts .now)) Guess (a .form) l)) (rest (a .s .now) (a .at))
+returns c =
+    let a = c .before .before .before .args in
+    let step : c .item-step .result ≡ sized (stepBy (byTable (a .counts .now)) Guess (a .form) (take (length (a .s .now) - a .at) (drop (a .at) (a .s .now)))) = c .item-step .ensures in
+    step ∙ ap (λ (l : List ℕ). sized (stepBy (byTable (a .counts .now)) Guess (a .form) l)) (rest (a .s .now) (a .at))
 
 pub guess-at-spec : {M : Type 1} → statement M
 guess-at-spec =
