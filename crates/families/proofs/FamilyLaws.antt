@@ -1,6 +1,7 @@
--- How large each is at most.
+-- How large each is at most, and that the size of an id tells its form.
 -- Assumes nothing.
 use Prim.Native.Nat.{_≤_}
+use mathlib.Core.Path.{_≡_, refl}
 use native.Mathlib.Omega.{arith}
 use Rattle.families.specs.Family.{maxOf, idSize, markOf}
 use Rattle.families.specs.declared.Afi.{Afi}
@@ -15,6 +16,12 @@ max-small Ipv6 = omega arith
 pub id-small : (form : Form) → idSize form ≤ 4
 id-small Plain = omega arith
 id-small Tagged = omega arith
+
+pub id-one : (f g : Form) → idSize f ≡ idSize g → f ≡ g
+id-one Plain Plain e = refl
+id-one Plain Tagged e = absurd (omega (arith, e))
+id-one Tagged Plain e = absurd (omega (arith, e))
+id-one Tagged Tagged e = refl
 
 pub mark-small : (form : Form) → markOf form ≤ 256
 mark-small Plain = omega arith

@@ -3,20 +3,25 @@
 use Prim.Native.Nat.{ℕ, _+_, _-_, _≤_, _<_}
 use mathlib.Core.Path.{_≡_, refl, sym, ap, _∙_}
 use mathlib.Core.List.{List}
+use native.Mathlib.Nat.{lt-of-not-le}
+use native.Mathlib.Decide.{decLe}
 use native.Mathlib.Omega.{arith}
 use lib.ListN.{length, getD, take, drop, length-drop}
 use lib.Seq.{drop-drop, getD-drop}
+use Rattle.wire.proofs.ChoiceLaws.{pick-eqb}
 use Rattle.wire.proofs.Turn.{rest}
 use Rattle.wire.specs.Answer.{unpacked}
 use Rattle.wire.specs.Refusal.{truncated, prefixLength, pastAll, listLimit}
 use Rattle.wire.specs.Walk.{readAll, took, stop}
 use Rattle.families.specs.Family.{idSize}
 use Rattle.families.specs.Octets.{refusedLength, entry}
+use Rattle.families.proofs.FamilyLaws.{id-one}
 use Rattle.families.specs.declared.AddPath.{AddPath}
 use Rattle.families.specs.declared.Form.{Form}
 use Rattle.routes.specs.List.{Reader, asStep, fixed, stepBy, listBy}
 use Rattle.routes.specs.ByTable.{endBy, byTable}
 use Rattle.routes.specs.Promises.{sized, countAnswer}
+use Rattle.routes.specs.Private.{countUpTo}
 use Rattle.routes.specs.declared.Row.{Row}
 use Rattle.routes.specs.declared.ListAnswer.the-variants.{Rows, Refused}
 use Rattle.routes.specs.declared.StepAnswer.{StepAnswer}
@@ -127,12 +132,12 @@ module _ (counts : List ℕ) (form : Form) (s left : List ℕ) (n count : ℕ) (
   refused : (why : ℕ) → n < length left → asStep form (byTable counts (drop n left) form) ≡ stop why → unpacked Rows Refused why ≡ countAnswer s (listBy (byTable counts) s (fixed form))
   refused why lt e = carried-stop (byTable counts) (fair-table counts) (fixed form) form s left n form count h small why lt (fixed-step (byTable counts) form form (drop n left) ∙ e) ∙ as-list
 
-  pub form-done : n ≡ length left → unpacked Rows Refused count ≡ countAnswer s (listBy (byTable counts) s (fixed form))
+  form-done : n ≡ length left → unpacked Rows Refused count ≡ countAnswer s (listBy (byTable counts) s (fixed form))
   form-done e = carried-done (byTable counts) (fair-table counts) (fixed form) form s left n form count h small (omega arith) ∙ as-list
 
   module _ (b : ℕ) (bytes : b ≡ idSize form + 1) where
     -- the id or the length byte is not there
-    pub form-cut : length left < n + b → (n ≡ length left → ⊥) → unpacked Rows Refused truncated ≡ countAnswer s (listBy (byTable counts) s (fixed form))
+    form-cut : length left < n + b → (n ≡ length left → ⊥) → unpacked Rows Refused truncated ≡ countAnswer s (listBy (byTable counts) s (fixed form))
     form-cut lack some =
         refused truncated (omega (arith, some, h .behind .within)) (ap (asStep form) (table-none counts (drop n left) form (omega (arith, bytes, length-drop n left))))
 
@@ -143,7 +148,7 @@ module _ (counts : List ℕ) (form : Form) (s left : List ℕ) (n count : ℕ) (
       here : entry counts (getD (drop n left) (idSize form) 0) ≡ m
       here = ap (entry counts) (getD-drop n left (idSize form) 0) ∙ sym says
 
-      pub form-long : m ≡ refusedLength → unpacked Rows Refused prefixLength ≡ countAnswer s (listBy (byTable counts) s (fixed form))
+      form-long : m ≡ refusedLength → unpacked Rows Refused prefixLength ≡ countAnswer s (listBy (byTable counts) s (fixed form))
       form-long e = refused prefixLength (omega (arith, bytes)) (ap (asStep form) (table-long counts (drop n left) form front (here ∙ e)))
 
       module _ (known : m ≡ refusedLength → ⊥) where
@@ -153,13 +158,103 @@ module _ (counts : List ℕ) (form : Form) (s left : List ℕ) (n count : ℕ) (
         known-here : entry counts (getD (drop n left) (idSize form) 0) ≡ refusedLength → ⊥
         known-here e = known (sym here ∙ e)
 
-        pub form-short : length left < n + b + m → unpacked Rows Refused truncated ≡ countAnswer s (listBy (byTable counts) s (fixed form))
+        form-short : length left < n + b + m → unpacked Rows Refused truncated ≡ countAnswer s (listBy (byTable counts) s (fixed form))
         form-short lack =
             refused truncated (omega (arith, bytes)) (ap (asStep form) (table-short counts (drop n left) form front known-here (omega (arith, end, length-drop n left))))
 
-        pub form-next : n + b + m ≤ length left
+        form-next : n + b + m ≤ length left
             → (count < pastAll + length s) × Carried (byTable counts) (fixed form) form s (take (length left - (n + b)) (drop (n + b) left)) m form (count + 1)
         form-next fits =
             let t = table-took counts (drop n left) form front known-here (omega (arith, end, length-drop n left)) in
             let next = carried-step (byTable counts) (fair-table counts) (fixed form) form s left n form count h _ _ form (fixed-step (byTable counts) form form (drop n left) ∙ ap (asStep form) t) b m end in
             (next .1, next .2)
+
+-- ---- the same, where the loop passes over the bytes of an id as well
+
+-- what is left of the bytes carried after k, which is how many an id takes
+pub record Headed (counts s : List ℕ) (k : ℕ) (head : List ℕ) (n count : ℕ) : Type 0 where
+  pub form : Form
+  pub left : List ℕ
+  pub ids : k ≡ idSize form
+  pub long : k ≤ length left
+  pub is : head ≡ drop k left
+  pub carried : Carried (byTable counts) (fixed form) form s left n form count
+
+pub headed-start : (counts s : List ℕ) (form : Form) (k : ℕ) → k ≡ idSize form → k ≤ length s → Headed counts s k (take (length s - k) (drop k s)) 0 pastAll
+headed-start counts s form k e le =
+    record { form = form; left = s; ids = e; long = le; is = rest s k; carried = carried-start (byTable counts) (fair-table counts) (fixed form) form s }
+
+-- a list with no room for an id
+pub headed-none : (counts s : List ℕ) (form : Form) (k : ℕ) → k ≡ idSize form → length s ≤ listLimit → length s < k
+    → unpacked Rows Refused (countUpTo (length s) 0 pastAll) ≡ countAnswer s (listBy (byTable counts) s (fixed form))
+headed-none counts s form k e small lack =
+    let start = carried-start (byTable counts) (fair-table counts) (fixed form) form s in
+    pick-eqb (λ (x : ℕ). unpacked Rows Refused x ≡ countAnswer s (listBy (byTable counts) s (fixed form))) (length s) 0 pastAll truncated
+    (λ none. form-done counts form s s 0 pastAll start small (sym none))
+    (λ some. form-cut counts form s s 0 pastAll start small (idSize form + 1) refl (omega (arith, e, lack)) (λ none. some (sym none)))
+
+module _ (counts s : List ℕ) (k : ℕ) (head : List ℕ) (n count : ℕ) (h : Headed counts s k head n count) (small : length s ≤ listLimit) where
+  room : length head ≡ length (h .left) - k
+  room = ap length (h .is) ∙ length-drop k (h .left)
+
+  bytes : k + 1 ≡ idSize (h .form) + 1
+  bytes = ap (λ (i : ℕ). i + 1) (h .ids)
+
+  -- what is carried is some of the list, and so is what was counted
+  pub headed-few : (n ≤ length head + k) × (length head + k ≤ length s) × (count ≤ pastAll + length s)
+  headed-few =
+      let c = h .carried in
+      (omega (arith, room, h .long, c .behind .within), omega (arith, room, h .long, c .behind .part), omega (arith, c .packed .past, c .packed .counted .few, c .packed .counted .within))
+
+  module _ (form : Form) (same : k ≡ idSize form) where
+    answer : (r : ℕ) → unpacked Rows Refused r ≡ countAnswer s (listBy (byTable counts) s (fixed (h .form))) → unpacked Rows Refused r ≡ countAnswer s (listBy (byTable counts) s (fixed form))
+    answer r e = e ∙ ap (λ (f : Form). countAnswer s (listBy (byTable counts) s (fixed f))) (id-one (h .form) form (sym (h .ids) ∙ same))
+
+    pub headed-done : length head < n + 1 → unpacked Rows Refused (countUpTo (length head + k) n count) ≡ countAnswer s (listBy (byTable counts) s (fixed form))
+    headed-done none =
+        pick-eqb (λ (x : ℕ). unpacked Rows Refused x ≡ countAnswer s (listBy (byTable counts) s (fixed form))) (length head + k) n count truncated
+        (λ all. answer count (form-done counts (h .form) s (h .left) n count (h .carried) small (omega (arith, all, room, h .long))))
+        (λ some. answer truncated
+        (form-cut counts (h .form) s (h .left) n count (h .carried) small (k + 1) bytes (omega (arith, none, room, h .long)) (λ all. some (omega (arith, all, room, h .long)))))
+
+    module _ (there : n + 1 ≤ length head) (m : ℕ) (says : m ≡ entry counts (getD head n 0)) where
+      whole : n + (k + 1) ≤ length (h .left)
+      whole = omega (arith, there, room, h .long)
+
+      said : m ≡ entry counts (getD (h .left) (n + idSize (h .form)) 0)
+      said =
+          let place : k + n ≡ n + idSize (h .form) = omega (arith, h .ids) in
+          says ∙ ap (λ (l : List ℕ). entry counts (getD l n 0)) (h .is) ∙ ap (entry counts) (getD-drop k (h .left) n 0 ∙ ap (λ (i : ℕ). getD (h .left) i 0) place)
+
+      pub headed-long : m ≡ refusedLength → unpacked Rows Refused prefixLength ≡ countAnswer s (listBy (byTable counts) s (fixed form))
+      headed-long e = answer prefixLength (form-long counts (h .form) s (h .left) n count (h .carried) small (k + 1) bytes whole m said e)
+
+      -- from the item's octets on
+      module _ (known : m ≡ refusedLength → ⊥) (after : List ℕ) (e : after ≡ take (length head - (n + 1)) (drop (n + 1) head)) where
+        from : after ≡ take (length (h .left) - (n + (k + 1))) (drop (n + (k + 1)) (h .left))
+        from =
+            let place : k + (n + 1) ≡ n + (k + 1) = omega arith in
+            e ∙ rest head (n + 1) ∙ ap (drop (n + 1)) (h .is) ∙ drop-drop (n + 1) k (h .left) ∙ ap (λ (i : ℕ). drop i (h .left)) place ∙ sym (rest (h .left) (n + (k + 1)))
+
+        size : length after ≡ length (h .left) - (n + (k + 1))
+        size = ap length from ∙ ap length (rest (h .left) (n + (k + 1))) ∙ length-drop (n + (k + 1)) (h .left)
+
+        taken : m ≤ length after → Carried (byTable counts) (fixed (h .form)) (h .form) s after m (h .form) (count + 1)
+        taken fits = rw from (form-next counts (h .form) s (h .left) n count (h .carried) small (k + 1) bytes whole m said known (omega (arith, fits, size, whole)) .1)
+
+        -- it is the last, or what follows is cut
+        pub headed-last : length after < m + k → unpacked Rows Refused (countUpTo (length after) m (count + 1)) ≡ countAnswer s (listBy (byTable counts) s (fixed form))
+        headed-last lack =
+            pick-eqb (λ (x : ℕ). unpacked Rows Refused x ≡ countAnswer s (listBy (byTable counts) s (fixed form))) (length after) m (count + 1) truncated
+            (λ all. answer (count + 1) (form-done counts (h .form) s after m (count + 1) (taken (omega (arith, all))) small (sym all)))
+            (λ some. answer truncated
+            (elim (decLe m (length after)) [
+              | yes le ↦ form-cut counts (h .form) s after m (count + 1) (taken le) small (k + 1) bytes (omega (arith, lack)) (λ all. some (sym all))
+              | no gt ↦ form-short counts (h .form) s (h .left) n count (h .carried) small (k + 1) bytes whole m said known (omega (arith, lt-of-not-le gt, size, whole))
+            ]))
+
+        pub headed-next : m + k ≤ length after → Headed counts s k (take (length after - k) (drop k after)) m (count + 1) × (length (take (length after - k) (drop k after)) - m < length head - n)
+        headed-next fits = (
+          record { form = h .form; left = after; ids = h .ids; long = omega (arith, fits); is = rest after k; carried = taken (omega (arith, fits)) },
+          omega (arith, fits, there, size, room, h .long, ap length (rest after k), length-drop k after),
+        )

@@ -2,6 +2,9 @@
 use Prim.Native.Nat.{ℕ, _+_, _≤_}
 use mathlib.Core.List.{List}
 use lib.ListN.{length}
+use lib.Dec.{eqb}
+use Rattle.wire.specs.Choice.{pick}
+use Rattle.wire.specs.Refusal.{truncated}
 use Rattle.families.specs.Family.{idSize}
 use Rattle.families.specs.declared.Form.{Form}
 use Rattle.routes.specs.declared.PrefixAnswer.{PrefixAnswer}
@@ -25,3 +28,7 @@ sizeOf (P.Refused n) = Z.Refused n
 abbrev pub kept : SizeAnswer → Form → StepAnswer
 kept (Z.Size used) form = S.Item used form
 kept (Z.Refused n) form = S.Refused n
+
+-- a count whose last item has n octets, where so many bytes are left; in one number
+abbrev pub countUpTo : ℕ → ℕ → ℕ → ℕ
+countUpTo left n count = pick (eqb left n) count truncated

@@ -8,7 +8,7 @@ ghost use Rattle.wire.specs.Refusal.{listLimit};
 ghost use Rattle.families.specs.Family.{maxOf, idSize};
 ghost use Rattle.routes.specs.Prefix.{itemRow, prefixOf};
 ghost use Rattle.routes.specs.ByTable.{byTable};
-ghost use Rattle.routes.specs.Private.{Bounded, sizeOf, kept};
+ghost use Rattle.routes.specs.Private.{Bounded, sizeOf, kept, countUpTo};
 ghost use Rattle.routes.specs.List.{plainHere, fixed, stepBy, listBy, sectionBy, listOf, sectionOf, strange};
 ghost use Rattle.routes.specs.Promises.{sized, rowsIn, verdictIn, countAnswer};
 use families::AddPath;
@@ -166,36 +166,48 @@ pub fn item_step(s: &[u8], counts: &[u8; 256], mode: AddPath, form: Form) -> Ste
     }
 }
 
-// How many rows a list has whose items all stand in one form, in one number. It carries the bytes from the octets of the item before on and how many these
-// are, so that the next length byte waits for nothing but the table.
-fn count_form(s: &[u8], counts: &[u8; 256], form: Form) -> usize
-    requires { ⌜ length (now s) ≤ listLimit ⌝ }
-    ensures { λ r. ⌜ unpacked ListAnswer.Rows ListAnswer.Refused r ≡ countAnswer (now (s .entry)) (listBy (byTable (now (counts .entry))) (now (s .entry)) (fixed form)) ⌝ }
+// A count, where the n octets of the last item are all that is left, or else why it is refused; in one number.
+fn ended(left: usize, n: usize, count: usize) -> usize
+    ensures { λ r. ⌜ r ≡ countUpTo left n count ⌝ }
 {
-    let b = families::id_size(form) + 1;
-    let mut rest = s;
-    let mut n: usize = 0;
-    let mut count: usize = refusal::PAST_ALL;
-    while n + b <= rest.len() {
-        let next = octets::after(counts, rest[n + families::id_size(form)]);
-        if next == octets::REFUSED {
-            return refusal::PREFIX_LENGTH as usize;
-        }
-        rest = &rest[n + b..];
-        n = next as usize;
-        if rest.len() < n {
-            return refusal::TRUNCATED as usize;
-        }
-        count = count + 1;
-    }
-    if n == rest.len() {
+    if left == n {
         count
     } else {
         refusal::TRUNCATED as usize
     }
 }
 
-// How many rows a list has by the guess, in one number; carried as in count_form.
+// How many rows a list has whose items all stand in one form, in one number. It carries how many octets the item before has, and the bytes from where the
+// next length byte would stand if it had none, so that the next length byte waits for nothing but the table.
+fn count_form(s: &[u8], counts: &[u8; 256], form: Form) -> usize
+    requires { ⌜ length (now s) ≤ listLimit ⌝ }
+    ensures { λ r. ⌜ unpacked ListAnswer.Rows ListAnswer.Refused r ≡ countAnswer (now (s .entry)) (listBy (byTable (now (counts .entry))) (now (s .entry)) (fixed form)) ⌝ }
+{
+    let k = families::id_size(form);
+    if s.len() < k {
+        return ended(s.len(), 0, refusal::PAST_ALL);
+    }
+    let mut head = &s[k..];
+    let mut n: usize = 0;
+    let mut count: usize = refusal::PAST_ALL;
+    while n + 1 <= head.len() {
+        let next = octets::after(counts, head[n]);
+        if next == octets::REFUSED {
+            return refusal::PREFIX_LENGTH as usize;
+        }
+        let rest = &head[n + 1..];
+        n = next as usize;
+        count = count + 1;
+        if rest.len() < n + k {
+            return ended(rest.len(), n, count);
+        }
+        head = &rest[k..];
+    }
+    ended(head.len() + k, n, count)
+}
+
+// How many rows a list has by the guess, in one number. It carries the bytes from the octets of the item before on and how many these are, for the same
+// reason.
 fn count_guess(s: &[u8], counts: &[u8; 256]) -> usize
     requires { ⌜ length (now s) ≤ listLimit ⌝ }
     ensures { λ r. ⌜ unpacked ListAnswer.Rows ListAnswer.Refused r ≡ countAnswer (now (s .entry)) (listBy (byTable (now (counts .entry))) (now (s .entry)) AddPath.Guess) ⌝ }
