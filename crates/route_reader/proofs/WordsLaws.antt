@@ -10,19 +10,19 @@ use borrow.Author.Tests.{eqb-true}
 use lib.Arith.{digits-mod}
 use lib.Bits.{bitAnd, and-high}
 use lib.Dec.{eqb}
-use lib.ListN.{length, take, drop, replicate, drop-of-length-le, length-drop, length-take, length-replicate, take-append-drop}
+use lib.ListN.{length, take, drop, replicate, drop-of-length-le, length-drop, length-replicate, take-append-drop}
 use lib.Pow.{pow-add, pow-mono, shl-lt, shr-lt}
-use lib.Seq.{drop-drop, take-all, length-take-le}
+use lib.Seq.{drop-drop, take-all}
 use Rattle.wire.proofs.ChoiceLaws.{below-at}
 use Rattle.wire.specs.Number.{be, beAt, padded, Bytes}
-use Rattle.wire.proofs.NumberLaws.{pow-pos256, be-append, be-cut, be-lt, beAt-lt, be-zeros, bytes-drop, bytes-padded, length-padded, padded-all, padded-take, padded-of-take, padded-of-more}
+use Rattle.wire.proofs.NumberLaws.{pow-pos256, be-append, be-cut, be-lt, beAt-lt, be-zeros, bytes-take, bytes-drop, bytes-padded, length-padded, padded-all, padded-take, padded-of-take, padded-of-more}
 use Rattle.wire.proofs.Parts.{drop-take}
 use Rattle.families.specs.Family.{idSize}
 use Rattle.families.specs.declared.Form.{Form}
 use Rattle.routes.specs.Prefix.{wordAt, rowOf, itemRow, words}
 use Rattle.routes.proofs.PrefixLaws.{item-row}
 use Rattle.routes.specs.Private.{Bounded}
-use Rattle.route_reader.specs.Private.{headWords, addressWords, between, masks, Octets}
+use Rattle.route_reader.specs.Private.{headWords, addressWords, masks}
 
 -- ---- a number of w bytes with all but its first m cleared
 
@@ -89,15 +89,29 @@ word-within : (t : List ℕ) (k i : ℕ) → i + 4 ≤ k → beAt (take k t) i 4
 unfolding beAt
 word-within t k i le = ap (λ (o : List ℕ). be (padded 4 o)) (drop-take i k t) ∙ ap be (padded-of-more 4 (k - i) (drop i t) (omega arith))
 
--- as a reader has the two: sixteen octets of s from `seam` on, and sixteen of a table of masks from the place of the mask on
-pub masked-at : (s table : List ℕ) (seam n : ℕ) → Bytes s → table ≡ masks → n ≤ 16 → (i x y : ℕ) → i ≤ 12
-    → x ≡ beAt (take (seam + 16 - seam) (drop seam s)) i 4 → y ≡ beAt (take (16 - n + 16 - (16 - n)) (drop (16 - n) table)) i 4 → bitAnd x y ≡ beAt (take n (drop seam s)) i 4
+-- as a reader has the two: the first sixteen octets of s, and sixteen of a table of masks from the place of the mask on
+pub masked-first : (s table : List ℕ) (n : ℕ) → Bytes s → table ≡ masks → n ≤ 16 → (i x y : ℕ) → i ≤ 12
+    → x ≡ beAt (take 16 s) i 4 → y ≡ beAt (take (16 - n + 16 - (16 - n)) (drop (16 - n) table)) i 4 → bitAnd x y ≡ beAt (take n s) i 4
 unfolding beAt
-masked-at s table seam n h e few i x y le f g =
-    masked (drop seam s) n i x y (bytes-drop seam s h) few le
-    (f ∙ word-within (drop seam s) (seam + 16 - seam) i (omega arith))
+masked-first s table n h e few i x y le f g =
+    masked s n i x y h few le
+    (f ∙ word-within s 16 i (omega arith))
     (g ∙ word-within (drop (16 - n) table) (16 - n + 16 - (16 - n)) i (omega arith)
     ∙ ap (λ (t : List ℕ). be (padded 4 t)) (drop-drop i (16 - n) table) ∙ ap (λ (t : List ℕ). be (padded 4 (drop (16 - n + i) t))) e)
+
+-- ---- the first octets of a list
+
+-- n of four, with the others shifted out
+pub first-octets : (s : List ℕ) (n w : ℕ) → Bytes s → n ≤ 4 → w ≡ beAt (take 4 s) 0 4
+    → (w / 2 ^ (8 * (4 - n)) * 2 ^ (8 * (4 - n)) % 18446744073709551616 ≡ beAt (take n s) 0 4) × (w / 2 ^ (8 * (4 - n)) * 2 ^ (8 * (4 - n)) % 18446744073709551616 < 4294967296)
+first-octets s n w h few e =
+    let bits : 8 * (4 - n) ≡ 8 * 4 - 8 * (n - 0) = omega arith in
+    let cut : w / 2 ^ (8 * (4 - n)) * 2 ^ (8 * (4 - n)) ≡ beAt (take n s) 0 4 =
+    ap₂ (λ (x j : ℕ). x / 2 ^ j * 2 ^ j) (e ∙ word-within s 4 0 (omega arith)) bits ∙ cut-at 4 0 n s h in
+    let small : beAt (take n s) 0 4 < 4294967296 = word-lt (take n s) 0 (bytes-take n s h) in
+    let same : w / 2 ^ (8 * (4 - n)) * 2 ^ (8 * (4 - n)) % 18446744073709551616 ≡ beAt (take n s) 0 4 =
+    ap (λ (x : ℕ). x % 18446744073709551616) cut ∙ mod-eq-of-lt (omega (arith, small)) in
+    (same, rw same small)
 
 -- ---- the last octets of a list
 
@@ -153,18 +167,9 @@ address-parts o w0 w1 w2 w3 e f g h = cc
 pub address-first : (o : List ℕ) (w : ℕ) → length o ≤ 4 → w ≡ beAt o 0 4 → w ∷ 0 ∷ 0 ∷ 0 ∷ [] ≡ addressWords o
 address-first o w few e = address-parts o w 0 0 0 e (beyond o 4 few) (beyond o 8 (omega arith)) (beyond o 12 (omega arith))
 
--- of at most four between two places, from the last word up to the second
-pub last-between : (s : List ℕ) (seam end w : ℕ) → Octets 4 seam end s → w ≡ beAt (take end s) (length (take end s) - (end - seam)) 4 → w ∷ 0 ∷ 0 ∷ 0 ∷ [] ≡ addressWords (between seam end s)
-unfolding beAt
-last-between s seam end w o e =
-    let long : length (take end s) ≡ end = length-take-le end s (o .there) in
-    let place : length (take end s) - (end - seam) ≡ seam = omega (arith, o .front) in
-    let same : drop (length (take end s) - (end - seam)) (take end s) ≡ between seam end s = ap (λ (j : ℕ). drop j (take end s)) place ∙ drop-take seam end s in
-    address-first (between seam end s) w (omega (arith, o .few, length-take (end - seam) (drop seam s))) (e ∙ ap (λ (t : List ℕ). be (padded 4 t)) same)
-
 -- ---- the words of an item's row are its head and its address
 
-pub item-words : (form : Form) (e : ℕ) (s : List ℕ) → Bounded form e s → words (itemRow form (take e s)) ≡ headWords form s ++ addressWords (between (idSize form + 1) e s)
+pub item-words : (form : Form) (e : ℕ) (s : List ℕ) → Bounded form e s → words (itemRow form (take e s)) ≡ headWords form s ++ addressWords (take (e - (idSize form + 1)) (drop (idSize form + 1) s))
 unfolding rowOf
 item-words form e s b =
     sym (ap words (item-row s form e (idSize form) _ _ refl refl refl (b .front) (b .within)))

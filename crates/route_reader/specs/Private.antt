@@ -1,8 +1,8 @@
 -- What private functions ask of each other and put: the words of a row, in the two parts in which a reader puts them; no promise rests on it.
-use Prim.Native.Nat.{ℕ, _+_, _-_, _≤_}
+use Prim.Native.Nat.{ℕ, _+_, _≤_}
 use mathlib.Core.Path.{_≡_}
 use mathlib.Core.List.{List, [], _∷_, _++_}
-use lib.ListN.{length, getD, take, drop, replicate}
+use lib.ListN.{length, getD, replicate}
 use Rattle.wire.specs.Number.{beAt}
 use Rattle.wire.specs.Walk.{Reading, flat}
 use Rattle.families.specs.Family.{idSize, markOf}
@@ -18,15 +18,10 @@ headWords form s = (getD s (idSize form) 0 + markOf form) ∷ beAt s 0 (idSize f
 abbrev pub addressWords : List ℕ → List ℕ
 addressWords o = wordAt o 0 ∷ wordAt o 4 ∷ wordAt o 8 ∷ wordAt o 12 ∷ []
 
--- what stands between two places of s
-abbrev pub between : ℕ → ℕ → List ℕ → List ℕ
-between seam end s = take (end - seam) (drop seam s)
-
--- at most n octets between two places of s
-pub record Octets (n seam end : ℕ) (s : List ℕ) : Type 0 where
-  pub front : seam ≤ end
-  pub few : end ≤ seam + n
-  pub there : end ≤ length s
+-- n octets at the front of s, at most so many
+pub record Octets (most n : ℕ) (s : List ℕ) : Type 0 where
+  pub few : n ≤ most
+  pub there : n ≤ length s
 
 -- sixteen octets of ones and sixteen of zeros: the mask of the first n of sixteen octets stands from place 16 - n on
 abbrev pub masks : List ℕ

@@ -4,7 +4,7 @@ ghost use mathlib.Core.Path.{_≡_};
 ghost use mathlib.Core.Bool.{true};
 ghost use Prim.Native.Nat.{_+_, _-_, _≤_, _<_};
 ghost use mathlib.Core.List.{[], _∷_};
-ghost use lib.ListN.{length, drop};
+ghost use lib.ListN.{length, take};
 ghost use Rattle.wire.specs.Answer.{filled};
 ghost use Rattle.wire.specs.Number.{beAt};
 ghost use Rattle.wire.specs.Store.{laid};
@@ -14,10 +14,10 @@ ghost use Rattle.families.specs.Octets.{tableOf};
 ghost use Rattle.families.specs.declared.Afi.the-variants.{Ipv4, Ipv6};
 ghost use Rattle.families.specs.declared.AddPath.the-variants.{Guess};
 ghost use Rattle.routes.specs.Prefix.{words};
-ghost use Rattle.routes.specs.ByTable.{endBy, byTable};
+ghost use Rattle.routes.specs.ByTable.{byTable};
 ghost use Rattle.routes.specs.List.{fixed, stepBy, listOf, sectionOf};
 ghost use Rattle.routes.specs.Promises.{sized, listMeaning, countAnswer, hasRoom, readAnswer, storeAfter};
-ghost use Rattle.route_reader.specs.Private.{headWords, addressWords, between, masks, Octets, Fitting};
+ghost use Rattle.route_reader.specs.Private.{headWords, addressWords, masks, Octets, Fitting};
 ghost use Rattle.route_reader.specs.Pair.{readPair, readPairFirst, readPairSecond};
 use families::AddPath;
 use families::Afi;
@@ -153,33 +153,42 @@ fn put_exact(store: &mut [u32], to: usize, octets: &[u8])
     );
 }
 
-// The address words of the octets from `seam` to `end`, at most four: by the word that ends there, which may reach into what stands before.
-fn put_short(store: &mut [u32], to: usize, s: &[u8], seam: usize, end: usize)
-    requires { ⌜ to + 4 ≤ length (now store) ⌝ }
-    requires { ⌜ Octets 4 seam end (now s) ⌝ }
-    ensures { λ _. ⌜ now (store .exit) ≡ laid (now (store .entry)) to (addressWords (between seam end (now (s .entry)))) ⌝ }
+// The word of the first n octets of s: the first four, of which those after are shifted out.
+fn first_word(s: &[u8], n: usize) -> u32
+    requires { ⌜ (4 ≤ length (now s)) × (n ≤ 4) ⌝ }
+    ensures { λ r. ⌜ r ≡ beAt (take n (now (s .entry))) 0 4 ⌝ }
 {
-    if end < SHORT {
-        put_exact(store, to, &s[seam..end]);
-        return;
-    }
-    put_words(store, to, last_word(&s[..end], end - seam), 0, 0, 0);
+    let w = wire::u32_at(&s[..4], 0) as u64;
+    let past = (8 * (4 - n)) as u32;
+    ((w >> past) << past) as u32
 }
 
-// The same for at most sixteen: by four words from `seam` on, and what lies past the octets masked.
-fn put_long(store: &mut [u32], to: usize, s: &[u8], seam: usize, end: usize, table: &[u8])
+// The address words of the first n octets of s, at most four: by the first word, which may reach into what follows.
+fn put_short(store: &mut [u32], to: usize, s: &[u8], n: usize)
     requires { ⌜ to + 4 ≤ length (now store) ⌝ }
-    requires { ⌜ Octets 16 seam end (now s) ⌝ }
-    requires { ⌜ now table ≡ masks ⌝ }
-    ensures { λ _. ⌜ now (store .exit) ≡ laid (now (store .entry)) to (addressWords (between seam end (now (s .entry)))) ⌝ }
+    requires { ⌜ Octets 4 n (now s) ⌝ }
+    ensures { λ _. ⌜ now (store .exit) ≡ laid (now (store .entry)) to (addressWords (take n (now (s .entry)))) ⌝ }
 {
-    if s.len() - seam < LONG {
-        put_exact(store, to, &s[seam..end]);
+    if s.len() < SHORT {
+        put_exact(store, to, &s[..n]);
         return;
     }
-    let m = LONG - (end - seam);
-    let until = seam + LONG;
-    let t = &s[seam..until];
+    put_words(store, to, first_word(s, n), 0, 0, 0);
+}
+
+// The same for at most sixteen: by the first four words, and what lies past the octets masked.
+fn put_long(store: &mut [u32], to: usize, s: &[u8], n: usize, table: &[u8])
+    requires { ⌜ to + 4 ≤ length (now store) ⌝ }
+    requires { ⌜ Octets 16 n (now s) ⌝ }
+    requires { ⌜ now table ≡ masks ⌝ }
+    ensures { λ _. ⌜ now (store .exit) ≡ laid (now (store .entry)) to (addressWords (take n (now (s .entry)))) ⌝ }
+{
+    if s.len() < LONG {
+        put_exact(store, to, &s[..n]);
+        return;
+    }
+    let t = &s[..LONG];
+    let m = LONG - n;
     let stop = m + LONG;
     let u = &table[m..stop];
     put_words(
@@ -192,34 +201,22 @@ fn put_long(store: &mut [u32], to: usize, s: &[u8], seam: usize, end: usize, tab
     );
 }
 
-// The bytes of the item at the front of a list that is known to be good.
-fn item_end(s: &[u8], form: Form, counts: &[u8; 256]) -> usize
-    requires { ⌜ idSize form < length (now s) ⌝ }
-    ensures { λ r. ⌜ r ≡ endBy (now (counts .entry)) form (now (s .entry)) ⌝ }
-{
-    let k = families::id_size(form);
-    k + 1 + octets::after(counts, s[k]) as usize
-}
-
-// IPv4 items in one form; carried as in count_form of routes.
+// IPv4 items in one form; here and below, carried as in count_guess of routes.
 fn fill_short(s: &[u8], form: Form, counts: &[u8; 256], store: &mut [u32])
     requires { ⌜ Fitting (listOf (now s) (maxOf Ipv4) (fixed form)) (now store) ⌝ }
     requires { ⌜ now counts ≡ tableOf (maxOf Ipv4) ⌝ }
     ensures { λ _. ⌜ now (store .exit) ≡ laid (now (store .entry)) 0 (flat words (listOf (now (s .entry)) (maxOf Ipv4) (fixed form) .rows)) ⌝ }
 {
     let b = families::id_size(form) + 1;
-    let mut at: usize = 0;
-    let mut to: usize = 0;
     let mut rest = s;
     let mut n: usize = 0;
+    let mut to: usize = 0;
     while n < rest.len() {
         let next = octets::after(counts, rest[n + families::id_size(form)]) as usize;
-        let end = at + b + next;
-        put_head(store, to, &s[at..], form);
-        put_short(store, to + 2, s, at + b, end);
+        put_head(store, to, &rest[n..], form);
         rest = &rest[n + b..];
+        put_short(store, to + 2, rest, next);
         n = next;
-        at = end;
         to = to + 6;
     }
 }
@@ -232,23 +229,24 @@ fn fill_long(s: &[u8], form: Form, counts: &[u8; 256], store: &mut [u32])
 {
     let table = MASKS;
     let b = families::id_size(form) + 1;
-    let mut at: usize = 0;
+    let mut rest = s;
+    let mut n: usize = 0;
     let mut to: usize = 0;
-    while at < s.len() {
-        let end = at + item_end(&s[at..], form, counts);
-        put_head(store, to, &s[at..], form);
-        put_long(store, to + 2, s, at + b, end, &table);
-        at = end;
+    while n < rest.len() {
+        let next = octets::after(counts, rest[n + families::id_size(form)]) as usize;
+        put_head(store, to, &rest[n..], form);
+        rest = &rest[n + b..];
+        put_long(store, to + 2, rest, next, &table);
+        n = next;
         to = to + 6;
     }
 }
 
-// The item at a place, by the guess.
-fn guess_at(s: &[u8], at: usize, counts: &[u8; 256], form: Form) -> StepAnswer
-    requires { ⌜ at ≤ length (now s) ⌝ }
-    ensures { λ r. ⌜ r ≡ sized (stepBy (byTable (now (counts .entry))) Guess form (drop at (now (s .entry)))) ⌝ }
+// The item at the front, by the guess.
+fn guess_step(s: &[u8], counts: &[u8; 256], form: Form) -> StepAnswer
+    ensures { λ r. ⌜ r ≡ sized (stepBy (byTable (now (counts .entry))) Guess form (now (s .entry))) ⌝ }
 {
-    routes::item_step(&s[at..], counts, AddPath::Guess, form)
+    routes::item_step(s, counts, AddPath::Guess, form)
 }
 
 // IPv4 items by the guess.
@@ -257,16 +255,26 @@ fn guess_short(s: &[u8], counts: &[u8; 256], store: &mut [u32])
     requires { ⌜ now counts ≡ tableOf (maxOf Ipv4) ⌝ }
     ensures { λ _. ⌜ now (store .exit) ≡ laid (now (store .entry)) 0 (flat words (listOf (now (s .entry)) (maxOf Ipv4) Guess .rows)) ⌝ }
 {
-    let mut at: usize = 0;
+    let mut rest = s;
+    let mut n: usize = 0;
     let mut to: usize = 0;
     let mut form = Form::Plain;
-    while at < s.len() {
-        match guess_at(s, at, counts, form) {
+    while n < rest.len() {
+        let here = &rest[n..];
+        match guess_step(here, counts, form) {
             StepAnswer::Item { used, form: next } => {
-                let seam = at + (families::id_size(next) + 1);
-                put_head(store, to, &s[at..], next);
-                put_short(store, to + 2, s, seam, at + used);
-                at = at + used;
+                put_head(store, to, here, next);
+                match next {
+                    Form::Plain => {
+                        rest = &rest[n + 1..];
+                        n = used - 1;
+                    }
+                    Form::Tagged => {
+                        rest = &rest[n + 5..];
+                        n = used - 5;
+                    }
+                }
+                put_short(store, to + 2, rest, n);
                 to = to + 6;
                 form = next;
             }
@@ -284,16 +292,26 @@ fn guess_long(s: &[u8], counts: &[u8; 256], store: &mut [u32])
     ensures { λ _. ⌜ now (store .exit) ≡ laid (now (store .entry)) 0 (flat words (listOf (now (s .entry)) (maxOf Ipv6) Guess .rows)) ⌝ }
 {
     let table = MASKS;
-    let mut at: usize = 0;
+    let mut rest = s;
+    let mut n: usize = 0;
     let mut to: usize = 0;
     let mut form = Form::Plain;
-    while at < s.len() {
-        match guess_at(s, at, counts, form) {
+    while n < rest.len() {
+        let here = &rest[n..];
+        match guess_step(here, counts, form) {
             StepAnswer::Item { used, form: next } => {
-                let seam = at + (families::id_size(next) + 1);
-                put_head(store, to, &s[at..], next);
-                put_long(store, to + 2, s, seam, at + used, &table);
-                at = at + used;
+                put_head(store, to, here, next);
+                match next {
+                    Form::Plain => {
+                        rest = &rest[n + 1..];
+                        n = used - 1;
+                    }
+                    Form::Tagged => {
+                        rest = &rest[n + 5..];
+                        n = used - 5;
+                    }
+                }
+                put_long(store, to + 2, rest, n, &table);
                 to = to + 6;
                 form = next;
             }

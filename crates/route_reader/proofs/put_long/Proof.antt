@@ -1,28 +1,19 @@
-use Prim.Native.Nat.{_-_}
-use mathlib.Core.Path.{ap, _∙_}
+use mathlib.Core.Path.{sym, ap, _∙_}
 use native.Mathlib.Omega.{arith}
-use lib.ListN.{length}
+use lib.ListN.{length, length-take}
+use lib.Seq.{length-take-le}
 use Rattle.wire.specs.Number.{Bytes}
 use Rattle.wire.specs.Store.{laid}
-use Rattle.route_reader.proofs.WordsLaws.{masked-at, address-parts}
+use Rattle.route_reader.proofs.WordsLaws.{masked-first, address-parts}
 use borrow.Author.Needs.{needs}
 use Rattle.route_reader.proofs.put_long.Statement.{statement}
 use Rattle.route_reader.proofs.put_long.Tie as tie
 
-sub-if1 : tie.Need-sub-if1
-sub-if1 c = search needs
-
-sub-put-exact : tie.Need-sub-put-exact
-sub-put-exact c = search needs
-
-part-put-exact-start : tie.Need-part-put-exact-start
-part-put-exact-start c = search needs
-
-part-put-exact-end : tie.Need-part-put-exact-end
-part-put-exact-end c = search needs
+slice-aggregate-put-exact : tie.Need-slice-aggregate-put-exact
+slice-aggregate-put-exact c = let g = c .before .before .before .before .before .before in sym (length-take-le (g .args .n) (g .args .s .now) (g .pre .1 .0 .there))
 
 put-exact-requires : tie.Need-put-exact-requires
-put-exact-requires c κs = search needs
+put-exact-requires c κs = let g = c .before .before .before .before .before .before in (g .pre .0, omega (arith, g .pre .1 .0 .few, length-take (g .args .n) (g .args .s .now)))
 
 same-length : tie.Need-same-length
 same-length c = search needs
@@ -30,32 +21,20 @@ same-length c = search needs
 returns : tie.Need-returns
 returns c = search needs
 
+slice-aggregate-t : tie.Need-slice-aggregate-t
+slice-aggregate-t c = sym (length-take-le 16 (c .before .before .before .before .before .args .s .now) (omega (arith, c .before .if1 .left)))
+
 sub-m : tie.Need-sub-m
 sub-m c = search needs
-
-sub-m-2 : tie.Need-sub-m-2
-sub-m-2 c = search needs
-
-add-until : tie.Need-add-until
-add-until c = search needs
-
-sub-t : tie.Need-sub-t
-sub-t c = search needs
-
-part-t-start : tie.Need-part-t-start
-part-t-start c = search needs
-
-part-t-end : tie.Need-part-t-end
-part-t-end c = search needs
 
 add-stop : tie.Need-add-stop
 add-stop c = search needs
 
 sub-u : tie.Need-sub-u
-sub-u c = omega (arith, ap length (c .before .before .before .before .before .pre .1 .1))
+sub-u c = search needs
 
 part-u-start : tie.Need-part-u-start
-part-u-start c = omega (arith, ap length (c .before .before .before .before .before .pre .1 .1))
+part-u-start c = search needs
 
 part-u-end : tie.Need-part-u-end
 part-u-end c = omega (arith, ap length (c .before .before .before .before .before .pre .1 .1))
@@ -94,9 +73,8 @@ returns-2 : tie.Need-returns-2
 returns-2 c =
     let g = c .before .before .before .before .before .before .before .before .before .before .before .before .before .before .before .before .before .before in
     let a = g .args in
-    let o = g .pre .1 .0 in
     let bytes : Bytes (a .s .now) = λ i. c .before .before .before .before .before .before .before .before .before .before .before .before .before .before .before .before .shared-slice-known .given i .fits in
-    let word = masked-at (a .s .now) (a .table .now) (a .seam) (a .end - a .seam) bytes (g .pre .1 .1) (omega (arith, o .few)) in
+    let word = masked-first (a .s .now) (a .table .now) (a .n) bytes (g .pre .1 .1) (g .pre .1 .0 .few) in
     c .before .before .put-words .ensures
     ∙ ap (laid (a .store .now) (a .to)) (address-parts _ _ _ _ _
     (word 0 _ _ (omega arith) (c .before .before .before .before .before .before .before .before .before .before .u32-at .ensures) (c .before .before .before .before .before .before .before .before .before .u32-at2 .ensures))
@@ -108,19 +86,12 @@ pub put-long-spec : {M : Type 1} → statement M
 put-long-spec =
     tie.close
     (tie.spec
-    sub-if1
-    sub-put-exact
-    part-put-exact-start
-    part-put-exact-end
+    slice-aggregate-put-exact
     put-exact-requires
     same-length
     returns
+    slice-aggregate-t
     sub-m
-    sub-m-2
-    add-until
-    sub-t
-    part-t-start
-    part-t-end
     add-stop
     sub-u
     part-u-start

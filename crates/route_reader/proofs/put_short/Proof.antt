@@ -1,24 +1,19 @@
-use Prim.Native.Nat.{_-_}
-use mathlib.Core.Path.{sym, ap, _∙_}
+use mathlib.Core.Path.{_≡_, sym, ap, _∙_}
+use mathlib.Core.List.{[], _∷_}
 use native.Mathlib.Omega.{arith}
+use lib.ListN.{length-take}
 use lib.Seq.{length-take-le}
 use Rattle.wire.specs.Store.{laid}
-use Rattle.route_reader.proofs.WordsLaws.{last-between}
+use Rattle.route_reader.proofs.WordsLaws.{address-first}
 use borrow.Author.Needs.{needs}
 use Rattle.route_reader.proofs.put_short.Statement.{statement}
 use Rattle.route_reader.proofs.put_short.Tie as tie
 
-sub-put-exact : tie.Need-sub-put-exact
-sub-put-exact c = search needs
-
-part-put-exact-start : tie.Need-part-put-exact-start
-part-put-exact-start c = search needs
-
-part-put-exact-end : tie.Need-part-put-exact-end
-part-put-exact-end c = search needs
+slice-aggregate-put-exact : tie.Need-slice-aggregate-put-exact
+slice-aggregate-put-exact c = let g = c .before .before .before .before .before in sym (length-take-le (g .args .n) (g .args .s .now) (g .pre .1 .there))
 
 put-exact-requires : tie.Need-put-exact-requires
-put-exact-requires c κs = search needs
+put-exact-requires c κs = let g = c .before .before .before .before .before in (g .pre .0, omega (arith, g .pre .1 .few, length-take (g .args .n) (g .args .s .now)))
 
 same-length : tie.Need-same-length
 same-length c = search needs
@@ -26,17 +21,8 @@ same-length c = search needs
 returns : tie.Need-returns
 returns c = search needs
 
-slice-aggregate-last-word : tie.Need-slice-aggregate-last-word
-slice-aggregate-last-word c = let a = c .before .before .before .before .before .args in sym (length-take-le (a .end) (a .s .now) (c .before .before .before .before .before .pre .1 .there))
-
-sub-last-word : tie.Need-sub-last-word
-sub-last-word c = search needs
-
-last-word-requires : tie.Need-last-word-requires
-last-word-requires c κs =
-    let a = c .before .before .before .before .before .args in
-    let o = c .before .before .before .before .before .pre .1 in
-    (omega (arith, length-take-le (a .end) (a .s .now) (o .there), c .before .before .if1 .left), omega (arith, o .few))
+first-word-requires : tie.Need-first-word-requires
+first-word-requires c κs = search needs
 
 put-words-requires : tie.Need-put-words-requires
 put-words-requires c κs = search needs
@@ -46,23 +32,21 @@ same-length-2 c = search needs
 
 returns-2 : tie.Need-returns-2
 returns-2 c =
-    let a = c .before .before .before .before .before .before .before .before .before .args in
-    let o = c .before .before .before .before .before .before .before .before .before .pre .1 in
-    c .before .before .put-words .ensures ∙ ap (laid (a .store .now) (a .to)) (last-between (a .s .now) (a .seam) (a .end) _ o (c .before .before .before .last-word .ensures))
+    let g = c .before .before .before .before .before .before .before .before in
+    let a = g .args in
+    let w = c .before .before .before .first-word .result in
+    let put : c .before .before .put-words .last .0 ≡ laid (a .store .now) (a .to) (w ∷ 0 ∷ 0 ∷ 0 ∷ []) = c .before .before .put-words .ensures in
+    put ∙ ap (laid (a .store .now) (a .to)) (address-first _ w (omega (arith, g .pre .1 .few, length-take (a .n) (a .s .now))) (c .before .before .before .first-word .ensures))
 
 pub put-short-spec : {M : Type 1} → statement M
 put-short-spec =
     tie.close
     (tie.spec
-    sub-put-exact
-    part-put-exact-start
-    part-put-exact-end
+    slice-aggregate-put-exact
     put-exact-requires
     same-length
     returns
-    slice-aggregate-last-word
-    sub-last-word
-    last-word-requires
+    first-word-requires
     put-words-requires
     same-length-2
     returns-2)
