@@ -17,6 +17,8 @@ use Rattle.wire.proofs.ChoiceLaws.{below-at}
 use Rattle.wire.specs.Number.{be, beAt, padded, Bytes}
 use Rattle.wire.proofs.NumberLaws.{pow-pos256, be-append, be-cut, be-lt, beAt-lt, be-zeros, bytes-take, bytes-drop, bytes-padded, length-padded, padded-all, padded-take, padded-of-take, padded-of-more}
 use Rattle.wire.proofs.Parts.{drop-take}
+use Rattle.wire.specs.Store.{laid}
+use Rattle.wire.proofs.StoreLaws.{laid-laid}
 use Rattle.families.specs.Family.{idSize}
 use Rattle.families.specs.declared.Form.{Form}
 use Rattle.routes.specs.Prefix.{wordAt, rowOf, itemRow, words}
@@ -156,6 +158,11 @@ last-octets s n w h long few e =
 pub beyond : (o : List ℕ) (i : ℕ) → length o ≤ i → 0 ≡ beAt o i 4
 unfolding beAt
 beyond o i le = ap (λ (p : List ℕ). be (padded 4 p)) (sym (drop-of-length-le o le))
+
+-- ---- four words put two by two
+
+pub two-by-two : (d d₁ d₂ : List ℕ) (to w0 w1 w2 w3 : ℕ) → to + 4 ≤ length d → d₁ ≡ laid d to (w0 ∷ w1 ∷ []) → d₂ ≡ laid d₁ (to + 2) (w2 ∷ w3 ∷ []) → d₂ ≡ laid d to (w0 ∷ w1 ∷ w2 ∷ w3 ∷ [])
+two-by-two d d₁ d₂ to w0 w1 w2 w3 room e f = f ∙ ap (λ (l : List ℕ). laid l (to + 2) (w2 ∷ w3 ∷ [])) e ∙ laid-laid d to (w0 ∷ w1 ∷ []) (w2 ∷ w3 ∷ []) (omega (arith, room))
 
 -- ---- the address words of octets, from words that were read
 

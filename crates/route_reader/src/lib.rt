@@ -101,15 +101,22 @@ fn put_head(store: &mut [u32], to: usize, s: &[u8], form: Form)
     store[to + 1] = id_of(s, form);
 }
 
-// Four words at a place of a store.
+// Two words at a place of a store. Here and below words go two by two: so their loads and stores can be joined, and no more than two of them.
+fn put_pair(store: &mut [u32], to: usize, w0: u32, w1: u32)
+    requires { ⌜ to + 2 ≤ length (now store) ⌝ }
+    ensures { λ _. ⌜ now (store .exit) ≡ laid (now (store .entry)) to (w0 ∷ w1 ∷ []) ⌝ }
+{
+    store[to] = w0;
+    store[to + 1] = w1;
+}
+
+// Four words.
 fn put_words(store: &mut [u32], to: usize, w0: u32, w1: u32, w2: u32, w3: u32)
     requires { ⌜ to + 4 ≤ length (now store) ⌝ }
     ensures { λ _. ⌜ now (store .exit) ≡ laid (now (store .entry)) to (w0 ∷ w1 ∷ w2 ∷ w3 ∷ []) ⌝ }
 {
-    store[to] = w0;
-    store[to + 1] = w1;
-    store[to + 2] = w2;
-    store[to + 3] = w3;
+    put_pair(store, to, w0, w1);
+    put_pair(store, to + 2, w2, w3);
 }
 
 // The address words of octets, of which no other byte is read. Here and below, a slice that is lent on whole goes in registers.
@@ -191,11 +198,15 @@ fn put_long(store: &mut [u32], to: usize, s: &[u8], n: usize, table: &[u8])
     let m = LONG - n;
     let stop = m + LONG;
     let u = &table[m..stop];
-    put_words(
+    put_pair(
         store,
         to,
         wire::u32_at(t, 0) & wire::u32_at(u, 0),
         wire::u32_at(t, 4) & wire::u32_at(u, 4),
+    );
+    put_pair(
+        store,
+        to + 2,
         wire::u32_at(t, 8) & wire::u32_at(u, 8),
         wire::u32_at(t, 12) & wire::u32_at(u, 12),
     );

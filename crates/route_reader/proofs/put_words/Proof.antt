@@ -1,66 +1,25 @@
-use mathlib.Core.List.{[], _∷_}
-use native.Mathlib.Omega.{arith}
-use lib.ListN.{length-set}
-use Rattle.wire.proofs.StoreLaws.{puts-laid}
+use Rattle.route_reader.proofs.WordsLaws.{two-by-two}
 use borrow.Author.Needs.{needs}
 use Rattle.route_reader.proofs.put_words.Statement.{statement}
 use Rattle.route_reader.proofs.put_words.Tie as tie
 
-mul-store : tie.Need-mul-store
-mul-store c = search needs
+put-pair-requires : tie.Need-put-pair-requires
+put-pair-requires c κs = search needs
 
-slice-write-store : tie.Need-slice-write-store
-slice-write-store c = search needs
+add-put-pair : tie.Need-add-put-pair
+add-put-pair c = search needs
 
-add-store : tie.Need-add-store
-add-store c = search needs
-
-mul-store-2 : tie.Need-mul-store-2
-mul-store-2 c = search needs
-
-slice-write-store-2 : tie.Need-slice-write-store-2
-slice-write-store-2 c = simp length-set (omega arith)
-
-add-store-2 : tie.Need-add-store-2
-add-store-2 c = search needs
-
-mul-store-3 : tie.Need-mul-store-3
-mul-store-3 c = search needs
-
-slice-write-store-3 : tie.Need-slice-write-store-3
-slice-write-store-3 c = simp length-set (omega arith)
-
-add-store-3 : tie.Need-add-store-3
-add-store-3 c = search needs
-
-mul-store-4 : tie.Need-mul-store-4
-mul-store-4 c = search needs
-
-slice-write-store-4 : tie.Need-slice-write-store-4
-slice-write-store-4 c = simp length-set (omega arith)
+put-pair-requires-2 : tie.Need-put-pair-requires-2
+put-pair-requires-2 c κs = search needs
 
 same-length : tie.Need-same-length
 same-length c = search needs
 
 returns : tie.Need-returns
 returns c =
-    let a = c .args in
-    puts-laid (a .store .now) (a .to) (a .w0 ∷ a .w1 ∷ a .w2 ∷ a .w3 ∷ []) (c .pre)
+    let g = c .before .before .before .before .before .before .before .before .before in
+    let a = g .args in
+    two-by-two (a .store .now) _ _ (a .to) (a .w0) (a .w1) (a .w2) (a .w3) (g .pre) (c .before .before .before .before .before .before .put-pair .ensures) (c .before .before .put-pair2 .ensures)
 
 pub put-words-spec : {M : Type 1} → statement M
-put-words-spec =
-    tie.close
-    (tie.spec
-    mul-store
-    slice-write-store
-    add-store
-    mul-store-2
-    slice-write-store-2
-    add-store-2
-    mul-store-3
-    slice-write-store-3
-    add-store-3
-    mul-store-4
-    slice-write-store-4
-    same-length
-    returns)
+put-words-spec = tie.close (tie.spec put-pair-requires add-put-pair put-pair-requires-2 same-length returns)
