@@ -141,9 +141,9 @@ module _ (max : ℕ) (form : Form) (s d₀ left : List ℕ) (n to : ℕ) (d : Li
 -- ---- whichever items a step takes, by a family's table
 
 module _ (afi : Afi) (mode : AddPath) (st₀ : Form) (s d₀ left : List ℕ) (n : ℕ) (st : Form) (to : ℕ) (d : List ℕ) (h : Held (maxOf afi) mode st₀ s d₀ left n st to d) (counts : List ℕ)
-    (table : counts ≡ tableOf (maxOf afi)) (r : StepAnswer) (told : r ≡ sized (stepBy (byTable counts) mode st (from left n))) where
+    (table : counts ≡ tableOf (maxOf afi)) (r : StepAnswer) (told : r ≡ sized (stepBy (byTable counts) mode st (drop n left))) where
   step : r ≡ sized (stepOf (maxOf afi) mode st (drop n left))
-  step = told ∙ ap (λ (l : List ℕ). sized (stepBy (byTable counts) mode st l)) (rest left n) ∙ ap sized (step-family counts afi table mode st (drop n left))
+  step = told ∙ ap sized (step-family counts afi table mode st (drop n left))
 
   pub turn-step : (used : ℕ) (form : Form) → r ≡ S.Item used form → (b : ℕ) → b ≡ idSize form + 1 → (b ≤ used) × Turn (maxOf afi) mode st₀ s d₀ left n to d form b (used - b)
   turn-step used form e b bytes =

@@ -4,7 +4,7 @@ ghost use mathlib.Core.Path.{_≡_};
 ghost use mathlib.Core.Bool.{true};
 ghost use Prim.Native.Nat.{_+_, _-_, _≤_, _<_};
 ghost use mathlib.Core.List.{[], _∷_};
-ghost use lib.ListN.{length, take};
+ghost use lib.ListN.{length, take, drop};
 ghost use Rattle.wire.specs.Answer.{filled};
 ghost use Rattle.wire.specs.Number.{beAt};
 ghost use Rattle.wire.specs.Store.{laid};
@@ -253,11 +253,11 @@ fn fill_long(s: &[u8], form: Form, counts: &[u8; 256], store: &mut [u32])
     }
 }
 
-// The item at the front, by the guess.
-fn guess_step(s: &[u8], counts: &[u8; 256], form: Form) -> StepAnswer
-    ensures { λ r. ⌜ r ≡ sized (stepBy (byTable (now (counts .entry))) Guess form (now (s .entry))) ⌝ }
+// The item at place n, by the guess.
+fn guess_step(s: &[u8], n: usize, counts: &[u8; 256], form: Form) -> StepAnswer
+    ensures { λ r. ⌜ r ≡ sized (stepBy (byTable (now (counts .entry))) Guess form (drop n (now (s .entry)))) ⌝ }
 {
-    routes::item_step(s, counts, AddPath::Guess, form)
+    routes::item_step(s, n, counts, AddPath::Guess, form)
 }
 
 // IPv4 items by the guess.
@@ -271,10 +271,9 @@ fn guess_short(s: &[u8], counts: &[u8; 256], store: &mut [u32])
     let mut to: usize = 0;
     let mut form = Form::Plain;
     while n < rest.len() {
-        let here = &rest[n..];
-        match guess_step(here, counts, form) {
+        match guess_step(rest, n, counts, form) {
             StepAnswer::Item { used, form: next } => {
-                put_head(store, to, here, next);
+                put_head(store, to, &rest[n..], next);
                 match next {
                     Form::Plain => {
                         rest = &rest[n + 1..];
@@ -308,10 +307,9 @@ fn guess_long(s: &[u8], counts: &[u8; 256], store: &mut [u32])
     let mut to: usize = 0;
     let mut form = Form::Plain;
     while n < rest.len() {
-        let here = &rest[n..];
-        match guess_step(here, counts, form) {
+        match guess_step(rest, n, counts, form) {
             StepAnswer::Item { used, form: next } => {
-                put_head(store, to, here, next);
+                put_head(store, to, &rest[n..], next);
                 match next {
                     Form::Plain => {
                         rest = &rest[n + 1..];

@@ -105,10 +105,7 @@ module _ (read : Reader) (fair : Fair read) (mode : AddPath) (st₀ : Form) (s :
 -- ---- of whichever items a step takes, by a table
 
 module _ (counts : List ℕ) (mode : AddPath) (st₀ : Form) (s left : List ℕ) (n : ℕ) (st : Form) (count : ℕ) (h : Carried (byTable counts) mode st₀ s left n st count) (r : StepAnswer)
-    (e : r ≡ sized (stepBy (byTable counts) mode st (take (length left - n) (drop n left)))) where
-  told : r ≡ sized (stepBy (byTable counts) mode st (drop n left))
-  told = e ∙ ap (λ (l : List ℕ). sized (stepBy (byTable counts) mode st l)) (rest left n)
-
+    (told : r ≡ sized (stepBy (byTable counts) mode st (drop n left))) where
   pub sized-next : (used : ℕ) (form : Form) → r ≡ Item used form → (b : ℕ) → b ≡ idSize form + 1
       → (b ≤ used) × (n + used ≤ length left) × (count < pastAll + length s) × (length (take (length left - (n + b)) (drop (n + b) left)) - (used - b) < length left - n)
       × Carried (byTable counts) mode st₀ s (take (length left - (n + b)) (drop (n + b) left)) (used - b) form (count + 1)

@@ -8,7 +8,7 @@ use lib.Dec.{eqb}
 use native.Mathlib.Nat.{lt-of-not-le}
 use native.Mathlib.Decide.{decLe}
 use native.Mathlib.Omega.{arith}
-use borrow.Author.Tests.{le-leb, lt-leb}
+use borrow.Author.Tests.{le-leb, lt-leb, eqb-true}
 use lib.ListN.{length, getD, take, drop}
 use Rattle.wire.specs.Answer.{given, filled, answerBy, unpacked}
 use Rattle.wire.proofs.AnswerLaws.{answer-refused, unpacked-count, unpacked-refused}
@@ -132,6 +132,14 @@ pub size-step : (read : Reader) (mode : AddPath) (st form : Form) (s : List ℕ)
 unfolding stepBy inForm
 size-step read mode st form s size e f =
     ap (λ (z : SizeAnswer). kept z form) e ∙ sized-in form (read s form) ∙ ap (λ (g : Form). sized (asStep g (read s g))) (sym f)
+
+-- in Plain, a byte that is not read without id is 0
+pub plain-zero : (b : ℕ) → plainHere Plain b ≡ false → b ≡ 0
+plain-zero b = by (eqb b 0) refl
+  where
+    by : (x : Bool) → eqb b 0 ≡ x → not x ≡ false → b ≡ 0
+    by true e f = eqb-true b 0 e
+    by false e f = let z : _≡_ {A = ℕ} 0 1 = cc in absurd (zero-ne-one z)
 
 -- the form of the guess: Plain at a byte other than 0, Tagged where the item is well formed so, and else Plain
 pub guess-plain : (read : Reader) (st : Form) (s : List ℕ) → plainHere st (getD s 0 0) ≡ true → guessForm read st s ≡ Plain

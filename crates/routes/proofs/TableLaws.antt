@@ -12,6 +12,7 @@ use lib.Dec.{eqb}
 use mathlib.Core.Bool.{false}
 use Rattle.wire.proofs.ChoiceLaws.{pick-leb, pick-eqb}
 use Rattle.wire.specs.Refusal.{truncated, prefixLength, pastAll}
+use Rattle.wire.specs.Walk.{stop}
 use Rattle.families.specs.Family.{maxOf, idSize, octets}
 use Rattle.families.specs.Octets.{refusedLength, tableOf, entry}
 use Rattle.families.specs.declared.Afi.{Afi}
@@ -20,7 +21,7 @@ use Rattle.families.specs.declared.AddPath.{AddPath}
 use Rattle.families.proofs.FamilyLaws.{max-small}
 use Rattle.families.proofs.OctetLaws.{entry-in, entry-out, octets-few}
 use Rattle.routes.specs.Prefix.{itemEnd, itemRow, prefixOf}
-use Rattle.routes.specs.List.{Reader, upTo, stepBy, stepOf, listBy, listOf, sectionBy, sectionOf}
+use Rattle.routes.specs.List.{Reader, upTo, asStep, inForm, formBy, stepBy, stepOf, listBy, listOf, sectionBy, sectionOf}
 use Rattle.routes.specs.ByTable.{endBy, byTable}
 use Rattle.routes.specs.declared.Row.{Row}
 use Rattle.routes.specs.declared.PrefixAnswer.{PrefixAnswer}
@@ -63,6 +64,11 @@ module _ (counts s : List ℕ) (form : Form) where
       (λ _. seven)
       (λ _. pick-leb P (endBy counts form s) (length s) _ _ good (λ _. two)))
       (λ _. two)
+
+-- no step takes anything where nothing is left
+pub step-none : (counts : List ℕ) (mode : AddPath) (st : Form) (s : List ℕ) → length s ≤ 0 → stepBy (byTable counts) mode st s ≡ stop truncated
+unfolding stepBy inForm
+step-none counts mode st s none = let form : Form = formBy (byTable counts) mode st s in ap (asStep form) (table-none counts s form (omega (arith, none)))
 
 -- an item that is taken ends where the table says
 pub table-size : (counts s : List ℕ) (form : Form) (used : ℕ) (row : Row) → byTable counts s form ≡ Prefix used row → used ≡ endBy counts form s

@@ -1,7 +1,8 @@
 // Routes: one, and a list of them (RFC 4271 section 4.3, RFC 7911 section 3). The reading of utils.rs and of read_nlri in messages.rs.
 ghost use mathlib.Core.Path.{_≡_};
-ghost use Prim.Native.Nat.{_≤_};
-ghost use lib.ListN.{length, getD, take};
+ghost use mathlib.Core.Bool.{false};
+ghost use Prim.Native.Nat.{_≤_, _<_};
+ghost use lib.ListN.{length, getD, take, drop};
 ghost use Rattle.wire.specs.Answer.{unpacked};
 ghost use Rattle.wire.specs.Number.{beAt};
 ghost use Rattle.wire.specs.Refusal.{listLimit};
@@ -51,7 +52,24 @@ pub enum StepAnswer {
     Refused(u8),
 }
 
-// How many bytes the item at the front takes. Here and below, `counts` says how many octets follow a length byte.
+// How many bytes the item at the front takes, whose length byte is `bits`. Here and below, `counts` says how many octets follow a length byte.
+fn size_by(s: &[u8], bits: u8, counts: &[u8; 256], form: Form) -> SizeAnswer
+    requires { ⌜ idSize form < length (now s) ⌝ }
+    requires { ⌜ bits ≡ getD (now s) (idSize form) 0 ⌝ }
+    ensures { λ r. ⌜ r ≡ sizeOf (byTable (now (counts .entry)) (now (s .entry)) form) ⌝ }
+{
+    let n = octets::after(counts, bits);
+    if n == octets::REFUSED {
+        return SizeAnswer::Refused(refusal::PREFIX_LENGTH);
+    }
+    let e = families::id_size(form) + 1 + n as usize;
+    if s.len() < e {
+        return SizeAnswer::Refused(refusal::TRUNCATED);
+    }
+    SizeAnswer::Size(e)
+}
+
+// How many bytes the item at the front takes.
 fn front_size(s: &[u8], counts: &[u8; 256], form: Form) -> SizeAnswer
     ensures { λ r. ⌜ r ≡ sizeOf (byTable (now (counts .entry)) (now (s .entry)) form) ⌝ }
 {
@@ -59,15 +77,7 @@ fn front_size(s: &[u8], counts: &[u8; 256], form: Form) -> SizeAnswer
     if s.len() <= k {
         return SizeAnswer::Refused(refusal::TRUNCATED);
     }
-    let n = octets::after(counts, s[k]);
-    if n == octets::REFUSED {
-        return SizeAnswer::Refused(refusal::PREFIX_LENGTH);
-    }
-    let e = k + 1 + n as usize;
-    if s.len() < e {
-        return SizeAnswer::Refused(refusal::TRUNCATED);
-    }
-    SizeAnswer::Size(e)
+    size_by(s, s[k], counts, form)
 }
 
 // The id of the item at the front of s, 0 where the form has none.
@@ -122,29 +132,47 @@ fn keep_size(a: SizeAnswer, form: Form) -> StepAnswer
     }
 }
 
-// Whether the guess reads here without an id: in Plain, at a byte other than 0.
-fn plain_here(s: &[u8], form: Form) -> bool
-    ensures { λ r. ⌜ r ≡ plainHere form (getD (now (s .entry)) 0 0) ⌝ }
+// Whether the guess reads the item at place n without an id: in Plain, at a byte other than 0.
+fn plain_at(s: &[u8], n: usize, form: Form) -> bool
+    requires { ⌜ n < length (now s) ⌝ }
+    ensures { λ r. ⌜ r ≡ plainHere form (getD (now (s .entry)) n 0) ⌝ }
 {
     match form {
-        Form::Plain => wire::octet(s, 0) != 0,
+        Form::Plain => s[n] != 0,
         Form::Tagged => false,
     }
 }
 
-// A step of the guess: the item is tried with an id, and else the same place is read without.
-fn guess_size(s: &[u8], counts: &[u8; 256], form: Form) -> StepAnswer
-    ensures { λ r. ⌜ r ≡ sized (stepBy (byTable (now (counts .entry))) AddPath.Guess form (now (s .entry))) ⌝ }
+// The byte at place n, where the guess has tried an id: in Plain it is 0, and is not read again.
+fn byte_tried(s: &[u8], n: usize, form: Form) -> u8
+    requires { ⌜ n < length (now s) ⌝ }
+    requires { ⌜ plainHere form (getD (now s) n 0) ≡ false ⌝ }
+    ensures { λ r. ⌜ r ≡ getD (now (s .entry)) n 0 ⌝ }
 {
-    if plain_here(s, form) {
-        return keep_size(front_size(s, counts, Form::Plain), Form::Plain);
+    match form {
+        Form::Plain => 0,
+        Form::Tagged => s[n],
     }
-    match front_size(s, counts, Form::Tagged) {
+}
+
+// A step of the guess at place n: the item is tried with an id, and else the same place is read without. Each branch makes its own part of s, so that
+// the load of a first byte adds its place itself.
+fn guess_at(s: &[u8], n: usize, counts: &[u8; 256], form: Form) -> StepAnswer
+    requires { ⌜ n < length (now s) ⌝ }
+    ensures { λ r. ⌜ r ≡ sized (stepBy (byTable (now (counts .entry))) AddPath.Guess form (drop n (now (s .entry)))) ⌝ }
+{
+    if plain_at(s, n, form) {
+        return keep_size(front_size(&s[n..], counts, Form::Plain), Form::Plain);
+    }
+    match front_size(&s[n..], counts, Form::Tagged) {
         SizeAnswer::Size(used) => StepAnswer::Item {
             used,
             form: Form::Tagged,
         },
-        SizeAnswer::Refused(_) => keep_size(front_size(s, counts, Form::Plain), Form::Plain),
+        SizeAnswer::Refused(_) => {
+            let bits = byte_tried(s, n, form);
+            keep_size(size_by(&s[n..], bits, counts, Form::Plain), Form::Plain)
+        }
     }
 }
 
@@ -155,14 +183,17 @@ fn form_size(s: &[u8], counts: &[u8; 256], form: Form) -> StepAnswer
     keep_size(front_size(s, counts, form), form)
 }
 
-// A step under a setting.
-pub fn item_step(s: &[u8], counts: &[u8; 256], mode: AddPath, form: Form) -> StepAnswer
-    ensures { λ r. ⌜ r ≡ sized (stepBy (byTable (now (counts .entry))) mode form (now (s .entry))) ⌝ }
+// A step under a setting, at place n.
+pub fn item_step(s: &[u8], n: usize, counts: &[u8; 256], mode: AddPath, form: Form) -> StepAnswer
+    ensures { λ r. ⌜ r ≡ sized (stepBy (byTable (now (counts .entry))) mode form (drop n (now (s .entry)))) ⌝ }
 {
+    if s.len() <= n {
+        return StepAnswer::Refused(refusal::TRUNCATED);
+    }
     match mode {
-        AddPath::On => form_size(s, counts, Form::Tagged),
-        AddPath::Off => form_size(s, counts, Form::Plain),
-        AddPath::Guess => guess_size(s, counts, form),
+        AddPath::On => form_size(&s[n..], counts, Form::Tagged),
+        AddPath::Off => form_size(&s[n..], counts, Form::Plain),
+        AddPath::Guess => guess_at(s, n, counts, form),
     }
 }
 
@@ -217,7 +248,7 @@ fn count_guess(s: &[u8], counts: &[u8; 256]) -> usize
     let mut count: usize = refusal::PAST_ALL;
     let mut form = Form::Plain;
     while n < rest.len() {
-        match guess_size(&rest[n..], counts, form) {
+        match guess_at(rest, n, counts, form) {
             StepAnswer::Item { used, form: next } => {
                 // Each form takes its own bytes out again, so that the count from the table is carried as it is.
                 match next {

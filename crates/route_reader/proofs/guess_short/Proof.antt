@@ -24,15 +24,6 @@ loop-holds : tie.Need-loop-holds Inv-loop μ-loop
 unfolding listBy
 loop-holds c = let g = c .before .before in held-start (maxOf Ipv4) Guess Plain (g .args .s .now) (g .args .store .now) (g .pre .0)
 
-sub-here : tie.Need-sub-here Inv-loop μ-loop
-sub-here c = c .before .loop .inv .behind .within
-
-part-here-start : tie.Need-part-here-start Inv-loop μ-loop
-part-here-start c = search needs
-
-part-here-end : tie.Need-part-here-end Inv-loop μ-loop
-part-here-end c = search needs
-
 guess-step-requires : tie.Need-guess-step-requires Inv-loop μ-loop
 guess-step-requires c κs = search needs
 
@@ -41,44 +32,53 @@ enum-known-used c = search needs
 
 -- the item that the turn takes, with b bytes before its octets
 turn : (c : tie.After-known-told Inv-loop μ-loop) (b : ℕ) → b ≡ idSize (c .before .used .given .0 .1 .0) + 1 →
-    let l = c .before .before .before .before .before .before in
+    let l = c .before .before .before .before .before in
     let a = l .before .before .before .args in
     let used = c .before .used .given .0 .0 in
     (b ≤ used) × Turn (maxOf Ipv4) Guess Plain (a .s .now) (a .store .now) (l .loop .rest .now) (l .loop .n) (l .loop .to) (l .loop .store) (c .before .used .given .0 .1 .0) b (used - b)
 turn c b bytes =
-    let l = c .before .before .before .before .before .before in
+    let l = c .before .before .before .before .before in
     let g = l .before .before .before in
     turn-step Ipv4 Guess Plain (g .args .s .now) (g .args .store .now) (l .loop .rest .now) (l .loop .n) (l .loop .form) (l .loop .to) (l .loop .store) (l .loop .inv) (g .args .counts .now) (g .pre .1) _ (c .before .before .before .guess-step .ensures) _ _ (c .before .used .given .1) b bytes
 
 -- of the item, whichever its form
 item : (c : tie.After-known-told Inv-loop μ-loop) →
-    let l = c .before .before .before .before .before .before in
+    let l = c .before .before .before .before .before in
     let a = l .before .before .before .args in
     let form = c .before .used .given .0 .1 .0 in
     Turn (maxOf Ipv4) Guess Plain (a .s .now) (a .store .now) (l .loop .rest .now) (l .loop .n) (l .loop .to) (l .loop .store) form (idSize form + 1) (c .before .used .given .0 .0 - (idSize form + 1))
 item c = turn c _ refl .1
 
+sub-put-head : tie.Need-sub-put-head Inv-loop μ-loop
+sub-put-head c = c .before .before .before .before .before .before .loop .inv .behind .within
+
+part-put-head-start : tie.Need-part-put-head-start Inv-loop μ-loop
+part-put-head-start c = search needs
+
+part-put-head-end : tie.Need-part-put-head-end Inv-loop μ-loop
+part-put-head-end c = search needs
+
 put-head-requires : tie.Need-put-head-requires Inv-loop μ-loop
-put-head-requires c κs = let i = item (c .before) in (omega (arith, i .room), i .front)
+put-head-requires c κs = let i = item (c .before .before) in (omega (arith, i .room), i .front)
 
 enum-told : tie.Need-enum-told Inv-loop μ-loop
 enum-told c = search needs
 
 -- in each form: it has the bytes before its octets, and is there
 plain : (c : tie.After-enum-told Inv-loop μ-loop) →
-    let k = c .before .before .before .before .before .before in
-    let l = k .before .before .before .before .before .before in
+    let k = c .before .before .before .before .before .before .before in
+    let l = k .before .before .before .before .before in
     (1 ≤ k .before .used .given .0 .0) × (l .loop .n + k .before .used .given .0 .0 ≤ length (l .loop .rest .now)) × (length (l .loop .rest .now) ≤ length (l .before .before .before .args .s .now))
 plain c =
-    let t = turn (c .before .before .before .before .before .before) 1 (sym (ap (λ (form : Form). idSize form + 1) (c .enum-told .given .1))) in
+    let t = turn (c .before .before .before .before .before .before .before) 1 (sym (ap (λ (form : Form). idSize form + 1) (c .enum-told .given .1))) in
     (t .0, omega (arith, t .0, t .1 .inside), c .before .before .before .before .before .before .before .before .before .before .before .before .loop .inv .behind .part)
 
 tagged : (c : tie.After-enum-told2 Inv-loop μ-loop) →
-    let k = c .before .before .before .before .before .before in
-    let l = k .before .before .before .before .before .before in
+    let k = c .before .before .before .before .before .before .before in
+    let l = k .before .before .before .before .before in
     (5 ≤ k .before .used .given .0 .0) × (l .loop .n + k .before .used .given .0 .0 ≤ length (l .loop .rest .now)) × (length (l .loop .rest .now) ≤ length (l .before .before .before .args .s .now))
 tagged c =
-    let t = turn (c .before .before .before .before .before .before) 5 (sym (ap (λ (form : Form). idSize form + 1) (c .enum-told2 .given .1))) in
+    let t = turn (c .before .before .before .before .before .before .before) 5 (sym (ap (λ (form : Form). idSize form + 1) (c .enum-told2 .given .1))) in
     (t .0, omega (arith, t .0, t .1 .inside), c .before .before .before .before .before .before .before .before .before .before .before .before .loop .inv .behind .part)
 
 add-rest : tie.Need-add-rest Inv-loop μ-loop
@@ -116,24 +116,24 @@ sub-n-2 c = tagged (c .before) .0
 
 -- what it leaves, in whichever form
 leaves : (c : tie.At-match2-came Inv-loop μ-loop) →
-    let k = c .before .before .before .before .before in
-    let l = k .before .before .before .before .before .before in
+    let k = c .before .before .before .before .before .before in
+    let l = k .before .before .before .before .before in
     let a = l .before .before .before .args in
     Left (maxOf Ipv4) Guess Plain (a .s .now) (a .store .now) (l .loop .rest .now) (l .loop .n) (l .loop .to) (l .loop .store) (k .before .used .given .0 .1 .0) (c .match2 .rest .now) (c .match2 .n)
 leaves c =
     ⊎-elim
-    (λ w. rw (w .3, w .4) (turn (c .before .before .before .before .before) 1 (sym (ap (λ (form : Form). idSize form + 1) (w .1 .given .1))) .1 .leaves))
-    (λ w. rw (w .3, w .4) (turn (c .before .before .before .before .before) 5 (sym (ap (λ (form : Form). idSize form + 1) (w .1 .given .1))) .1 .leaves))
+    (λ w. rw (w .3, w .4) (turn (c .before .before .before .before .before .before) 1 (sym (ap (λ (form : Form). idSize form + 1) (w .1 .given .1))) .1 .leaves))
+    (λ w. rw (w .3, w .4) (turn (c .before .before .before .before .before .before) 5 (sym (ap (λ (form : Form). idSize form + 1) (w .1 .given .1))) .1 .leaves))
     (c .match2 .came)
 
 add-put-short : tie.Need-add-put-short Inv-loop μ-loop
-add-put-short c = omega (arith, item (c .before .before .before .before .before .before) .room)
+add-put-short c = omega (arith, item (c .before .before .before .before .before .before .before) .room)
 
 put-short-requires : tie.Need-put-short-requires Inv-loop μ-loop
-put-short-requires c κs = (item (c .before .before .before .before .before .before) .more _ (c .before .before .before .before .put-head .ensures), leaves (c .before) .spot 4 (omega arith))
+put-short-requires c κs = (item (c .before .before .before .before .before .before .before) .more _ (c .before .before .before .before .put-head .ensures), leaves (c .before) .spot 4 (omega arith))
 
 add-to : tie.Need-add-to Inv-loop μ-loop
-add-to c = omega (arith, item (c .before .before .before .before .before .before .before .before .before) .room)
+add-to c = omega (arith, item (c .before .before .before .before .before .before .before .before .before .before) .room)
 
 loop-less : tie.Need-loop-less Inv-loop μ-loop
 loop-less c = leaves (c .before .before .before .before) .less
@@ -145,14 +145,14 @@ enum-told-3 : tie.Need-enum-told-3 Inv-loop μ-loop
 enum-told-3 c = search needs
 
 same-length : tie.Need-same-length Inv-loop μ-loop
-same-length c = c .before .before .before .before .before .loop .inv .filled .long
+same-length c = c .before .before .before .before .loop .inv .filled .long
 
 returns : tie.Need-returns Inv-loop μ-loop
 returns c =
-    let l = c .before .before .before .before .before in
+    let l = c .before .before .before .before in
     let g = l .before .before .before in
     absurd (step-never Ipv4 Guess Plain (g .args .s .now) (g .args .store .now) (l .loop .rest .now) (l .loop .n) (l .loop .form) (l .loop .to) (l .loop .store) (l .loop .inv) (g .args .counts .now) (g .pre .1) _ (c .before .before .guess-step .ensures)
-    (c .before .before .before .before .loop-test .taken) _ (c .enum-told3 .given .1))
+    (c .before .before .before .loop-test .taken) _ (c .enum-told3 .given .1))
 
 same-length-2 : tie.Need-same-length-2 Inv-loop μ-loop
 same-length-2 c = c .before .loop .inv .filled .long
@@ -171,11 +171,11 @@ guess-short-spec =
     Inv-loop
     μ-loop
     loop-holds
-    sub-here
-    part-here-start
-    part-here-end
     guess-step-requires
     enum-known-used
+    sub-put-head
+    part-put-head-start
+    part-put-head-end
     put-head-requires
     enum-told
     add-rest

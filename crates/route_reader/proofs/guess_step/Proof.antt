@@ -1,4 +1,5 @@
 use mathlib.Core.Path.{_≡_}
+use lib.ListN.{drop}
 use Rattle.families.specs.declared.AddPath.the-variants.{Guess}
 use Rattle.routes.specs.List.{stepBy}
 use Rattle.routes.specs.ByTable.{byTable}
@@ -13,7 +14,7 @@ item-step-requires c κs = search needs
 returns : tie.Need-returns
 returns c =
     let a = c .before .before .args in
-    let step : c .item-step .result ≡ sized (stepBy (byTable (a .counts .now)) Guess (a .form) (a .s .now)) = c .item-step .ensures in
+    let step : c .item-step .result ≡ sized (stepBy (byTable (a .counts .now)) Guess (a .form) (drop (a .n) (a .s .now))) = c .item-step .ensures in
     step
 
 pub guess-step-spec : {M : Type 1} → statement M

@@ -25,17 +25,8 @@ abbrev μ-loop : tie.MeasureT-loop
 loop-holds : tie.Need-loop-holds Inv-loop μ-loop
 loop-holds c = let a = c .before .args in carried-start (byTable (a .counts .now)) (fair-table (a .counts .now)) Guess Plain (a .s .now)
 
-sub-guess-size : tie.Need-sub-guess-size Inv-loop μ-loop
-sub-guess-size c = c .before .loop .inv .behind .within
-
-part-guess-size-start : tie.Need-part-guess-size-start Inv-loop μ-loop
-part-guess-size-start c = c .before .loop .inv .behind .within
-
-part-guess-size-end : tie.Need-part-guess-size-end Inv-loop μ-loop
-part-guess-size-end c = search needs
-
-guess-size-requires : tie.Need-guess-size-requires Inv-loop μ-loop
-guess-size-requires c κs = search needs
+guess-at-requires : tie.Need-guess-at-requires Inv-loop μ-loop
+guess-at-requires c κs = search needs
 
 enum-known-used : tie.Need-enum-known-used Inv-loop μ-loop
 enum-known-used c = search needs
@@ -45,7 +36,7 @@ enum-told c = search needs
 
 -- what the turn takes, with b bytes before its octets
 turn : (c : tie.After-known-told Inv-loop μ-loop) (b : ℕ) → b ≡ idSize (c .before .used .given .0 .1 .0) + 1 →
-    let l = c .before .before .before .before .before .before in
+    let l = c .before .before .before .before .before in
     let a = l .before .before .args in
     let left = l .loop .rest .now in
     let used = c .before .used .given .0 .0 in
@@ -53,18 +44,18 @@ turn : (c : tie.After-known-told Inv-loop μ-loop) (b : ℕ) → b ≡ idSize (c
     (b ≤ used) × (l .loop .n + used ≤ length left) × (l .loop .count < pastAll + length (a .s .now)) × (length after - (used - b) < length left - l .loop .n)
     × Carried (byTable (a .counts .now)) Guess Plain (a .s .now) after (used - b) (c .before .used .given .0 .1 .0) (l .loop .count + 1)
 turn c b bytes =
-    let l = c .before .before .before .before .before .before in
+    let l = c .before .before .before .before .before in
     let a = l .before .before .args in
-    sized-next (a .counts .now) Guess Plain (a .s .now) (l .loop .rest .now) (l .loop .n) (l .loop .form) (l .loop .count) (l .loop .inv) _ (c .before .before .before .guess-size .ensures) _ _ (c .before .used .given .1) b bytes
+    sized-next (a .counts .now) Guess Plain (a .s .now) (l .loop .rest .now) (l .loop .n) (l .loop .form) (l .loop .count) (l .loop .inv) _ (c .before .before .before .guess-at .ensures) _ _ (c .before .used .given .1) b bytes
 
-few : (c : tie.After-known-told Inv-loop μ-loop) → length (c .before .before .before .before .before .before .loop .rest .now) ≤ 65535
-few c = let l = c .before .before .before .before .before .before in omega (arith, l .loop .inv .behind .part, l .before .before .pre)
+few : (c : tie.After-known-told Inv-loop μ-loop) → length (c .before .before .before .before .before .loop .rest .now) ≤ 65535
+few c = let l = c .before .before .before .before .before in omega (arith, l .loop .inv .behind .part, l .before .before .pre)
 
 -- of the item, in each form: it has the bytes before its octets, and is there
-plain : (c : tie.After-enum-told Inv-loop μ-loop) → let k = c .before .before in let l = k .before .before .before .before .before .before in (1 ≤ k .before .used .given .0 .0) × (l .loop .n + k .before .used .given .0 .0 ≤ length (l .loop .rest .now))
+plain : (c : tie.After-enum-told Inv-loop μ-loop) → let k = c .before .before in let l = k .before .before .before .before .before in (1 ≤ k .before .used .given .0 .0) × (l .loop .n + k .before .used .given .0 .0 ≤ length (l .loop .rest .now))
 plain c = let t = turn (c .before .before) 1 (sym (ap (λ (form : Form). idSize form + 1) (c .enum-told .given .1))) in (t .0, t .1)
 
-tagged : (c : tie.After-enum-told2 Inv-loop μ-loop) → let k = c .before .before in let l = k .before .before .before .before .before .before in (5 ≤ k .before .used .given .0 .0) × (l .loop .n + k .before .used .given .0 .0 ≤ length (l .loop .rest .now))
+tagged : (c : tie.After-enum-told2 Inv-loop μ-loop) → let k = c .before .before in let l = k .before .before .before .before .before in (5 ≤ k .before .used .given .0 .0) × (l .loop .n + k .before .used .given .0 .0 ≤ length (l .loop .rest .now))
 tagged c = let t = turn (c .before .before) 5 (sym (ap (λ (form : Form). idSize form + 1) (c .enum-told2 .given .1))) in (t .0, t .1)
 
 add-rest : tie.Need-add-rest Inv-loop μ-loop
@@ -102,7 +93,7 @@ sub-n-2 c = tagged (c .before) .0
 
 -- what holds after it, in whichever form
 next : (c : tie.At-match2-came Inv-loop μ-loop) →
-    let l = c .before .before .before .before .before .before .before in
+    let l = c .before .before .before .before .before .before in
     let a = l .before .before .args in
     (l .loop .count < pastAll + length (a .s .now)) × (length (c .match2 .rest .now) - c .match2 .n < length (l .loop .rest .now) - l .loop .n)
     × Carried (byTable (a .counts .now)) Guess Plain (a .s .now) (c .match2 .rest .now) (c .match2 .n) (c .before .before .used .given .0 .1 .0) (l .loop .count + 1)
@@ -113,7 +104,7 @@ next c =
     (c .match2 .came)
 
 add-count : tie.Need-add-count Inv-loop μ-loop
-add-count c = omega (arith, next c .0, c .before .before .before .before .before .before .before .before .before .pre)
+add-count c = omega (arith, next c .0, c .before .before .before .before .before .before .before .before .pre)
 
 loop-less : tie.Need-loop-less Inv-loop μ-loop
 loop-less c = next c .1
@@ -130,10 +121,10 @@ cast-result c = search needs
 returns : tie.Need-returns Inv-loop μ-loop
 unfolding listBy
 returns c =
-    let l = c .before .before .before .before .before .before in
+    let l = c .before .before .before .before .before in
     let g = l .before .before in
     let a = g .args in
-    sized-stop (a .counts .now) Guess Plain (a .s .now) (l .loop .rest .now) (l .loop .n) (l .loop .form) (l .loop .count) (l .loop .inv) _ (c .before .before .before .guess-size .ensures) (g .pre) (c .before .before .before .before .before .loop-test .taken) _ (c .before .why .given .1)
+    sized-stop (a .counts .now) Guess Plain (a .s .now) (l .loop .rest .now) (l .loop .n) (l .loop .form) (l .loop .count) (l .loop .inv) _ (c .before .before .before .guess-at .ensures) (g .pre) (c .before .before .before .before .loop-test .taken) _ (c .before .why .given .1)
 
 returns-2 : tie.Need-returns-2 Inv-loop μ-loop
 unfolding listBy
@@ -150,10 +141,7 @@ count-guess-spec =
     Inv-loop
     μ-loop
     loop-holds
-    sub-guess-size
-    part-guess-size-start
-    part-guess-size-end
-    guess-size-requires
+    guess-at-requires
     enum-known-used
     enum-told
     add-rest
