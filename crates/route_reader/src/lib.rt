@@ -101,7 +101,7 @@ fn put_head(store: &mut [u32], to: usize, s: &[u8], form: Form)
     store[to + 1] = id_of(s, form);
 }
 
-// Two words at a place of a store. Here and below words go two by two: so their loads and stores can be joined, and no more than two of them.
+// Two words at a place of a store. Here and below words go two by two, so that two loads or stores can be one; four at once become vectors of bytes.
 fn put_pair(store: &mut [u32], to: usize, w0: u32, w1: u32)
     requires { ⌜ to + 2 ≤ length (now store) ⌝ }
     ensures { λ _. ⌜ now (store .exit) ≡ laid (now (store .entry)) to (w0 ∷ w1 ∷ []) ⌝ }
