@@ -1,13 +1,13 @@
 -- What holds of any step that decides an idea of a well-formed item: bytes are read to their end exactly if they can be cut, there is one
 -- cutting, and what is read are its items. And of values that stand for items: what is written is read again, and the other way.
 -- Assumes nothing.
-use Prim.Native.Nat.{ℕ, _<_}
+use Prim.Native.Nat.{ℕ, _+_, _<_}
 use mathlib.Core.Path.{_≡_, refl, sym, ap, ap₂, _∙_}
 use mathlib.Core.List.{List, [], _∷_, _++_, map, append-assoc, append-nil}
 use mathlib.Core.Logic.{_⊎_, inl, inr, ⊎-elim}
 use native.Mathlib.Omega.{arith}
 use lib.ListN.{length, take, drop, length-append, take-append-drop}
-use lib.Seq.{take-append-seam, drop-append-seam}
+use lib.Seq.{take-append-seam, drop-append-seam, take-add}
 use Rattle.wire.specs.Number.{Bytes}
 use Rattle.wire.specs.Walk.{Step, took, stop, Reading, more, readAll, pieces, flat}
 use Rattle.wire.specs.Cutting.{Each, none, one, Some, here, later, joined, Cutting}
@@ -114,6 +114,25 @@ module _ {S A : Type 0} (step : S → List ℕ → Step S A) (Formed : List ℕ 
           f .0,
           record { each = f .2; whole = sym (append-nil (joined (f .0))) ∙ ap (λ (l : List ℕ). joined (f .0) ++ l) (sym (f .5 v)) ∙ f .3 },
         )
+
+  -- what is read up to a place, and the item that stands there
+  pub read-more : (st st₁ st₂ : S) (s : List ℕ) (at used : ℕ) (a : A) → readAll step st (take at s) .verdict ≡ 0 → step st₁ (drop at s) ≡ took used a st₂
+      → readAll step st (take (at + used) s) ≡ record { rows = readAll step st (take at s) .rows ++ a ∷ []; verdict = 0 }
+  unfolding joined
+  read-more st st₁ st₂ s at used a good e =
+      let cut = read-cut st (take at s) good in
+      let item : List ℕ = take used (drop at s) in
+      let formed = decides .formed st₁ st₂ (drop at s) used a e in
+      let front = front-read st (cut .0) item (cut .1 .each) in
+      let same = decides .taken st₁ item (drop used (drop at s)) formed in
+      let told : took used a st₂ ≡ took (length item) (value item) (same .0) = sym e ∙ ap (step st₁) (sym (take-append-drop used (drop at s))) ∙ same .1 in
+      let is : value item ≡ a = cc in
+      let last : readAll step (front .0) item ≡ record { rows = a ∷ []; verdict = 0 } =
+      ap (readAll step (front .0)) (sym (append-nil item)) ∙ items-read (front .0) (item ∷ []) (one formed none) ∙ ap (λ (x : A). record { rows = x ∷ []; verdict = 0 }) is in
+      ap (readAll step st) (take-add at used s ∙ ap (λ (l : List ℕ). l ++ item) (sym (cut .1 .whole)))
+      ∙ front .1
+      ∙ ap (λ (r : Reading A). record { rows = map value (cut .0) ++ r .rows; verdict = r .verdict }) last
+      ∙ ap (λ (r : Reading A). record { rows = r .rows ++ a ∷ []; verdict = 0 }) (sym (cut-read st (take at s) (cut .0) (cut .1)))
 
 -- ---- two ideas of an item, the wider of which allows all that the other does
 

@@ -8,7 +8,7 @@ use native.Mathlib.Omega.{arith}
 use lib.ListN.{length, take, drop, drop-of-length-le, length-drop, length-append, take-append-drop}
 use lib.Seq.{drop-drop, take-all, length-take-le}
 use Rattle.wire.specs.Walk.{Step, took, stop, Reading, whole, refused, more, readAll, tally, flat}
-use Rattle.wire.proofs.WalkLaws.{all-nil, all-took, all-stop, Sound}
+use Rattle.wire.proofs.WalkLaws.{all-nil, all-took, all-stop, all-ind, Sound}
 use Rattle.wire.specs.Store.{laid}
 use Rattle.wire.proofs.StoreLaws.{take-laid, drop-laid, length-laid}
 
@@ -57,6 +57,21 @@ module _ {S A : Type 0} (step : S → List ℕ → Step S A) (sound : Sound step
 
     pub turn-stop : (n : ℕ) → at < length s → step st (drop at s) ≡ stop n → readAll step st (drop at s) ≡ refused n
     turn-stop n lt e = all-stop step st (drop at s) n (omega (arith, length-drop at s)) e
+
+    -- where the rest is good, no turn refuses
+    good-never : (n : ℕ) → readAll step st (drop at s) .verdict ≡ 0 → at < length s → step st (drop at s) ≡ stop n → ⊥
+    good-never n good lt e =
+        let v : readAll step st (drop at s) .verdict ≡ n = ap (λ (r : Reading A). r .verdict) (turn-stop n lt e) in
+        omega (arith, good, sound .names st (drop at s) n e)
+
+    -- so that each takes an item
+    good-by : (x : Step S A) → readAll step st (drop at s) .verdict ≡ 0 → at < length s → step st (drop at s) ≡ x
+        → (used : ℕ) × (a : A) × (st′ : S) × (step st (drop at s) ≡ took used a st′)
+    good-by (took used a st′) good lt e = (used, a, st′, e)
+    good-by (stop n) good lt e = absurd (good-never n good lt e)
+
+    pub good-takes : readAll step st (drop at s) .verdict ≡ 0 → at < length s → (used : ℕ) × (a : A) × (st′ : S) × (step st (drop at s) ≡ took used a st′)
+    good-takes good lt = good-by (step st (drop at s)) good lt refl
 
   -- ---- a loop that counts
 
@@ -123,19 +138,11 @@ module _ {S A : Type 0} (step : S → List ℕ → Step S A) (sound : Sound step
               back = drop-laid d to (emit a) (f .2) ∙ sym (drop-drop (length (emit a)) to d) ∙ ap (drop (length (emit a))) (h .back) ∙ drop-drop (length (emit a)) to d₀;
             }
 
-      -- no turn refuses
       pub fill-never : (n : ℕ) → at < length s → step st (drop at s) ≡ stop n → ⊥
-      fill-never n lt e =
-          let v : readAll step st (drop at s) .verdict ≡ n = ap (λ (r : Reading A). r .verdict) (turn-stop s st at n lt e) in
-          omega (arith, h .good, sound .names st (drop at s) n e)
-
-      -- so that each takes an item
-      turn-by : (x : Step S A) → at < length s → step st (drop at s) ≡ x → (used : ℕ) × (a : A) × (st′ : S) × (step st (drop at s) ≡ took used a st′)
-      turn-by (took used a st′) lt e = (used, a, st′, e)
-      turn-by (stop n) lt e = absurd (fill-never n lt e)
+      fill-never n lt e = good-never s st at n (h .good) lt e
 
       pub fill-takes : at < length s → (used : ℕ) × (a : A) × (st′ : S) × (step st (drop at s) ≡ took used a st′)
-      fill-takes lt = turn-by (step st (drop at s)) lt refl
+      fill-takes lt = good-takes s st at (h .good) lt
 
       -- the places before `to` and those of what is left are all
       pub fill-sum : to + length (flat emit (readAll step st (drop at s) .rows)) ≡ length (flat emit (readAll step st₀ s .rows))
@@ -157,3 +164,13 @@ module _ {S A : Type 0} (step : S → List ℕ → Step S A) (sound : Sound step
           let n : length (take to d) ≡ to = length-take-le to d (omega (arith, h .room, h .long)) in
           let k : to ≡ 0 + length (flat emit (readAll step st₀ s .rows)) = omega (arith, ap length all) in
           sym (take-append-drop to d) ∙ ap₂ _++_ all (h .back ∙ ap (λ (j : ℕ). drop j d₀) k)
+
+-- items that weigh no more than their bytes weigh no more than all the bytes together
+pub tally-few : {S A : Type 0} (step : S → List ℕ → Step S A) → Sound step → (weight : A → ℕ) → Light step weight 1
+    → (st : S) (s : List ℕ) → tally weight (readAll step st s .rows) ≤ length s
+unfolding tally
+tally-few step sound weight light =
+    all-ind step sound (λ st s r. tally weight (r .rows) ≤ length s)
+    (λ st. omega arith)
+    (λ st s n _ _. omega arith)
+    (λ st st′ s used a _ e few. omega (arith, few, light st st′ s used a e, sound .takes st st′ s used a e .1, length-drop used s))
