@@ -68,7 +68,7 @@ wider-formed f w item g = record { kind = g .kind; count = g .count; body = g .b
 
 module _ (w : ℕ) where
   -- those that stand at the front, whatever follows
-  numbers-front : (n : ℕ) (s t : List ℕ) → span w n ≤ length s → numbersOf w n (s ++ t) ≡ numbersOf w n s
+  pub numbers-front : (n : ℕ) (s t : List ℕ) → span w n ≤ length s → numbersOf w n (s ++ t) ≡ numbersOf w n s
   unfolding span numbersOf beAt
   numbers-front zero s t h = refl
   numbers-front (suc n) s t h =

@@ -1,15 +1,16 @@
 -- The loops that read the numbers of a segment, over the width: what holds at the head of a turn, and what one number more gives.
 -- Assumes nothing.
-use Prim.Native.Nat.{ℕ, _+_, _-_, _≤_, _<_}
-use mathlib.Core.Path.{_≡_, sym, ap, _∙_}
+use Prim.Native.Nat.{ℕ, _+_, _-_, _*_, _≤_, _<_}
+use mathlib.Core.Path.{_≡_, refl, sym, ap, _∙_}
 use mathlib.Core.List.{List, _∷_, _++_}
 use native.Mathlib.Omega.{arith}
 use lib.ListN.{length, drop, set}
+use lib.Seq.{drop-drop}
 use Rattle.wire.specs.Number.{beAt}
 use Rattle.wire.specs.Store.{laid, PutAhead}
-use Rattle.wire.proofs.StoreLaws.{Laying, laying-start, laying-long, laying-room, laying-set, laying-done}
+use Rattle.wire.proofs.StoreLaws.{laid-laid, laid-over, laid-nil, length-laid, Laying, laying-start, laying-long, laying-room, laying-set, laying-done}
 use Rattle.asns.specs.Asn.{span}
-use Rattle.asns.proofs.AsnLaws.{span-less}
+use Rattle.asns.proofs.AsnLaws.{span-is, span-less}
 use Rattle.paths.specs.Segment.{numbersOf}
 use Rattle.paths.proofs.SegmentLaws.{length-numbers, numbers-next, numbers-add}
 
@@ -58,6 +59,48 @@ module _ (s : List ℕ) (from w n : ℕ) (d₀ : List ℕ) (start : ℕ) (fits :
       let less : left - 1 - 1 ≡ left - 2 = omega arith in
       rw (← place, ← next, ← less)
       (numbering-next (at + w) (to + 1) (left - 1) (set d to v) (numbering-next at to left d h v (omega arith) e) u (omega arith) e₂)
+
+-- ---- numbers put in blocks, which may lie over each other
+
+-- k numbers from the place of number `last` on, where those up to `done` stand already
+pub block-put : (w : ℕ) (t d₀ d : List ℕ) (start last done k : ℕ) → last ≤ done → done ≤ last + k → start + (last + k) ≤ length d₀ → d ≡ laid d₀ start (numbersOf w done t)
+    → laid d (start + last) (numbersOf w k (drop (span w last) t)) ≡ laid d₀ start (numbersOf w (last + k) t)
+block-put w t d₀ d start last done k le few fits e =
+    let front : List ℕ = numbersOf w last t in
+    let block : List ℕ = numbersOf w k (drop (span w last) t) in
+    let over : List ℕ = numbersOf w (done - last) (drop (span w last) t) in
+    let sum : done ≡ last + (done - last) = omega arith in
+    let f = length-numbers w last t in
+    let b = length-numbers w k (drop (span w last) t) in
+    let o = length-numbers w (done - last) (drop (span w last) t) in
+    let parts : numbersOf w done t ≡ front ++ over = ap (λ (j : ℕ). numbersOf w j t) sum ∙ numbers-add w last (done - last) t in
+    let place : start + length front ≡ start + last = ap (λ (j : ℕ). start + j) f in
+    let long = length-laid d₀ start front (omega (arith, f, fits)) in
+    ap (λ (l : List ℕ). laid l (start + last) block) (e ∙ ap (laid d₀ start) parts ∙ sym (laid-laid d₀ start front over (omega (arith, f, o, fits, few))) ∙ ap (λ (j : ℕ). laid (laid d₀ start front) j over) place)
+    ∙ laid-over (laid d₀ start front) (start + last) over block (omega (arith, o, b, few)) (omega (arith, long, b, fits))
+    ∙ ap (λ (j : ℕ). laid (laid d₀ start front) j block) (sym place)
+    ∙ laid-laid d₀ start front block (omega (arith, f, b, fits))
+    ∙ ap (laid d₀ start) (sym (numbers-add w last k t))
+
+-- at the head of the loop that puts four numbers of four bytes in a turn: those up to `done` stand
+pub record BlocksTo (s : List ℕ) (from n : ℕ) (d₀ : List ℕ) (start done : ℕ) (d : List ℕ) : Type 0 where
+  pub few : done ≤ n
+  pub long : length d ≡ length d₀
+  pub put : d ≡ laid d₀ start (numbersOf 4 done (drop from s))
+
+module _ (s : List ℕ) (from n : ℕ) (d₀ : List ℕ) (start : ℕ) (fits : start + n ≤ length d₀) where
+  pub blocks-start : BlocksTo s from n d₀ start 0 d₀
+  unfolding numbersOf
+  blocks-start = record { few = omega arith; long = refl; put = sym (laid-nil d₀ start) }
+
+  -- the four from number `last` on, which stands or comes next
+  pub blocks-put : (done last : ℕ) (d d′ : List ℕ) → BlocksTo s from n d₀ start done d → last ≤ done → done ≤ last + 4 → last + 4 ≤ n
+      → d′ ≡ laid d (start + last) (numbersOf 4 4 (drop (from + 4 * last) s)) → BlocksTo s from n d₀ start (last + 4) d′
+  blocks-put done last d d′ h le few room e =
+      let place : drop (from + 4 * last) s ≡ drop (span 4 last) (drop from s) = ap (λ (k : ℕ). drop (from + k) s) (omega (arith, span-is 4 last)) ∙ sym (drop-drop (span 4 last) from s) in
+      let is : d′ ≡ laid d₀ start (numbersOf 4 (last + 4) (drop from s)) =
+      e ∙ ap (λ (l : List ℕ). laid d (start + last) (numbersOf 4 4 l)) place ∙ block-put 4 (drop from s) d₀ d start last done 4 le few (omega (arith, fits, room)) (h .put) in
+      record { few = room; long = ap length is ∙ length-laid d₀ start (numbersOf 4 (last + 4) (drop from s)) (omega (arith, length-numbers 4 (last + 4) (drop from s), fits, room)); put = is }
 
 -- ---- more numbers than a segment has
 

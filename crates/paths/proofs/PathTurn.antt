@@ -11,12 +11,11 @@ use Rattle.wire.specs.Refusal.{listLimit}
 use Rattle.wire.specs.Walk.{took, flat}
 use Rattle.wire.specs.Store.{laid, PutAhead}
 use Rattle.wire.proofs.StoreLaws.{Like, like-same, like-put, like-done}
-use Rattle.wire.proofs.Turn.{rest, Counted, count-start, count-step, count-stop, count-done, Filled, fill-start, fill-fits, fill-step, fill-takes, fill-sum, fill-end, fill-done}
+use Rattle.wire.proofs.Turn.{rest, Counted, count-start, count-step, count-stop, count-done, good-takes, Filled, fill-start, fill-fits, fill-step, fill-sum, fill-end, fill-done}
 use Rattle.asns.specs.Asn.{span}
 use Rattle.paths.specs.Segment.{Segment, numbersOf, Rule, segmentAt, segmentOf, pathOf, pairOf, asnsOf}
 use Rattle.paths.proofs.SegmentLaws.{segment-sound, segment-taken, counted-taken, counted-refused, light-segments, light-numbers, length-numbers}
-use Rattle.paths.specs.Private.{countIn}
-use Rattle.paths.specs.Promises.{countAnswer}
+use Rattle.paths.specs.Promises.{countIn, countAnswer}
 use Rattle.paths.proofs.PromiseLaws.{count-good, count-bad}
 use Rattle.paths.specs.declared.PathAnswer.the-variants.{Path, Refused}
 use Rattle.paths.specs.declared.SegmentAnswer.{SegmentAnswer}
@@ -65,6 +64,35 @@ module _ (rule : Rule) (w : ℕ) (pos : 0 < w) (s : List ℕ) where
         let more = count-done (segmentOf rule w) (segment-sound rule w) (λ g. length (asnsOf g)) 1 (light-numbers rule w pos) tt s tt at n (h .1) le in
         count-good s _ m n short (one .0) (one .1) (more .1)
 
+-- ---- the segment at a place
+
+module _ (w : ℕ) (s : List ℕ) (at : ℕ) where
+  count-is : getD (drop at s) 1 0 ≡ getD s (at + 1) 0
+  count-is = getD-drop at s 1 0
+
+  pub kind-is : segmentAt w (drop at s) .kind ≡ getD s at 0
+  unfolding segmentAt
+  kind-is = getD-drop at s 0 0 ∙ ap (λ (j : ℕ). getD s j 0) (add-zero at)
+
+  pub asns-is : asnsOf (segmentAt w (drop at s)) ≡ numbersOf w (getD s (at + 1) 0) (drop (at + 2) s)
+  unfolding segmentAt
+  asns-is = ap₂ (numbersOf w) count-is (drop-drop 2 at s)
+
+  pub asns-length : length (asnsOf (segmentAt w (drop at s))) ≡ getD s (at + 1) 0
+  asns-length = ap length asns-is ∙ length-numbers w (getD s (at + 1) 0) (drop (at + 2) s)
+
+  pub pair-is : pairOf (segmentAt w (drop at s)) ≡ getD s at 0 ∷ getD s (at + 1) 0 ∷ []
+  pair-is = ap₂ (λ (k n : ℕ). k ∷ n ∷ []) kind-is asns-length
+
+  -- where the rest of the path is good, it is taken
+  pub good-taken : (rule : Rule) → pathOf rule w (drop at s) .verdict ≡ 0 → at < length s
+      → segmentOf rule w tt (drop at s) ≡ took (2 + span w (getD s (at + 1) 0)) (segmentAt w (drop at s)) tt
+  unfolding pathOf
+  good-taken rule good lt =
+      let f = good-takes (segmentOf rule w) (segment-sound rule w) s tt at good lt in
+      let t = segment-taken rule w tt (f .2) (drop at s) (f .0) (f .1) (f .3) in
+      f .3 ∙ ap₂ (λ (u : ℕ) (g : Segment). took u g tt) (t .size ∙ ap (λ (k : ℕ). 2 + span w k) count-is) (t .is)
+
 -- ---- filling
 
 -- at the head: both stores have what stands before `at`
@@ -88,27 +116,9 @@ module _ (rule : Rule) (w : ℕ) (s p₀ n₀ : List ℕ) where
     )
 
     module _ (lt : at < length s) where
-      count-is : getD (drop at s) 1 0 ≡ getD s (at + 1) 0
-      count-is = getD-drop at s 1 0
-
       taken : segmentOf rule w tt (drop at s) ≡ took (2 + span w (getD s (at + 1) 0)) (segmentAt w (drop at s)) tt
-      taken =
-          let f = fill-takes (segmentOf rule w) (segment-sound rule w) pairOf tt s p₀ tt at pair pairs (h .0) lt in
-          let t = segment-taken rule w tt (f .2) (drop at s) (f .0) (f .1) (f .3) in
-          f .3 ∙ ap₂ (λ (u : ℕ) (g : Segment). took u g tt) (t .size ∙ ap (λ (k : ℕ). 2 + span w k) count-is) (t .is)
-
-      pair-is : pairOf (segmentAt w (drop at s)) ≡ getD s at 0 ∷ getD s (at + 1) 0 ∷ []
-      unfolding segmentAt
-      pair-is =
-          ap₂ (λ (k n : ℕ). k ∷ n ∷ []) (getD-drop at s 0 0 ∙ ap (λ (j : ℕ). getD s j 0) (add-zero at))
-          (length-numbers w (getD (drop at s) 1 0) (drop 2 (drop at s)) ∙ count-is)
-
-      asns-is : asnsOf (segmentAt w (drop at s)) ≡ numbersOf w (getD s (at + 1) 0) (drop (at + 2) s)
-      unfolding segmentAt
-      asns-is = ap₂ (numbersOf w) count-is (drop-drop 2 at s)
-
-      asns-length : length (asnsOf (segmentAt w (drop at s))) ≡ getD s (at + 1) 0
-      asns-length = ap length asns-is ∙ length-numbers w (getD s (at + 1) 0) (drop (at + 2) s)
+      unfolding pathOf
+      taken = good-taken w s at rule (h .0 .good) lt
 
       filling-fits : (at + (2 + span w (getD s (at + 1) 0)) ≤ length s) × (pair + 2 ≤ length pairs)
       filling-fits = let p = fill-fits (segmentOf rule w) (segment-sound rule w) pairOf tt s p₀ tt at pair pairs (h .0) tt _ _ taken in (p .1, p .2)
@@ -120,9 +130,9 @@ module _ (rule : Rule) (w : ℕ) (s p₀ n₀ : List ℕ) where
           let size : ℕ = 2 + span w (getD s (at + 1) 0) in
           let p = fill-step (segmentOf rule w) (segment-sound rule w) pairOf tt s p₀ tt at pair pairs (h .0) tt _ _ taken in
           let n = fill-step (segmentOf rule w) (segment-sound rule w) asnsOf tt s n₀ tt at to numbers (h .1) tt _ _ taken in (
-            subst (λ (l : List ℕ). Filled (segmentOf rule w) pairOf tt s p₀ tt (at + size) (pair + 2) (laid pairs pair l)) pair-is p,
-            subst (λ (l : List ℕ). Filled (segmentOf rule w) asnsOf tt s n₀ tt (at + size) (to + getD s (at + 1) 0) (laid numbers to l)) asns-is
-                (subst (λ (k : ℕ). Filled (segmentOf rule w) asnsOf tt s n₀ tt (at + size) (to + k) (laid numbers to (asnsOf (segmentAt w (drop at s))))) asns-length n),
+            subst (λ (l : List ℕ). Filled (segmentOf rule w) pairOf tt s p₀ tt (at + size) (pair + 2) (laid pairs pair l)) (pair-is w s at) p,
+            subst (λ (l : List ℕ). Filled (segmentOf rule w) asnsOf tt s n₀ tt (at + size) (to + getD s (at + 1) 0) (laid numbers to l)) (asns-is w s at)
+                (subst (λ (k : ℕ). Filled (segmentOf rule w) asnsOf tt s n₀ tt (at + size) (to + k) (laid numbers to (asnsOf (segmentAt w (drop at s))))) (asns-length w s at) n),
           )
 
 -- ---- filling ahead

@@ -1,22 +1,52 @@
 -- Laws of what the calls on a path answer and leave.
 -- Assumes nothing.
-use Prim.Native.Nat.{ℕ, zero, suc, _*_, _/_, _≤_, _<_}
-use mathlib.Core.Path.{_≡_, refl, sym, ap, ap₂, _∙_}
+use Prim.Native.Nat.{ℕ, zero, suc, _+_, _*_, _/_, _≤_, _<_}
+use mathlib.Core.Path.{_≡_, refl, sym, ap, ap₂, subst, _∙_}
 use mathlib.Core.List.{List}
 use native.Mathlib.Nat.{not-suc-le-zero}
 use native.Mathlib.Omega.{arith}
 use borrow.Author.Tests.{le-leb, lt-leb}
-use lib.ListN.{length}
+use lib.ListN.{length, drop}
+use lib.Dec.{leb}
 use Rattle.wire.specs.Answer.{filled, answerBy}
-use Rattle.wire.proofs.ChoiceLaws.{pick-leb}
+use Rattle.wire.proofs.ChoiceLaws.{pick-any, pick-leb}
 use Rattle.wire.specs.Refusal.{tooLong, noRoom, listLimit}
-use Rattle.wire.specs.Store.{laid}
+use Rattle.wire.specs.Store.{laid, placed}
 use Rattle.wire.specs.Walk.{Reading, tally, flat}
 use Rattle.wire.proofs.WalkLaws.{tally-one, tally-flat, flat-length}
-use Rattle.paths.specs.Segment.{Segment, pairOf, asnsOf}
-use Rattle.paths.specs.Promises.{pathMeaning, countAnswer, inStores, readAnswer, pairsAfter, numbersAfter}
+use Rattle.wire.proofs.StoreLaws.{placed-fits, placed-not, drop-laid-front}
+use Rattle.asns.specs.Asn.{span}
+use Rattle.paths.specs.Segment.{Segment, numbersOf, pairOf, asnsOf}
+use Rattle.paths.proofs.SegmentLaws.{length-numbers}
+use Rattle.paths.specs.Promises.{asnsAfter, pathMeaning, countAnswer, inStores, readAnswer, pairsAfter, numbersAfter}
 use Rattle.paths.specs.declared.PathAnswer.{PathAnswer}
 use Rattle.paths.specs.declared.PathAnswer.the-variants.{Path, Refused}
+
+-- ---- numbers at the front of a store
+
+module _ (w : ℕ) (s : List ℕ) (n : ℕ) (d : List ℕ) where
+  pub asns-short : length s < span w n → d ≡ asnsAfter w s n d
+  unfolding asnsAfter
+  asns-short h = rw (lt-leb (span w n) (length s) h)
+
+  module _ (there : span w n ≤ length s) where
+    pub asns-there : asnsAfter w s n d ≡ placed d 0 (numbersOf w n s)
+    unfolding asnsAfter
+    asns-there = rw (le-leb (span w n) (length s) there)
+
+    pub asns-full : length d < n → d ≡ asnsAfter w s n d
+    asns-full k = sym (asns-there ∙ placed-not d 0 (numbersOf w n s) (omega (arith, length-numbers w n s)))
+
+    pub asns-fit : n ≤ length d → laid d 0 (numbersOf w n s) ≡ asnsAfter w s n d
+    asns-fit k = sym (asns-there ∙ placed-fits d 0 (numbersOf w n s) (omega (arith, length-numbers w n s)))
+
+-- past the numbers, the store is as it was
+pub asns-past : (w : ℕ) (s : List ℕ) (n : ℕ) (d : List ℕ) → drop n (asnsAfter w s n d) ≡ drop n d
+unfolding asnsAfter placed
+asns-past w s n d =
+    let Kept : List ℕ → Type 0 = λ l. drop n l ≡ drop n d in
+    pick-any Kept (leb (span w n) (length s)) _ d
+    (pick-any Kept (leb (0 + length (numbersOf w n s)) (length d)) _ d (subst (λ (k : ℕ). drop k (laid d 0 (numbersOf w n s)) ≡ drop k d) (length-numbers w n s) (drop-laid-front d (numbersOf w n s))) refl) refl
 
 module _ (s : List ℕ) (r : Reading Segment) where
   -- ---- counting

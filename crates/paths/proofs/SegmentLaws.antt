@@ -2,7 +2,7 @@
 -- Assumes nothing.
 use Prim.Native.Nat.{ℕ, zero, suc, _+_, _-_, _≤_, _<_}
 use mathlib.Core.Path.{_≡_, refl, sym, ap, ap₂, _∙_}
-use mathlib.Core.List.{List, _∷_, _++_}
+use mathlib.Core.List.{List, [], _∷_, _++_}
 use native.Mathlib.Nat.{not-suc-le-zero, zero-add}
 use native.Mathlib.Numerals.{sub-one}
 use native.Mathlib.Omega.{arith}
@@ -20,7 +20,8 @@ use Rattle.wire.specs.Number.{beAt}
 use Rattle.wire.specs.Walk.{Step, took, stop}
 use Rattle.wire.proofs.WalkLaws.{Sound}
 use Rattle.wire.proofs.Turn.{Light}
-use Rattle.paths.specs.Private.{fewestBy, fewFault, countIn}
+use Rattle.paths.specs.Private.{fewestBy, fewFault}
+use Rattle.paths.specs.Promises.{countIn}
 use Rattle.paths.specs.declared.PathRule.{PathRule}
 use Rattle.paths.specs.declared.PathRule.the-variants.{Crate, Strict}
 use Rattle.paths.specs.declared.SegmentAnswer.the-variants.{Numbers, Refused}
@@ -39,6 +40,20 @@ pub numbers-next : (w n at : ℕ) (s : List ℕ) → 0 < n → numbersOf w n (dr
 unfolding numbersOf beAt
 numbers-next w zero at s h = absurd (not-suc-le-zero h)
 numbers-next w (suc n) at s h = rw (sub-one (suc n), drop-drop w at s)
+
+-- four of four bytes
+pub numbers-four : (at : ℕ) (s : List ℕ) → numbersOf 4 4 (drop at s) ≡ beAt s at 4 ∷ beAt s (at + 4) 4 ∷ beAt s (at + 8) 4 ∷ beAt s (at + 12) 4 ∷ []
+unfolding numbersOf
+numbers-four at s =
+    let second : at + 4 + 4 ≡ at + 8 = omega arith in
+    let third : at + 8 + 4 ≡ at + 12 = omega arith in
+    numbers-next 4 4 at s (omega arith)
+    ∙ ap (λ (l : List ℕ). beAt s at 4 ∷ l)
+    (numbers-next 4 3 (at + 4) s (omega arith)
+    ∙ ap (λ (l : List ℕ). beAt s (at + 4) 4 ∷ l)
+    (ap (λ (k : ℕ). numbersOf 4 2 (drop k s)) second ∙ numbers-next 4 2 (at + 8) s (omega arith)
+    ∙ ap (λ (l : List ℕ). beAt s (at + 8) 4 ∷ l)
+    (ap (λ (k : ℕ). numbersOf 4 1 (drop k s)) third ∙ numbers-next 4 1 (at + 12) s (omega arith))))
 
 -- some, and those after them
 pub numbers-add : (w m n : ℕ) (s : List ℕ) → numbersOf w (m + n) s ≡ numbersOf w m s ++ numbersOf w n (drop (span w m) s)

@@ -6,22 +6,45 @@ use lib.Dec.{leb}
 use Rattle.wire.specs.Answer.{Answer, given, refusal, filled, answerBy}
 use Rattle.wire.specs.Choice.{pick}
 use Rattle.wire.specs.Refusal.{tooLong, noRoom, listLimit}
-use Rattle.wire.specs.Walk.{Reading, flat}
-use Rattle.paths.specs.Segment.{Segment, pairOf, asnsOf}
+use Rattle.wire.specs.Store.{placed}
+use Rattle.wire.specs.Walk.{Step, took, stop, Reading, flat}
+use Rattle.asns.specs.Asn.{span}
+use Rattle.paths.specs.Segment.{Segment, numbersOf, NoState, pairOf, asnsOf}
 use Rattle.paths.specs.declared.PathAnswer.{PathAnswer}
 use Rattle.paths.specs.declared.PathAnswer.the-variants.{Path, Refused}
+use Rattle.paths.specs.declared.SegmentAnswer.{SegmentAnswer}
+use Rattle.paths.specs.declared.SegmentAnswer.the-variants as G
+
+-- ---- one segment
+
+-- its numbers
+abbrev pub segmentMeaning : SegmentAnswer → Answer
+segmentMeaning (G.Numbers n) = given (n ∷ [])
+segmentMeaning (G.Refused n) = refusal n
+
+-- how many numbers a step found
+abbrev pub countIn : Step NoState Segment → SegmentAnswer
+countIn (took used g st) = G.Numbers (length (asnsOf g))
+countIn (stop n) = G.Refused n
+
+-- the first n numbers of s at the front of a store, where all are there and fit, and else the store as it was
+unfoldable pub asnsAfter : ℕ → List ℕ → ℕ → List ℕ → List ℕ
+asnsAfter w s n d = pick (leb (span w n) (length s)) (placed d 0 (numbersOf w n s)) d
+
+-- ---- a path
 
 -- the segments, and their numbers
 abbrev pub pathMeaning : PathAnswer → Answer
 pathMeaning (Path segments numbers) = given (segments ∷ numbers ∷ [])
 pathMeaning (Refused n) = refusal n
 
--- counting: 1 first, then what the reading says
+-- what a reading says
+abbrev pub answerOf : Reading Segment → PathAnswer
+answerOf r = answerBy (r .verdict) (Path (length (r .rows)) (length (flat asnsOf (r .rows)))) Refused
+
+-- counting: 1 first
 unfoldable pub countAnswer : List ℕ → Reading Segment → PathAnswer
-countAnswer s r =
-    pick (leb (length s) listLimit)
-    (answerBy (r .verdict) (Path (length (r .rows)) (length (flat asnsOf (r .rows)))) Refused)
-    (Refused tooLong)
+countAnswer s r = pick (leb (length s) listLimit) (answerOf r) (Refused tooLong)
 
 -- in stores of so many places, two for a segment and one for a number: 11 last
 abbrev pub inStores : PathAnswer → ℕ → ℕ → PathAnswer

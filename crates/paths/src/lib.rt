@@ -8,8 +8,8 @@ ghost use Rattle.wire.specs.Store.{laid, PutAhead};
 ghost use Rattle.wire.specs.Walk.{flat};
 ghost use Rattle.asns.specs.Asn.{widthOf, span};
 ghost use Rattle.paths.specs.Segment.{numbersOf, typeFault, knownType, ruleOf, pairOf, asnsOf, segmentOf, pathOf};
-ghost use Rattle.paths.specs.Private.{fewestBy, fewFault, countIn};
-ghost use Rattle.paths.specs.Promises.{countAnswer, readAnswer, pairsAfter, numbersAfter};
+ghost use Rattle.paths.specs.Private.{fewestBy, fewFault, lowFirst, turnedOf};
+ghost use Rattle.paths.specs.Promises.{countIn, asnsAfter, countAnswer, readAnswer, pairsAfter, numbersAfter};
 use asns::AsnLength;
 use wire::refusal;
 
@@ -30,8 +30,8 @@ pub enum PathAnswer {
     Refused(u8),
 }
 
-// How many numbers a segment has, or why it is refused.
-enum SegmentAnswer {
+// How many numbers a segment has, or a refusal number.
+pub enum SegmentAnswer {
     Numbers(u8),
     Refused(u8),
 }
@@ -82,7 +82,7 @@ pub fn rule_fault(kind: u32, count: u32, rule: PathRule) -> u8
 }
 
 // How many numbers the segment at the front has: type and count there, 2; the numbers there, 2; then the rule, 9 and 16.
-fn segment_count(s: &[u8], width: AsnLength, rule: PathRule) -> SegmentAnswer
+pub fn segment_count(s: &[u8], width: AsnLength, rule: PathRule) -> SegmentAnswer
     ensures { λ r. ⌜ r ≡ countIn (segmentOf (ruleOf rule) (widthOf width) tt (now (s .entry))) ⌝ }
 {
     if s.len() < 2 {
@@ -159,8 +159,25 @@ fn put_narrow(s: &[u8], from: usize, n: usize, numbers: &mut [u32], start: usize
     }
 }
 
-// The n numbers of four bytes at a place of the bytes, to a place of the store.
-fn put_full(s: &[u8], from: usize, n: usize, numbers: &mut [u32], start: usize)
+// The number of the four bytes at a place, the first byte lowest: a compiler sees one word in it, where it sees four bytes in `wire::u32_at`.
+fn low_first(s: &[u8], at: usize) -> u32
+    requires { ⌜ at + 4 ≤ length (now s) ⌝ }
+    ensures { λ r. ⌜ r ≡ lowFirst (now (s .entry)) at ⌝ }
+{
+    let low = wire::wide(s[at]) + wire::wide(s[at + 1]) * 256;
+    let high = wire::wide(s[at + 2]) + wire::wide(s[at + 3]) * 256;
+    low + high * 65536
+}
+
+// The same bytes, the first one highest.
+fn turned(x: u32) -> u32
+    ensures { λ r. ⌜ r ≡ turnedOf x ⌝ }
+{
+    x % 256 * 16777216 + x / 256 % 256 * 65536 + x / 65536 % 256 * 256 + x / 16777216
+}
+
+// The n numbers of four bytes at a place of the bytes, one by one, to a place of the store.
+fn put_singles(s: &[u8], from: usize, n: usize, numbers: &mut [u32], start: usize)
     requires { ⌜ from + span 4 n ≤ length (now s) ⌝ }
     requires { ⌜ start + n ≤ length (now numbers) ⌝ }
     ensures { λ _. ⌜ now (numbers .exit) ≡ laid (now (numbers .entry)) start (numbersOf 4 n (drop from (now (s .entry)))) ⌝ }
@@ -169,12 +186,46 @@ fn put_full(s: &[u8], from: usize, n: usize, numbers: &mut [u32], start: usize)
     let mut to = start;
     let mut left = n;
     while 0 < left {
-        let end = at + 4;
-        numbers[to] = wire::u32_at(&s[at..end], 0);
-        at = end;
+        numbers[to] = turned(low_first(s, at));
+        at = at + 4;
         to = to + 1;
         left = left - 1;
     }
+}
+
+// Four numbers of four bytes at a place of the bytes, to a place of the store: all are read before one is put, so that they go together.
+fn put_four(s: &[u8], at: usize, numbers: &mut [u32], to: usize)
+    requires { ⌜ at + 16 ≤ length (now s) ⌝ }
+    requires { ⌜ to + 4 ≤ length (now numbers) ⌝ }
+    ensures { λ _. ⌜ now (numbers .exit) ≡ laid (now (numbers .entry)) to (numbersOf 4 4 (drop at (now (s .entry)))) ⌝ }
+{
+    let first = turned(low_first(s, at));
+    let second = turned(low_first(s, at + 4));
+    let third = turned(low_first(s, at + 8));
+    let fourth = turned(low_first(s, at + 12));
+    numbers[to] = first;
+    numbers[to + 1] = second;
+    numbers[to + 2] = third;
+    numbers[to + 3] = fourth;
+}
+
+// The n numbers of four bytes at a place of the bytes, to a place of the store: four in a turn, and the last four again where some of them are left over.
+fn put_full(s: &[u8], from: usize, n: usize, numbers: &mut [u32], start: usize)
+    requires { ⌜ from + span 4 n ≤ length (now s) ⌝ }
+    requires { ⌜ start + n ≤ length (now numbers) ⌝ }
+    ensures { λ _. ⌜ now (numbers .exit) ≡ laid (now (numbers .entry)) start (numbersOf 4 n (drop from (now (s .entry)))) ⌝ }
+{
+    if n < 4 {
+        put_singles(s, from, n, numbers, start);
+        return;
+    }
+    let last = n - 4;
+    let mut done: usize = 0;
+    while done < last {
+        put_four(s, from + 4 * done, numbers, start + done);
+        done = done + 4;
+    }
+    put_four(s, from + 4 * last, numbers, start + last);
 }
 
 // The n numbers at a place of the bytes, to a place of the store.
@@ -187,6 +238,19 @@ fn put_numbers(s: &[u8], from: usize, n: usize, width: AsnLength, numbers: &mut 
         AsnLength::Bits16 => put_narrow(s, from, n, numbers, start),
         AsnLength::Bits32 => put_full(s, from, n, numbers, start),
     }
+}
+
+// The first n numbers of the bytes, to the front of a store; nothing where they are not all there, or have no room.
+pub fn read_asns(s: &[u8], n: u8, width: AsnLength, numbers: &mut [u32])
+    ensures { λ _. ⌜ now (numbers .exit) ≡ asnsAfter (widthOf width) (now (s .entry)) n (now (numbers .entry)) ⌝ }
+{
+    if s.len() < asns::numbers_size(n as u16, width) {
+        return;
+    }
+    if numbers.len() < n as usize {
+        return;
+    }
+    put_numbers(s, 0, n as usize, width, numbers, 0);
 }
 
 // The n numbers at a place of the bytes, to a place of the store, and perhaps more after them, below `total`.

@@ -1,89 +1,95 @@
 use borrow.Author.Needs.{needs}
+use Prim.Native.Nat.{ℕ, _+_, _-_, _*_, _≤_}
+use mathlib.Core.Path.{ap, _∙_}
 use native.Mathlib.Omega.{arith}
-use Prim.Native.Nat.{_+_, _-_, _≤_}
-use mathlib.Core.Path.{_≡_, refl, _∙_}
-use lib.ListN.{length}
-use Rattle.wire.proofs.NumberLaws.{be-between}
-use Rattle.asns.specs.Asn.{span}
-use Rattle.paths.proofs.NumberTurn.{Numbering, numbering-start, numbering-room, numbering-here, numbering-next, numbering-done}
+use lib.ListN.{length, drop}
+use Rattle.asns.proofs.AsnLaws.{span-is}
+use Rattle.wire.specs.Store.{laid}
+use Rattle.paths.specs.Segment.{numbersOf}
+use Rattle.paths.proofs.NumberTurn.{BlocksTo, blocks-start, blocks-put}
 use Rattle.paths.proofs.put_full.Statement.{statement}
 use Rattle.paths.proofs.put_full.Tie as tie
 
 abbrev Inv-loop : tie.InvT-loop
-Inv-loop s from n numbers₀ start at₀ to₀ left₀ numbers at to left = Numbering s from 4 n numbers₀ start at to left numbers
+Inv-loop s from n numbers₀ start last done₀ numbers done = BlocksTo s from n numbers₀ start done numbers
 
 abbrev μ-loop : tie.MeasureT-loop
-μ-loop s from n numbers₀ start at₀ to₀ left₀ numbers at to left = left
+μ-loop s from n numbers₀ start last done₀ numbers done = last - done
 
--- at the head, the store is as long as it was, and has room for what is left
-room : (l : tie.At-loop Inv-loop μ-loop) →
-    let a = l .before .before .before .args in
-    (length (l .loop .numbers) ≡ length (a .numbers .now)) × (l .loop .to + l .loop .left ≤ length (a .numbers .now))
-room l =
-    let a = l .before .before .before .args in
-    numbering-room (a .s .now) (a .from) 4 (a .n) (a .numbers .now) (a .start) (l .before .before .before .pre .1) (l .loop .at) (l .loop .to) (l .loop .left) (l .loop .numbers) (l .loop .inv)
+put-singles-requires : tie.Need-put-singles-requires Inv-loop μ-loop
+put-singles-requires c κs = c .before .before .before .before .pre
 
--- in a turn, the next number is there
-here : (k : tie.In-loop Inv-loop μ-loop) →
-    let l = k .before in
-    let a = l .before .before .before .args in
-    l .loop .at + 4 + span 4 (l .loop .left - 1) ≤ length (a .s .now)
-here k =
-    let l = k .before in
-    let a = l .before .before .before .args in
-    numbering-here (a .s .now) (a .from) 4 (a .n) (a .numbers .now) (a .start) (l .before .before .before .pre .1) (l .loop .at) (l .loop .to) (l .loop .left) (l .loop .numbers) (l .loop .inv) (k .loop-test .taken)
+same-length : tie.Need-same-length Inv-loop μ-loop
+same-length c = search needs
+
+returns : tie.Need-returns Inv-loop μ-loop
+returns c = c .before .before .put-singles .ensures
 
 loop-holds : tie.Need-loop-holds Inv-loop μ-loop
-loop-holds c =
-    let a = c .before .before .args in
-    let p = c .before .before .pre in
-    numbering-start (a .s .now) (a .from) 4 (a .n) (a .numbers .now) (a .start) (p .1) (p .0)
+loop-holds c = let s = c .before .before .before in blocks-start (s .args .s .now) (s .args .from) (s .args .n) (s .args .numbers .now) (s .args .start) (s .pre .1)
 
-add-end : tie.Need-add-end Inv-loop μ-loop
-add-end c = omega (arith, here c)
+-- at the head: there are four numbers and more, and their bytes are there
+sized : (l : tie.At-loop Inv-loop μ-loop) →
+    let a = l .before .before .before .before .args in
+    (4 ≤ a .n) × (a .from + 4 * a .n ≤ length (a .s .now)) × (a .start + a .n ≤ length (l .loop .numbers))
+sized l =
+    let s = l .before .before .before .before in
+    (l .before .if1 .left, omega (arith, s .pre .0, span-is 4 (s .args .n)), omega (arith, s .pre .1, l .loop .inv .long))
 
-sub-u32-at : tie.Need-sub-u32-at Inv-loop μ-loop
-sub-u32-at c = search needs
+mul-put-four : tie.Need-mul-put-four Inv-loop μ-loop
+mul-put-four c = omega (arith, sized (c .before), c .loop-test .taken)
 
-part-u32-at-start : tie.Need-part-u32-at-start Inv-loop μ-loop
-part-u32-at-start c = omega (arith, here c)
+add-put-four : tie.Need-add-put-four Inv-loop μ-loop
+add-put-four c = omega (arith, sized (c .before), c .loop-test .taken)
 
-part-u32-at-end : tie.Need-part-u32-at-end Inv-loop μ-loop
-part-u32-at-end c = omega (arith, here c)
+add-put-four-2 : tie.Need-add-put-four-2 Inv-loop μ-loop
+add-put-four-2 c = omega (arith, sized (c .before .before), c .before .loop-test .taken)
 
-u32-at-requires : tie.Need-u32-at-requires Inv-loop μ-loop
-u32-at-requires c κs = search needs
+put-four-requires : tie.Need-put-four-requires Inv-loop μ-loop
+put-four-requires c κs = let z = sized (c .before .before) in let t = c .before .loop-test .taken in (omega (arith, z, t), omega (arith, z, t))
 
-mul-numbers : tie.Need-mul-numbers Inv-loop μ-loop
-mul-numbers c = omega (arith, room (c .before .before .before))
-
-slice-write-numbers : tie.Need-slice-write-numbers Inv-loop μ-loop
-slice-write-numbers c = omega (arith, room (c .before .before .before), c .before .before .loop-test .taken)
-
-add-to : tie.Need-add-to Inv-loop μ-loop
-add-to c = omega (arith, room (c .before .before .before))
-
-sub-left : tie.Need-sub-left Inv-loop μ-loop
-sub-left c = search needs
+add-done : tie.Need-add-done Inv-loop μ-loop
+add-done c = omega (arith, sized (c .before .before .before .before .before), c .before .before .before .before .loop-test .taken)
 
 loop-less : tie.Need-loop-less Inv-loop μ-loop
-loop-less c = search needs
+loop-less c = omega (arith, c .before .before .before .before .loop-test .taken)
 
 loop-again : tie.Need-loop-again Inv-loop μ-loop
 loop-again c =
-    let l = c .before .before .before in
-    let a = l .before .before .before .args in
-    numbering-next (a .s .now) (a .from) 4 (a .n) (a .numbers .now) (a .start) (l .before .before .before .pre .1) (l .loop .at) (l .loop .to) (l .loop .left) (l .loop .numbers) (l .loop .inv) _
-    (c .before .before .loop-test .taken) (c .u32-at .ensures ∙ be-between (a .s .now) (l .loop .at) _ 4 refl)
+    let l = c .before .before .before .before .before in
+    let s = l .before .before .before .before in
+    let a = s .args in
+    blocks-put (a .s .now) (a .from) (a .n) (a .numbers .now) (a .start) (s .pre .1) (l .loop .done) (l .loop .done) _ _ (l .loop .inv) (omega arith) (omega arith)
+    (omega (arith, sized l .0, c .before .before .before .before .loop-test .taken)) (c .before .before .put-four .ensures)
 
-same-length : tie.Need-same-length Inv-loop μ-loop
-same-length c = room (c .before) .0
+mul-put-four-2 : tie.Need-mul-put-four-2 Inv-loop μ-loop
+mul-put-four-2 c = omega (arith, sized (c .before))
 
-returns : tie.Need-returns Inv-loop μ-loop
-returns c =
-    let l = c .before in
-    let a = l .before .before .before .args in
-    numbering-done (a .s .now) (a .from) 4 (a .n) (a .numbers .now) (a .start) (l .before .before .before .pre .1) (l .loop .at) (l .loop .to) (l .loop .left) (l .loop .numbers) (l .loop .inv) (omega (arith, c .loop-test .left))
+add-put-four-3 : tie.Need-add-put-four-3 Inv-loop μ-loop
+add-put-four-3 c = omega (arith, sized (c .before))
+
+add-put-four-4 : tie.Need-add-put-four-4 Inv-loop μ-loop
+add-put-four-4 c = omega (arith, sized (c .before .before))
+
+put-four-requires-2 : tie.Need-put-four-requires-2 Inv-loop μ-loop
+put-four-requires-2 c κs = let z = sized (c .before .before) in (omega (arith, z), omega (arith, z))
+
+-- all of them stand
+full : (c : tie.After-slice-known4 Inv-loop μ-loop) → let a = c .before .before .before .before .before .before .before .before .before .args in BlocksTo (a .s .now) (a .from) (a .n) (a .numbers .now) (a .start) (a .n - 4 + 4) (c .before .before .put-four2 .last .1 .1 .0)
+full c =
+    let l = c .before .before .before .before .before in
+    let s = l .before .before .before .before in
+    let a = s .args in
+    blocks-put (a .s .now) (a .from) (a .n) (a .numbers .now) (a .start) (s .pre .1) (l .loop .done) (a .n - 4) _ _ (l .loop .inv) (c .before .before .before .before .loop-test .left)
+    (omega (arith, l .loop .inv .few, sized l .0)) (omega (arith, sized l .0)) (c .before .before .put-four2 .ensures)
+
+same-length-2 : tie.Need-same-length-2 Inv-loop μ-loop
+same-length-2 c = full c .long
+
+returns-2 : tie.Need-returns-2 Inv-loop μ-loop
+returns-2 c =
+    let a = c .before .before .before .before .before .before .before .before .before .args in
+    full c .put ∙ ap (λ (k : ℕ). laid (a .numbers .now) (a .start) (numbersOf 4 k (drop (a .from) (a .s .now)))) (omega (arith, sized (c .before .before .before .before .before) .0))
 
 pub put-full-spec : {M : Type 1} → statement M
 put-full-spec =
@@ -91,17 +97,20 @@ put-full-spec =
     (tie.spec
     Inv-loop
     μ-loop
+    put-singles-requires
+    same-length
+    returns
     loop-holds
-    add-end
-    sub-u32-at
-    part-u32-at-start
-    part-u32-at-end
-    u32-at-requires
-    mul-numbers
-    slice-write-numbers
-    add-to
-    sub-left
+    mul-put-four
+    add-put-four
+    add-put-four-2
+    put-four-requires
+    add-done
     loop-less
     loop-again
-    same-length
-    returns)
+    mul-put-four-2
+    add-put-four-3
+    add-put-four-4
+    put-four-requires-2
+    same-length-2
+    returns-2)

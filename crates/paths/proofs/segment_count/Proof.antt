@@ -8,7 +8,8 @@ use Rattle.wire.specs.Walk.{stop}
 use Rattle.asns.specs.Asn.{widthOf, span}
 use Rattle.asns.proofs.AsnLaws.{span-most}
 use Rattle.paths.specs.Segment.{segmentOf, ruleOf}
-use Rattle.paths.specs.Private.{fewFault, countIn}
+use Rattle.paths.specs.Private.{fewFault}
+use Rattle.paths.specs.Promises.{countIn}
 use Rattle.paths.proofs.SegmentLaws.{none-short, short-segment, fault-segment, count-taken}
 use borrow.Author.Needs.{needs}
 use Rattle.paths.proofs.segment_count.Statement.{statement}
