@@ -1,0 +1,13 @@
+pub mod StandingLaws
+pub mod SegmentLaws
+pub mod MergeLaws
+pub mod MergedLaws
+pub mod PromiseLaws
+pub mod PutLaws
+pub mod FrontLaws
+pub mod PlanLaws
+pub mod MergeStores
+pub mod WeighTurn
+pub mod FillTurn
+pub mod LeadTurn
+pub mod Tight

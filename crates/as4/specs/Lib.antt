@@ -1,0 +1,4 @@
+pub mod Standing
+pub mod Merge
+pub mod Promises
+pub mod Private
