@@ -1,5 +1,5 @@
 /* Doorbramble for C: slot records and attribute sections read; BGP messages, UPDATE bodies, route lists, AS_PATH and AGGREGATOR read and
- * written.
+ * written; AS_PATH and AS4_PATH merged.
  *
  * The functions are those of the static library that `rt staticlib firmware` writes, target/staticlib/libfirmware.a. Each is proved to
  * give the answer that its contract in crates/firmware/src names, for every input, and to end. None keeps a pointer, allocates, or
@@ -51,7 +51,7 @@ extern "C" {
 /* of this header: the major number rises when a caller that was compiled before would break, the minor one when calls are added.
  * doorbramble_version() is that of the library. */
 #define DOORBRAMBLE_VERSION_MAJOR 1
-#define DOORBRAMBLE_VERSION_MINOR 3
+#define DOORBRAMBLE_VERSION_MINOR 4
 
 /* ---- refusal numbers */
 
@@ -74,7 +74,8 @@ extern "C" {
 #define DOORBRAMBLE_ONE_BYTE_SECTION 8
 /* a segment type is not 1 to 4 */
 #define DOORBRAMBLE_SEGMENT_TYPE 9
-/* an AGGREGATOR is not 6 or 8 bytes */
+/* an AGGREGATOR is not 6 or 8 bytes; in a call that takes both, AGGREGATOR is neither empty nor 6 bytes, or AS4_AGGREGATOR neither empty nor
+ * 8 */
 #define DOORBRAMBLE_AGGREGATOR_LENGTH 10
 /* a lent store or output has too few places */
 #define DOORBRAMBLE_NO_ROOM 11
@@ -204,9 +205,11 @@ uint64_t doorbramble_encode_bgp_update_message(const uint32_t *withdrawn, size_t
 
 /* ---- attributes */
 
-/* types: two whose values have calls below, and two of which a section that is searched has no second */
+/* types: four whose values have calls below, and two of which a section that is searched has no second */
 #define DOORBRAMBLE_AS_PATH 2
 #define DOORBRAMBLE_AGGREGATOR 7
+#define DOORBRAMBLE_AS4_PATH 17
+#define DOORBRAMBLE_AS4_AGGREGATOR 18
 #define DOORBRAMBLE_MP_REACH_NLRI 14
 #define DOORBRAMBLE_MP_UNREACH_NLRI 15
 
@@ -273,6 +276,40 @@ uint64_t doorbramble_parse_aggregator(const uint8_t *value, size_t value_len, ui
 /* An AGGREGATOR at the front of out. Answer: bytes. Refusals: 13, then 11. */
 uint64_t doorbramble_encode_aggregator(uint32_t asn, uint32_t identifier, uint8_t four_bytes, uint8_t *out, size_t out_len);
 
+/* ---- old and new AS numbers side by side (RFC 6793 section 4.2.3) */
+
+/* what a peer with AS numbers of two bytes writes for one over 65,535. The number itself stands in AS4_PATH or AS4_AGGREGATOR. */
+#define DOORBRAMBLE_AS_TRANS 23456
+
+/* These calls take the values of one UPDATE of such a peer: AS_PATH and AGGREGATOR with AS numbers of two bytes, AS4_PATH and AS4_AGGREGATOR
+ * with AS numbers of four. One that the UPDATE does not have is empty. */
+
+/* Which of two AGGREGATORs stands. Where both are there, it is AGGREGATOR if its AS number is not DOORBRAMBLE_AS_TRANS, and AS4_AGGREGATOR if
+ * it is; where either is absent, it is AGGREGATOR, be it there or not. Answer: standing; offset and length, which are all of the value that
+ * stands, as doorbramble_parse_aggregator reads it. Refusals: 10. */
+uint64_t doorbramble_standing_aggregator(const uint8_t *aggregator, size_t aggregator_len, const uint8_t *as4_aggregator,
+                                         size_t as4_aggregator_len);
+
+/* How many segments and AS numbers the path has that AS_PATH and AS4_PATH make together:
+ *   - Where AGGREGATOR and AS4_AGGREGATOR are both there and AGGREGATOR stands, AS4_PATH is ignored: the path is AS_PATH.
+ *   - Otherwise a set counts as one, a sequence as its AS numbers, and a confederation segment as none; and AS4_PATH is taken without its
+ *     confederation segments. Where it then has no segment, or AS_PATH counts fewer, the path is AS_PATH.
+ *   - Otherwise the path is the front of AS_PATH, which makes up the difference of the two counts, and then AS4_PATH. The front has whole
+ *     segments, those of confederations too. It ends before a set or a sequence, even an empty one, once nothing is left to make up, or with
+ *     the first AS numbers of a sequence that counts more than is left. Segments are not joined: a sequence of 65001 23456 23456, and in
+ *     AS4_PATH one of 70000 70001, make a sequence of 65001 and then one of 70000 70001.
+ * Answer: segments, numbers. Refusals: 10; those of doorbramble_count_as_path for AS_PATH; those for AS4_PATH, even where it is ignored. */
+uint64_t doorbramble_count_merged_as_path(const uint8_t *as_path, size_t as_path_len, const uint8_t *as4_path, size_t as4_path_len,
+                                          const uint8_t *aggregator, size_t aggregator_len, const uint8_t *as4_aggregator,
+                                          size_t as4_aggregator_len);
+
+/* The same, with pairs and numbers as doorbramble_parse_as_path has them. Refusals: as above, then 11. There is room for every path of two
+ * values where there is room for the segments and the AS numbers of both: 65,534 segments, in twice as many words, and 48,990 AS numbers are
+ * enough for all. As an AS_PATH of four bytes the path can be over 65,535 bytes, which doorbramble_encode_as_path refuses with 1. */
+uint64_t doorbramble_merge_as_path(const uint8_t *as_path, size_t as_path_len, const uint8_t *as4_path, size_t as4_path_len,
+                                   const uint8_t *aggregator, size_t aggregator_len, const uint8_t *as4_aggregator,
+                                   size_t as4_aggregator_len, uint32_t *pairs, size_t pairs_len, uint32_t *numbers, size_t numbers_len);
+
 #ifdef __cplusplus
 }
 #endif
@@ -327,13 +364,16 @@ static inline unsigned doorbramble_announced_verdict(uint64_t answer) { return d
 /* of a list */
 static inline unsigned doorbramble_rows(uint64_t answer) { return doorbramble_field_a(answer); }
 
-/* of an AS_PATH */
+/* of an AS_PATH, read or merged */
 static inline unsigned doorbramble_segments(uint64_t answer) { return doorbramble_field_a(answer); }
 static inline unsigned doorbramble_numbers(uint64_t answer) { return doorbramble_field_b(answer); }
 
 /* of an AGGREGATOR */
 static inline unsigned doorbramble_words(uint64_t answer) { return doorbramble_field_a(answer); }
 static inline int doorbramble_differs(uint64_t answer) { return doorbramble_field_b(answer) != 0; }
+
+/* of two AGGREGATORs: 1 where AGGREGATOR stands, and 2 where AS4_AGGREGATOR does, of which the value is such a part; 0 with a refusal */
+static inline unsigned doorbramble_standing(uint64_t answer) { return doorbramble_field_c_low(answer); }
 
 /* of a writer: the bytes that it wrote */
 static inline unsigned doorbramble_bytes(uint64_t answer) { return doorbramble_field_a(answer); }

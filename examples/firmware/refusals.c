@@ -559,6 +559,171 @@ static void aggregators(void) {
     check_answer("encode_aggregator: 11", doorbramble_encode_aggregator(65001, 0x0A000001, 0, out, 5), refused(DOORBRAMBLE_NO_ROOM));
 }
 
+/* AGGREGATORs of AS_TRANS and of 65001, and an AS4_AGGREGATOR of 70000 */
+static const uint8_t trans_aggregator[] = {0x5B, 0xA0, 10, 0, 0, 1}, aggregator[] = {0xFD, 0xE9, 10, 0, 0, 1};
+static const uint8_t as4_aggregator[] = {0, 1, 0x11, 0x70, 10, 0, 0, 1};
+
+static void standing_aggregators(void) {
+    const uint64_t first = accepted(0, 6, 1), second = accepted(0, 8, 2), absent = accepted(0, 0, 1);
+    static const uint8_t zeros[8];
+    uint64_t answer;
+
+    check_answer("standing_aggregator: the first", doorbramble_standing_aggregator(aggregator, 6, as4_aggregator, 8), first);
+    answer = doorbramble_standing_aggregator(trans_aggregator, 6, as4_aggregator, 8);
+    check_answer("standing_aggregator: the second", answer, second);
+    expect("the fields of two AGGREGATORs",
+           doorbramble_standing(answer) == 2 && doorbramble_offset(answer) == 0 && doorbramble_length(answer) == 8);
+    check_answer("standing_aggregator: the second, of zeros", doorbramble_standing_aggregator(trans_aggregator, 6, zeros, 8), second);
+    check_answer("standing_aggregator: no second", doorbramble_standing_aggregator(aggregator, 6, NULL, 0), first);
+    check_answer("standing_aggregator: AS_TRANS and no second", doorbramble_standing_aggregator(trans_aggregator, 6, NULL, 0), first);
+    check_answer("standing_aggregator: no first", doorbramble_standing_aggregator(NULL, 0, as4_aggregator, 8), absent);
+    check_answer("standing_aggregator: neither", doorbramble_standing_aggregator(NULL, 0, NULL, 0), absent);
+}
+
+/* each length of both, of which 0 and 6, and 0 and 8, are taken; and each AS number of the first */
+static void aggregator_lengths(void) {
+    static const uint8_t zeros[300];
+    const uint64_t refusal = refused(DOORBRAMBLE_AGGREGATOR_LENGTH);
+    uint8_t value[] = {0, 0, 10, 0, 0, 1};
+    unsigned wrong = 0, wrong_numbers = 0, i, k;
+    for (i = 0; i < 300; i++)
+        for (k = 0; k < 300; k++) {
+            const int is_good = (i == 0 || i == 6) && (k == 0 || k == 8);
+            wrong += doorbramble_standing_aggregator(zeros, i, zeros, k) != (is_good ? accepted(0, i, 1) : refusal);
+            wrong += doorbramble_count_merged_as_path(zeros, 2, zeros, 1, zeros, i, zeros, k) !=
+                     (is_good ? refused(DOORBRAMBLE_SEGMENT_TYPE) : refusal);
+        }
+    for (i = 0; i < 65536; i++) {
+        value[0] = (uint8_t)(i >> 8);
+        value[1] = (uint8_t)i;
+        wrong_numbers += doorbramble_standing_aggregator(value, 6, as4_aggregator, 8) !=
+                         (i == DOORBRAMBLE_AS_TRANS ? accepted(0, 8, 2) : accepted(0, 6, 1));
+    }
+    expect("AGGREGATORs of every length", wrong == 0);
+    expect("AGGREGATORs of every number", wrong_numbers == 0);
+}
+
+struct value {
+    const uint8_t *bytes;
+    size_t size;
+};
+
+#define VALUE(bytes) ((struct value){bytes, sizeof bytes})
+
+static const struct value none = {NULL, 0};
+
+/* what is merged, and the AGGREGATORs beside it */
+struct merge {
+    struct value as_path, as4_path, aggregator, as4_aggregator;
+};
+
+static uint64_t count_merged(struct merge of) {
+    return doorbramble_count_merged_as_path(of.as_path.bytes, of.as_path.size, of.as4_path.bytes, of.as4_path.size, of.aggregator.bytes,
+                                            of.aggregator.size, of.as4_aggregator.bytes, of.as4_aggregator.size);
+}
+
+static uint64_t merge(struct merge of, size_t pair_places, size_t number_places) {
+    return doorbramble_merge_as_path(of.as_path.bytes, of.as_path.size, of.as4_path.bytes, of.as4_path.size, of.aggregator.bytes,
+                                     of.aggregator.size, of.as4_aggregator.bytes, of.as4_aggregator.size, one, pair_places, two,
+                                     number_places);
+}
+
+/* a path of so many segments and numbers: counted, merged with room for it and with more, and refused with a place less of either */
+static void check_merged(const char *what, struct merge of, const uint32_t *pairs, size_t segments, const uint32_t *numbers, size_t count) {
+    const uint64_t wanted = accepted(segments, count, 0), no_room = refused(DOORBRAMBLE_NO_ROOM);
+    check_answer(what, count_merged(of), wanted);
+    check(what, merge(of, 2 * segments, count), wanted, pairs, 2 * segments, numbers, count, NULL, 0);
+    check(what, merge(of, PLACES, PLACES), wanted, pairs, 2 * segments, numbers, count, NULL, 0);
+    if (segments > 0)
+        check_answer(what, merge(of, 2 * segments - 1, PLACES), no_room);
+    if (count > 0)
+        check_answer(what, merge(of, PLACES, count - 1), no_room);
+}
+
+static void check_merge_refused(const char *what, struct merge of, unsigned number) {
+    check_answer(what, count_merged(of), refused(number));
+    check_answer(what, merge(of, 0, 0), refused(number));
+    check_answer(what, merge(of, PLACES, PLACES), refused(number));
+}
+
+/* a sequence of 65001 and AS_TRANS twice, and one of 70000 and 70001 in four bytes */
+static const uint8_t old_path[] = {2, 3, 0xFD, 0xE9, 0x5B, 0xA0, 0x5B, 0xA0}, new_path[] = {2, 2, 0, 1, 0x11, 0x70, 0, 1, 0x11, 0x71};
+static const uint32_t old_pairs[] = {2, 3}, old_numbers[] = {65001, DOORBRAMBLE_AS_TRANS, DOORBRAMBLE_AS_TRANS};
+
+static void merged_paths(void) {
+    static const uint32_t pairs[] = {2, 1, 2, 2}, numbers[] = {65001, 70000, 70001};
+    const struct value old = VALUE(old_path), new = VALUE(new_path);
+    const struct value first = VALUE(aggregator), trans = VALUE(trans_aggregator), second = VALUE(as4_aggregator);
+
+    check_merged("merge_as_path", (struct merge){old, new, none, none}, pairs, 2, numbers, 3);
+    check_merged("merge_as_path: AS4_AGGREGATOR stands", (struct merge){old, new, trans, second}, pairs, 2, numbers, 3);
+    check_merged("merge_as_path: no AS4_AGGREGATOR", (struct merge){old, new, first, none}, pairs, 2, numbers, 3);
+    check_merged("merge_as_path: no AGGREGATOR", (struct merge){old, new, none, second}, pairs, 2, numbers, 3);
+    check_merged("merge_as_path: AGGREGATOR stands", (struct merge){old, new, first, second}, old_pairs, 1, old_numbers, 3);
+    check_merged("merge_as_path: no AS4_PATH", (struct merge){old, none, none, none}, old_pairs, 1, old_numbers, 3);
+    check_merged("merge_as_path: no AS_PATH", (struct merge){none, new, none, none}, NULL, 0, NULL, 0);
+    check_merged("merge_as_path: neither", (struct merge){none, none, none, none}, NULL, 0, NULL, 0);
+}
+
+/* what counts, which segments are taken, and where the front of AS_PATH ends */
+static void merged_segments(void) {
+    /* a confederation sequence of 1, a set of 2 and 3, a sequence of 4 and 5, a confederation set of 6, an empty sequence */
+    static const uint8_t mixed[] = {3, 1, 0, 1, 1, 2, 0, 2, 0, 3, 2, 2, 0, 4, 0, 5, 4, 1, 0, 6, 2, 0};
+    static const uint32_t pairs[] = {3, 1, 1, 2, 2, 2, 4, 1, 2, 0}, numbers[] = {1, 2, 3, 4, 5, 6};
+    /* a confederation set of 9 and a set of 7 and 8; an empty set; an empty sequence; a confederation sequence of 9 */
+    static const uint8_t as4_set[] = {4, 1, 0, 0, 0, 9, 1, 2, 0, 0, 0, 7, 0, 0, 0, 8}, empty_set[] = {1, 0};
+    static const uint8_t empty_sequence[] = {2, 0}, confederation[] = {3, 1, 0, 0, 0, 9}, as4_three[] = {1, 0, 1, 0, 1, 0};
+    static const uint8_t as4_four[] = {1, 0, 1, 0, 1, 0, 1, 0};
+    static const uint32_t with_set[] = {3, 1, 1, 2, 2, 1, 1, 2}, set_numbers[] = {1, 2, 3, 4, 7, 8};
+    static const uint32_t with_empty_set[] = {3, 1, 1, 2, 2, 1, 1, 0}, with_sets[] = {3, 1, 1, 0, 1, 0, 1, 0};
+    const struct value old = VALUE(mixed);
+
+    check_merged("merge_as_path: a set counts as one", (struct merge){old, VALUE(as4_set), none, none}, with_set, 4, set_numbers, 6);
+    check_merged("merge_as_path: so does an empty one", (struct merge){old, VALUE(empty_set), none, none}, with_empty_set, 4, numbers, 4);
+    check_merged("merge_as_path: nothing to make up", (struct merge){old, VALUE(as4_three), none, none}, with_sets, 4, numbers, 1);
+    check_merged("merge_as_path: AS_PATH counts fewer", (struct merge){old, VALUE(as4_four), none, none}, pairs, 5, numbers, 6);
+    check_merged("merge_as_path: AS4_PATH of a confederation", (struct merge){old, VALUE(confederation), none, none}, pairs, 5, numbers, 6);
+    check_merged("merge_as_path: an empty sequence ends the front, another follows", (struct merge){old, VALUE(empty_sequence), none, none},
+                 pairs, 5, numbers, 6);
+}
+
+/* 10, those of AS_PATH, those of AS4_PATH, even where it is ignored, and then 11, for which check_merged has more */
+static void refused_merges(void) {
+    static const uint8_t bad_type[] = {5, 0};
+    const struct value old = VALUE(old_path), new = VALUE(new_path), type_five = VALUE(bad_type), cut = {new_path, 9};
+    const struct value first = VALUE(aggregator), second = VALUE(as4_aggregator), seven = {as4_aggregator, 7};
+
+    check_merge_refused("merge_as_path: 10, AGGREGATOR", (struct merge){cut, cut, seven, none}, DOORBRAMBLE_AGGREGATOR_LENGTH);
+    check_merge_refused("merge_as_path: 10, AS4_AGGREGATOR", (struct merge){cut, cut, none, seven}, DOORBRAMBLE_AGGREGATOR_LENGTH);
+    check_merge_refused("merge_as_path: 10, exchanged", (struct merge){old, new, second, first}, DOORBRAMBLE_AGGREGATOR_LENGTH);
+    check_merge_refused("merge_as_path: 9 of AS_PATH before 2", (struct merge){type_five, cut, none, none}, DOORBRAMBLE_SEGMENT_TYPE);
+    check_merge_refused("merge_as_path: 2 of AS_PATH before 9", (struct merge){cut, type_five, none, none}, DOORBRAMBLE_TRUNCATED);
+    check_merge_refused("merge_as_path: 2 of AS4_PATH", (struct merge){old, cut, none, none}, DOORBRAMBLE_TRUNCATED);
+    check_merge_refused("merge_as_path: 2 of AS4_PATH, ignored", (struct merge){old, cut, first, second}, DOORBRAMBLE_TRUNCATED);
+    check_merge_refused("merge_as_path: 9 of AS4_PATH, ignored", (struct merge){old, type_five, first, second}, DOORBRAMBLE_SEGMENT_TYPE);
+    check_answer("merge_as_path: 11, no stores", doorbramble_merge_as_path(old_path, 8, new_path, 10, NULL, 0, NULL, 0, NULL, 0, NULL, 0),
+                 refused(DOORBRAMBLE_NO_ROOM));
+}
+
+/* the longest values, and one byte more; the most segments */
+static void merge_limits(void) {
+    static uint8_t segments[65536], as4_segments[65536];
+    const struct value old = {segments, 65534}, new = {as4_segments, 65534}, longer = {segments, 65536}, longer_new = {as4_segments, 65536};
+    size_t i;
+
+    check_merge_refused("merge_as_path: 1 of AS_PATH before 9", (struct merge){longer, old, none, none}, DOORBRAMBLE_TOO_LONG);
+    for (i = 0; i < sizeof segments; i += 2) {
+        segments[i] = 3;
+        as4_segments[i] = 2;
+    }
+    check_merge_refused("merge_as_path: 1 of AS4_PATH", (struct merge){old, longer_new, none, none}, DOORBRAMBLE_TOO_LONG);
+    check_merge_refused("merge_as_path: 1 of AS4_PATH, ignored", (struct merge){old, longer_new, VALUE(aggregator), VALUE(as4_aggregator)},
+                        DOORBRAMBLE_TOO_LONG);
+    check_answer("count_merged_as_path: 65,534 segments", count_merged((struct merge){old, new, none, none}), accepted(65534, 0, 0));
+    check_answer("merge_as_path: 11 for 65,534 segments", merge((struct merge){old, new, none, none}, PLACES, PLACES),
+                 refused(DOORBRAMBLE_NO_ROOM));
+}
+
 /* rows that the header says cannot be written, and one with bits past its length, which can */
 static void rows(void) {
     static const uint32_t seven[] = {8 + DOORBRAMBLE_ROW_HAS_ID, 7, 0x0A000000, 0, 0, 0};
@@ -634,7 +799,7 @@ static void slots(void) {
 
 static void version(void) {
     uint64_t answer = doorbramble_version();
-    check_answer("version", answer, accepted(1, 3, 0));
+    check_answer("version", answer, accepted(1, 4, 0));
     expect("the version of the header", doorbramble_version_major(answer) == DOORBRAMBLE_VERSION_MAJOR &&
                                             doorbramble_version_minor(answer) == DOORBRAMBLE_VERSION_MINOR);
 }
@@ -709,6 +874,12 @@ int main(void) {
     segment_types();
     width_flags();
     aggregators();
+    standing_aggregators();
+    aggregator_lengths();
+    merged_paths();
+    merged_segments();
+    refused_merges();
+    merge_limits();
     slots();
     version();
     section_limit();

@@ -10,12 +10,19 @@ use Rattle.wire.specs.Number.{beAt}
 use Rattle.wire.specs.Refusal.{truncated}
 use Rattle.wire.specs.Walk.{Step, took, stop, Reading, readAll}
 
--- the types that this library reads: AS_PATH and AGGREGATOR (RFC 4271 section 5.1), MP_REACH_NLRI and MP_UNREACH_NLRI (RFC 4760 sections 3 and 4)
+-- the types that this library reads: AS_PATH and AGGREGATOR (RFC 4271 section 5.1), AS4_PATH and AS4_AGGREGATOR (RFC 6793 section 3), MP_REACH_NLRI and
+-- MP_UNREACH_NLRI (RFC 4760 sections 3 and 4)
 abbrev pub asPath : ℕ
 asPath = 2
 
 abbrev pub aggregator : ℕ
 aggregator = 7
+
+abbrev pub as4Path : ℕ
+as4Path = 17
+
+abbrev pub as4Aggregator : ℕ
+as4Aggregator = 18
 
 abbrev pub mpReachNlri : ℕ
 mpReachNlri = 14

@@ -5,5 +5,6 @@ pub mod UpdateBounds
 pub mod PathBounds
 pub mod AttributeBounds
 pub mod AggregatorBounds
+pub mod MergeBounds
 pub mod SlotBounds
 pub mod Tight

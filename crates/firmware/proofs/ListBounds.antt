@@ -10,6 +10,7 @@ use Rattle.wire.specs.declared.WriteAnswer.{WriteAnswer}
 use Rattle.wire.specs.declared.WriteAnswer.the-variants as W
 use Rattle.wire.proofs.ChoiceLaws.{pick-any, pick-leb}
 use Rattle.wire.specs.Refusal.{tooLong, truncated, prefixLength, oneByteSection, noRoom, listLimit}
+use Rattle.wire.proofs.Turn.{tally-few}
 use Rattle.wire.specs.Walk as Walk
 use Rattle.wire.specs.Walk.{stop, Reading, readAll}
 use Rattle.wire.proofs.WalkLaws.{all-ind, tally-one}
@@ -28,7 +29,7 @@ use Rattle.route_bytes.specs.Encode.{writing}
 use Rattle.route_writer.specs.Promises as routeWriter
 use Rattle.words.specs.Word.{inFields, Narrow}
 use Rattle.words.proofs.WordLaws.{refused-narrow, number-narrow}
-use Rattle.firmware.proofs.Bounds.{tally-few, answer-any, limited-narrow}
+use Rattle.firmware.proofs.Bounds.{answer-any, limited-narrow}
 
 -- an item is refused with 2 or 7
 item-low : (max : ℕ) (form : Form) (s : List ℕ) (n : ℕ) → inForm (upTo max) form s ≡ stop n → n < 256

@@ -14,7 +14,7 @@ use Rattle.wire.proofs.ChoiceLaws.{pick-any, pick-leb}
 use Rattle.wire.specs.Refusal.{tooLong, noRoom, notWritable, listLimit}
 use Rattle.wire.specs.Walk.{readAll, flat}
 use Rattle.wire.proofs.WalkLaws.{tally-one, tally-flat}
-use Rattle.wire.proofs.Turn.{Light}
+use Rattle.wire.proofs.Turn.{Light, tally-few}
 use Rattle.asns.specs.Asn.{widthOf}
 use Rattle.asns.specs.declared.AsnLength.{AsnLength}
 use Rattle.asns.specs.declared.AsnLength.the-variants.{Bits16, Bits32}
@@ -32,11 +32,20 @@ use Rattle.words.specs.Settings.{asnLengthOf}
 use Rattle.words.specs.Word.{inFields, wordOf, Narrow}
 use Rattle.words.proofs.WordLaws.{refused-narrow}
 use Rattle.firmware.specs.Private.{ruleIn}
-use Rattle.firmware.proofs.Bounds.{tally-few, answer-any, limited-narrow}
+use Rattle.firmware.proofs.Bounds.{answer-any, limited-narrow}
 
 width-pos : (width : AsnLength) → 0 < widthOf width
 width-pos Bits16 = omega arith
 width-pos Bits32 = omega arith
+
+-- in stores of so many places
+pub stores-narrow : (a : PathAnswer) (p q : ℕ) → Narrow (inFields (pathMeaning a)) → Narrow (inFields (pathMeaning (paths.inStores a p q)))
+stores-narrow (P.Path m n) p q h =
+    let Fine : PathAnswer → Type 0 = λ a. Narrow (inFields (pathMeaning a)) in
+    pick-any Fine (leb m (p / 2)) _ (P.Refused noRoom)
+    (pick-any Fine (leb n q) (P.Path m n) (P.Refused noRoom) h (refused-narrow noRoom))
+    (refused-narrow noRoom)
+stores-narrow (P.Refused n) p q h = refused-narrow n
 
 module _ (s : List ℕ) (width : AsnLength) (rule : Rule) where
   segments-few : length (pathOf rule (widthOf width) s .rows) ≤ length s
@@ -63,15 +72,7 @@ module _ (s : List ℕ) (width : AsnLength) (rule : Rule) where
 
   pub read-path-narrow : (p q : ℕ) → Narrow (inFields (pathMeaning (paths.readAnswer s (pathOf rule (widthOf width) s) p q)))
   unfolding paths.readAnswer
-  read-path-narrow p q = by (paths.countAnswer s (pathOf rule (widthOf width) s)) count-path-narrow
-    where
-      by : (a : PathAnswer) → Narrow (inFields (pathMeaning a)) → Narrow (inFields (pathMeaning (paths.inStores a p q)))
-      by (P.Path m n) h =
-          let Fine : PathAnswer → Type 0 = λ a. Narrow (inFields (pathMeaning a)) in
-          pick-any Fine (leb m (p / 2)) _ (P.Refused noRoom)
-          (pick-any Fine (leb n q) (P.Path m n) (P.Refused noRoom) h (refused-narrow noRoom))
-          (refused-narrow noRoom)
-      by (P.Refused n) h = refused-narrow n
+  read-path-narrow p q = stores-narrow (paths.countAnswer s (pathOf rule (widthOf width) s)) p q count-path-narrow
 
 -- what reading into two stores told, by the width and the rule that a call was given
 pub read-told : (s : List ℕ) (width width′ : AsnLength) (rule rule′ : PathRule) (pairs numbers pairs′ numbers′ : List ℕ) (a : PathAnswer) (r : ℕ)

@@ -24,6 +24,9 @@ use Rattle.firmware.proofs.path.doorbramble_parse_as_path_strict.Reads 
 use Rattle.firmware.proofs.path.doorbramble_encode_as_path_strict.Reads as «encode_as_path_strict»
 use Rattle.firmware.proofs.aggregator.doorbramble_parse_aggregator.Reads as parse_aggregator
 use Rattle.firmware.proofs.aggregator.doorbramble_encode_aggregator.Reads as encode_aggregator
+use Rattle.firmware.proofs.merge.doorbramble_standing_aggregator.Reads as standing_aggregator
+use Rattle.firmware.proofs.merge.doorbramble_count_merged_as_path.Reads as «count_merged_as_path»
+use Rattle.firmware.proofs.merge.doorbramble_merge_as_path.Reads as «merge_as_path»
 use Rattle.firmware.proofs.slot.doorbramble_next_slot.Reads as next_slot
 use Rattle.firmware.proofs.version.doorbramble_version.Reads as version
 
@@ -95,6 +98,15 @@ tight-parse-aggregator κs a z z′ e e′ p q = (p .0 ∙ sym (q .0), p .1 ∙ 
 
 pub tight-encode-aggregator : (κs : _) (a : _) (z z′ : _) (e e′ : _) → encode_aggregator.Learnt κs a z e → encode_aggregator.Learnt κs a z′ e′ → (z ≡ z′) × (now (e .1 .1 .1 .0) ≡ now (e′ .1 .1 .1 .0))
 tight-encode-aggregator κs a z z′ e e′ p q = (p .0 ∙ sym (q .0), p .1 ∙ sym (q .1))
+
+pub tight-standing-aggregator : (κs : _) (a : _) (z z′ : _) (e e′ : _) → standing_aggregator.Learnt κs a z e → standing_aggregator.Learnt κs a z′ e′ → z ≡ z′
+tight-standing-aggregator κs a z z′ e e′ p q = p ∙ sym q
+
+pub tight-count-merged-as-path : (κs : _) (a : _) (z z′ : _) (e e′ : _) → «count_merged_as_path».Learnt κs a z e → «count_merged_as_path».Learnt κs a z′ e′ → z ≡ z′
+tight-count-merged-as-path κs a z z′ e e′ p q = p ∙ sym q
+
+pub tight-merge-as-path : (κs : _) (a : _) (z z′ : _) (e e′ : _) → «merge_as_path».Learnt κs a z e → «merge_as_path».Learnt κs a z′ e′ → (z ≡ z′) × (now (e .1 .1 .1 .1 .0) ≡ now (e′ .1 .1 .1 .1 .0)) × (now (e .1 .1 .1 .1 .1 .0) ≡ now (e′ .1 .1 .1 .1 .1 .0))
+tight-merge-as-path κs a z z′ e e′ p q = (p .0 ∙ sym (q .0), p .1 .0 ∙ sym (q .1 .0), p .1 .1 ∙ sym (q .1 .1))
 
 pub tight-next-slot : (κs : _) (a : _) (z z′ : _) (e e′ : _) → next_slot.Learnt κs a z e → next_slot.Learnt κs a z′ e′ → z ≡ z′
 tight-next-slot κs a z z′ e e′ p q = p ∙ sym q

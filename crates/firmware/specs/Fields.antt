@@ -3,10 +3,12 @@
 use Prim.Native.Nat.{ℕ, _+_, _*_}
 use mathlib.Core.List.{List, [], _∷_}
 use lib.Dec.{ltb}
-use Rattle.wire.specs.Answer.{Answer, given, refusal, numberIn, valueIn}
+use Rattle.wire.specs.Answer.{Answer, given, refusal, numberIn, valueIn, handed}
 use Rattle.wire.specs.Choice.{pick}
-use Rattle.wire.specs.Extent.{Extent}
+use Rattle.wire.specs.Extent.{Extent, extent}
 use Rattle.wire.specs.Refusal.{noRoom}
+use Rattle.as4.specs.Standing.{standingMeaning, ownerOf}
+use Rattle.as4.specs.declared.StandingAnswer.{StandingAnswer}
 use Rattle.messages.specs.Header.{messageMeaning}
 use Rattle.messages.specs.declared.MessageAnswer.{MessageAnswer}
 use Rattle.attributes.specs.Promises.{attributeMeaning}
@@ -63,6 +65,14 @@ abbrev pub aggregatorStored : Answer → ℕ → Answer
 aggregatorStored (given values) places = pick (ltb places aggregatorSize) (refusal noRoom) (given (aggregatorSize ∷ valueIn 2 (given values) ∷ []))
 aggregatorStored (refusal n) places = refusal n
 
+-- ---- two AGGREGATORs
+
+-- where the one that stands starts in itself, and its length, by the lengths of both; and which it is
+abbrev pub standingFields : StandingAnswer → ℕ → ℕ → Fields
+standingFields a first second =
+    let part : Extent = handed (standingMeaning a) (extent 0 (ownerOf a first second)) in
+    fields (part .start) (part .size) (valueIn 0 (standingMeaning a)) (numberIn (standingMeaning a))
+
 -- ---- slots
 
 -- what stands at the front of the input: a record; too few bytes to tell, where more may come; no record; nothing, and no more will come
@@ -106,7 +116,7 @@ abbrev pub versionMajor : ℕ
 versionMajor = 1
 
 abbrev pub versionMinor : ℕ
-versionMinor = 3
+versionMinor = 4
 
 abbrev pub versionFields : Fields
 versionFields = fields versionMajor versionMinor 0 0

@@ -9,6 +9,7 @@ use words::word;
 pub mod aggregator;
 pub mod attribute;
 pub mod list;
+pub mod merge;
 pub mod message;
 pub mod path;
 pub mod slot;

@@ -17,7 +17,7 @@ use words::asn_length_of;
 use words::word;
 
 // A path as a word: its segments and their numbers.
-fn path_word(a: PathAnswer) -> u64
+pub(super) fn path_word(a: PathAnswer) -> u64
     requires { ⌜ Narrow (inFields (Paths.pathMeaning a)) ⌝ }
     ensures { λ r. ⌜ r ≡ wordOf (inFields (Paths.pathMeaning a)) ⌝ }
 {
