@@ -4,6 +4,7 @@ pub mod Editions
 pub mod Routes
 pub mod Octets
 pub mod Paths
+pub mod As4
 pub mod Attributes
 pub mod Updates
 pub mod Written

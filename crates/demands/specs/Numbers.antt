@@ -1,11 +1,11 @@
 -- Every number and every order of two checks that documents 01 and 02 fix, and the lister's case, as one table over the definitions with one claim: definition and code
 -- cannot be changed to the same wrong number. A line holds what the definitions say of an input to what the documents say.
 -- Assumes nothing.
-use Prim.Native.Nat.{ℕ, _+_, _-_}
+use Prim.Native.Nat.{ℕ, _+_, _-_, _*_}
 use mathlib.Core.Path.{_≡_, refl}
 use mathlib.Core.List.{List, [], _∷_, _++_, map}
 use mathlib.Core.Bool.{Bool, true, false, _&&_}
-use lib.ListN.{length, replicate}
+use lib.ListN.{length, getD, replicate}
 use lib.Dec.{eqb}
 use Rattle.wire.specs.Answer.{given, refusal, numberIn, valueIn, writeMeaning, limited}
 use Rattle.wire.specs.Number.{be, beAt, toBe}
@@ -30,13 +30,17 @@ use Rattle.asns.specs.Asn.{widthOf, span}
 use Rattle.asns.specs.Aggregator.{aggregatorMeaning, aggregatorOf, aggregatorBytes, aggregatorWritten}
 use Rattle.asns.specs.declared.AsnLength.{AsnLength}
 use Rattle.asns.specs.declared.AsnLength.the-variants.{Bits16, Bits32}
-use Rattle.paths.specs.Segment.{knownType, ruleOf, typeFault, numbersOf, pairOf, segmentAt, segmentOf, pathOf}
+use Rattle.paths.specs.Segment.{knownType, ruleOf, typeFault, numbersOf, pairOf, asnsOf, segmentAt, segmentOf, pathOf}
 use Rattle.paths.specs.Promises as paths
 use Rattle.paths.specs.declared.PathRule.{PathRule}
 use Rattle.paths.specs.declared.PathRule.the-variants.{Crate, Strict}
 use Rattle.paths.specs.Promises.{pathMeaning}
 use Rattle.path_writer.specs.Write.{mostNumbers, segmentBytes, addsUp, allFit, writeFault, lentOf, lentPath, pathBytes}
 use Rattle.path_writer.specs.Promises as pathWriter
+use Rattle.as4.specs.Standing as as4
+use Rattle.as4.specs.Standing.{asTrans, sizeFault, ignored, standingMeaning}
+use Rattle.as4.specs.Merge as Merge
+use Rattle.as4.specs.Promises.{faultOf, bothOf, builtOf, mergeAnswer}
 use Rattle.messages.specs.Header.{markerSize, headerSize, messageLimit, extendedLimit, leastLength, mostLength, crateLimit, isOutside, isUnknown, allFF, messageMeaning, messageOf, limitOf, strictWithin, strictOf}
 use Rattle.messages.specs.Written as messageWriter
 use Rattle.attributes.specs.Attribute.{isExtended, lengthSize, headSize, attributeFront, attributeOf}
@@ -466,6 +470,8 @@ abbrev pub attributes : List Line
 attributes =
     line attribute.asPath 2
     ∷ line attribute.aggregator 7
+    ∷ line attribute.as4Path 17
+    ∷ line attribute.as4Aggregator 18
     ∷ line attribute.mpReachNlri 14
     ∷ line attribute.mpUnreachNlri 15
     -- the walker: the attribute at a place, and none at the end and past it
@@ -761,7 +767,7 @@ settings =
     ∷ line keptLimit 65535
     ∷ line bodyRows 65512
     -- the version of the calls for C
-    ∷ line (wordOf versionFields) 0x30001
+    ∷ line (wordOf versionFields) 0x40001
     -- an attribute: where its value starts, its length, its type and its flags
     ∷ line (wordOf (attributeFields (A.Attribute 0x50 2 8 3 11))) 0x500200030008
     ∷ line (wordOf (attributeFields A.Absent)) 0
@@ -809,12 +815,98 @@ lister =
     ∷ line (be (endingText Ending.Unwritten)) 0x756E7772697474656E0A
     ∷ []
 
+-- ---- "K5. Old and new AS numbers side by side"
+
+-- which of two AGGREGATORs stands, 1 or 2; 256 times the refusal number where they are refused
+abbrev pub stood : List ℕ → List ℕ → ℕ
+stood one two = valueIn 0 (standingMeaning (as4.standing one two)) + 256 * numberIn (standingMeaning (as4.standing one two))
+
+-- the refusal number of a merge into stores of so many places
+abbrev pub mergedInto : List ℕ → List ℕ → List ℕ → List ℕ → ℕ → ℕ → ℕ
+mergedInto path four one two pairs numbers = numberIn (pathMeaning (mergeAnswer (builtOf path four one two) pairs numbers))
+
+-- the pairs of the path that is built, a byte each, and the number at a place of its numbers
+abbrev pub builtPairs : List ℕ → List ℕ → ℕ
+builtPairs path four = be (flat pairOf (builtOf path four [] [] .rows))
+
+abbrev pub builtNumber : List ℕ → List ℕ → ℕ → ℕ
+builtNumber path four i = getD (flat asnsOf (builtOf path four [] [] .rows)) i 0
+
+-- a sequence of 65001 23456 23456, of two bytes each, and one of 70000 70001, of four
+abbrev pub oldExample : List ℕ
+oldExample = 2 ∷ 3 ∷ 253 ∷ 233 ∷ 91 ∷ 160 ∷ 91 ∷ 160 ∷ []
+
+abbrev pub newExample : List ℕ
+newExample = 2 ∷ 2 ∷ 0 ∷ 1 ∷ 17 ∷ 112 ∷ 0 ∷ 1 ∷ 17 ∷ 113 ∷ []
+
+-- AGGREGATORs of AS_TRANS, of another number, and one of four bytes whose second half is AS_TRANS
+abbrev pub transOld : List ℕ
+transOld = 91 ∷ 160 ∷ zeros 4
+
+abbrev pub otherOld : List ℕ
+otherOld = 91 ∷ 161 ∷ zeros 4
+
+abbrev pub transNew : List ℕ
+transNew = 0 ∷ 0 ∷ 91 ∷ 160 ∷ zeros 4
+
+abbrev pub oldAndNew : List Line
+oldAndNew =
+    line asTrans 23456
+    -- both are there: the first unless its number is 23456, whatever the second has; else the first, which may be absent
+    ∷ line (stood transOld (zeros 8)) 2
+    ∷ line (stood otherOld (zeros 8)) 1
+    ∷ line (stood transOld transNew) 2
+    ∷ line (stood otherOld transNew) 1
+    ∷ line (stood transOld []) 1
+    ∷ line (stood [] (zeros 8)) 1
+    ∷ line (stood [] []) 1
+    -- 10 for every other length of either
+    ∷ line (stood (zeros 5) []) 2560
+    ∷ line (stood (zeros 7) []) 2560
+    ∷ line (stood (zeros 8) (zeros 8)) 2560
+    ∷ line (stood [] (zeros 6)) 2560
+    ∷ line (stood [] (zeros 7)) 2560
+    ∷ line (stood (zeros 6) (zeros 9)) 2560
+    -- "Sequence 65001 23456 23456 with 70000 70001 gives a sequence of 65001, then one of 70000 70001"
+    ∷ line (builtPairs oldExample newExample) 0x02010202
+    ∷ line (builtNumber oldExample newExample 0) 65001
+    ∷ line (builtNumber oldExample newExample 1) 70000
+    ∷ line (builtNumber oldExample newExample 2) 70001
+    -- its room: two places a segment, one a number
+    ∷ line (mergedInto oldExample newExample [] [] 3 3) 11
+    ∷ line (mergedInto oldExample newExample [] [] 4 2) 11
+    ∷ line (mergedInto oldExample newExample [] [] 4 3) 0
+    -- an ignored AS4_PATH, an absent one, and one that counts more
+    ∷ line (be (flat pairOf (builtOf oldExample newExample otherOld (zeros 8) .rows))) 0x0203
+    ∷ line (builtPairs oldExample []) 0x0203
+    ∷ line (builtPairs (2 ∷ 0 ∷ []) newExample) 0x0200
+    -- a set counts one, an empty one too; a confederation segment counts none
+    ∷ line (builtPairs (1 ∷ 2 ∷ 0 ∷ 1 ∷ 0 ∷ 2 ∷ 2 ∷ 1 ∷ 0 ∷ 3 ∷ []) (2 ∷ 1 ∷ zeros 4)) 0x01020201
+    ∷ line (builtPairs (1 ∷ 0 ∷ 2 ∷ 1 ∷ 0 ∷ 3 ∷ []) (1 ∷ 0 ∷ [])) 0x01000100
+    ∷ line (builtPairs (3 ∷ 1 ∷ 0 ∷ 1 ∷ 2 ∷ 1 ∷ 0 ∷ 3 ∷ []) (2 ∷ 1 ∷ zeros 4)) 0x03010201
+    -- those of AS4_PATH are dropped, and if nothing is then left AS_PATH stands alone
+    ∷ line (builtPairs oldExample (3 ∷ 0 ∷ 2 ∷ 1 ∷ zeros 4)) 0x02020201
+    ∷ line (builtPairs oldExample (4 ∷ 0 ∷ [])) 0x0203
+    -- one of AS_PATH is taken on the way and where nothing is left to make up, but not after a split; an empty sequence ends it then
+    ∷ line (builtPairs (1 ∷ 0 ∷ 4 ∷ 0 ∷ 1 ∷ 0 ∷ []) (1 ∷ 0 ∷ [])) 0x010004000100
+    ∷ line (builtPairs (2 ∷ 2 ∷ 0 ∷ 1 ∷ 0 ∷ 2 ∷ 4 ∷ 0 ∷ []) (2 ∷ 1 ∷ zeros 4)) 0x02010201
+    ∷ line (builtPairs (1 ∷ 0 ∷ 2 ∷ 0 ∷ 4 ∷ 0 ∷ 1 ∷ 0 ∷ []) (1 ∷ 0 ∷ [])) 0x01000100
+    -- 10 comes first, then the refusal of AS_PATH, then that of AS4_PATH, even if it is ignored, then 11
+    ∷ line (mergedInto (5 ∷ []) (5 ∷ 0 ∷ []) (zeros 5) [] 0 0) 10
+    ∷ line (mergedInto (5 ∷ []) (5 ∷ 0 ∷ []) [] [] 0 0) 2
+    ∷ line (mergedInto (5 ∷ 0 ∷ []) (5 ∷ []) [] [] 0 0) 9
+    ∷ line (mergedInto (2 ∷ 0 ∷ []) (5 ∷ 0 ∷ []) otherOld (zeros 8) 0 0) 9
+    ∷ line (mergedInto (zeros 65536) (5 ∷ []) [] [] 0 0) 1
+    ∷ line (mergedInto (2 ∷ 0 ∷ []) (zeros 65536) otherOld (zeros 8) 0 0) 1
+    ∷ line (mergedInto (2 ∷ 0 ∷ []) [] [] [] 0 0) 11
+    ∷ []
+
 abbrev pub table : List Line
-table = refusalNumbers ++ (headers ++ (bodies ++ (lists ++ (pathsAndAggregators ++ (attributes ++ (emptySegments ++ (longMessages ++ (octetCounts ++ (limits ++ (settings ++ lister))))))))))
+table = refusalNumbers ++ (headers ++ (bodies ++ (lists ++ (pathsAndAggregators ++ (oldAndNew ++ (attributes ++ (emptySegments ++ (longMessages ++ (octetCounts ++ (limits ++ (settings ++ lister)))))))))))
 
 -- every line of the table holds
 pub numbers : agree table ≡ true
-unfolding agree zeros tableOf beAt readAll walk flat modeOf wordAt rowOf itemRow prefixOf inForm guessForm stepBy listBy sectionBy routes.countAnswer routes.readAnswer fourWords rowBytes allZero writable frontRow writeStep writing bytesOf measured routeWriter.writeAnswer limited span aggregatorOf aggregatorBytes aggregatorWritten typeFault numbersOf segmentAt segmentOf pathOf paths.countAnswer paths.readAnswer segmentBytes addsUp allFit writeFault lentOf lentPath pathBytes pathWriter.lentBytes pathWriter.encodeAnswer leastLength mostLength crateLimit isOutside isUnknown allFF messageOf strictWithin messageWriter.writeMessage isExtended lengthSize headSize attributeFront attributeOf attribute.sectionOf standing attributeAt firstOf countOf verdictOf judged findAnswer partsOf withdrawnOf announcedOf countUpdate bodySized bodyAnswer wordOf familyOf formOf asnLengthOf editionOf tally found slotOf digits fieldsText sectionText entryOf entryText lineOf stopText headingText linesOf endingText
+unfolding agree zeros tableOf beAt readAll walk flat modeOf wordAt rowOf itemRow prefixOf inForm guessForm stepBy listBy sectionBy routes.countAnswer routes.readAnswer fourWords rowBytes allZero writable frontRow writeStep writing bytesOf measured routeWriter.writeAnswer limited span aggregatorOf aggregatorBytes aggregatorWritten typeFault numbersOf segmentAt segmentOf pathOf paths.countAnswer paths.readAnswer segmentBytes addsUp allFit writeFault lentOf lentPath pathBytes pathWriter.lentBytes pathWriter.encodeAnswer leastLength mostLength crateLimit isOutside isUnknown allFF messageOf strictWithin messageWriter.writeMessage isExtended lengthSize headSize attributeFront attributeOf attribute.sectionOf standing attributeAt firstOf countOf verdictOf judged findAnswer partsOf withdrawnOf announcedOf countUpdate bodySized bodyAnswer wordOf familyOf formOf asnLengthOf editionOf tally found slotOf digits fieldsText sectionText entryOf entryText lineOf stopText headingText linesOf endingText sizeFault as4.standing ignored Merge.kept Merge.leading Merge.joint faultOf bothOf builtOf
 numbers = refl
 
 -- the limit of a list and of a path to write is of their bytes, whatever they are

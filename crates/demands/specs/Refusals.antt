@@ -62,7 +62,12 @@ use Rattle.paths.specs.Promises.{pathMeaning, pairsAfter, numbersAfter}
 use Rattle.paths.specs.declared.PathAnswer.{PathAnswer}
 use Rattle.paths.specs.declared.PathAnswer.the-variants as T
 use Rattle.paths.proofs.PromiseLaws.{read-path, pairs-length}
+use Rattle.paths.proofs.PromiseLaws.{asns-past}
+use Rattle.paths.proofs.read_asns.Reads as read_asns
 use Rattle.paths.proofs.parse_as_path.Reads as «parse_as_path»
+use Rattle.as4.specs.Promises.{mergeAnswer, mergedPairs, mergedNumbers}
+use Rattle.as4.proofs.MergeStores.{as-read}
+use Rattle.as4.proofs.merge_as_path.Reads as «merge_as_path»
 use Rattle.path_writer.specs.Promises as Writer
 use Rattle.path_writer.specs.Promises.{encodeAnswer, encodeLeft}
 use Rattle.path_writer.proofs.PromiseLaws.{encode-written}
@@ -85,6 +90,7 @@ use Rattle.firmware.specs.Fields.{updateFields, aggregatorSize, aggregatorStore
 use Rattle.firmware.proofs.list.doorbramble_parse_nlri_list.Reads as c_parse_nlri_list
 use Rattle.firmware.proofs.list.doorbramble_encode_nlri_prefixes.Reads as c_encode_nlri_prefixes
 use Rattle.firmware.proofs.path.doorbramble_parse_as_path.Reads as «c_parse_as_path»
+use Rattle.firmware.proofs.merge.doorbramble_merge_as_path.Reads as «c_merge_as_path»
 use Rattle.firmware.proofs.path.doorbramble_encode_as_path.Reads as «c_encode_as_path»
 use Rattle.firmware.proofs.path.doorbramble_parse_as_path_strict.Reads as «c_parse_as_path_strict»
 use Rattle.firmware.proofs.path.doorbramble_encode_as_path_strict.Reads as «c_encode_as_path_strict»
@@ -262,6 +268,26 @@ module _ (κs : _) (lent : _) (answer : _) (exit : _) (call : «parse_as_path».
   pub parse-as-path-numbers-kept : Kept (pathMeaning answer) (valueIn 1 (pathMeaning answer)) (now (lent .1 .1 .1 .1 .0)) (now (exit .1 .1 .1 .1 .0))
   parse-as-path-numbers-kept = numbers-kept _ _ (now (lent .1 .1 .1 .0)) (now (lent .1 .1 .1 .1 .0)) answer (call .0) _ (call .1 .1)
 
+-- a path that is merged, in its stores
+module _ (r : Reading Segment) (pairs numbers : List ℕ) (a : PathAnswer) (e : a ≡ mergeAnswer r (length pairs) (length numbers)) (after : List ℕ) where
+  merged-pairs-kept : after ≡ mergedPairs r pairs (length numbers) → Kept (pathMeaning a) (2 * valueIn 0 (pathMeaning a)) pairs after
+  merged-pairs-kept f = let alike = as-read r pairs numbers in pairs-kept [] r pairs numbers a (e ∙ alike .0) after (f ∙ alike .1 .0)
+
+  merged-numbers-kept : after ≡ mergedNumbers r (length pairs) numbers → Kept (pathMeaning a) (valueIn 1 (pathMeaning a)) numbers after
+  merged-numbers-kept f = let alike = as-read r pairs numbers in numbers-kept [] r pairs numbers a (e ∙ alike .0) after (f ∙ alike .1 .1)
+
+module _ (κs : _) (lent : _) (answer : _) (exit : _) (call : «merge_as_path».Learnt κs lent answer exit) where
+  pub merge-as-path-pairs-kept : Kept (pathMeaning answer) (2 * valueIn 0 (pathMeaning answer)) (now (lent .1 .1 .1 .1 .0)) (now (exit .1 .1 .1 .1 .0))
+  merge-as-path-pairs-kept = merged-pairs-kept _ (now (lent .1 .1 .1 .1 .0)) (now (lent .1 .1 .1 .1 .1 .0)) answer (call .0) _ (call .1 .0)
+
+  pub merge-as-path-numbers-kept : Kept (pathMeaning answer) (valueIn 1 (pathMeaning answer)) (now (lent .1 .1 .1 .1 .1 .0)) (now (exit .1 .1 .1 .1 .1 .0))
+  merge-as-path-numbers-kept = merged-numbers-kept _ (now (lent .1 .1 .1 .1 .0)) (now (lent .1 .1 .1 .1 .1 .0)) answer (call .0) _ (call .1 .1)
+
+-- the numbers at the front of a segment, in a store: it is as long as it was, and as it was past them
+module _ (κs : _) (lent : _) (answer : _) (exit : _) (call : read_asns.Learnt κs lent answer exit) where
+  pub read-asns-past : drop (lent .1 .0) (now (exit .1 .1 .1 .0)) ≡ drop (lent .1 .0) (now (lent .1 .1 .1 .0))
+  read-asns-past = ap (drop (lent .1 .0)) call ∙ asns-past (widthOf (lent .1 .1 .0)) (now (lent .0)) (lent .1 .0) (now (lent .1 .1 .1 .0))
+
 -- a section that was counted, in a store
 section-kept : (s : List ℕ) (r : Reading Row) (a : ListAnswer) (before after : List ℕ) → countAnswer s r ≡ a → after ≡ filled (listMeaning a) (flat words (r .rows)) before
     → Kept (listMeaning a) (6 * rowsIn a) before after
@@ -343,6 +369,15 @@ module _ (κs : _) (lent : _) (word : _) (exit : _) (call : «c_parse_as_path».
 
   pub c-parse-as-path-numbers-kept : WordKept word (valueIn 1) (now (lent .1 .1 .1 .0)) (now (exit .1 .1 .1 .0))
   c-parse-as-path-numbers-kept = word-kept word _ (valueIn 1) _ _ (call .0) (numbers-kept _ _ (now (lent .1 .1 .0)) (now (lent .1 .1 .1 .0)) _ refl _ (call .1 .1))
+
+module _ (κs : _) (lent : _) (word : _) (exit : _) (call : «c_merge_as_path».Learnt κs lent word exit) where
+  pub c-merge-as-path-pairs-kept : WordKept word (λ a. 2 * valueIn 0 a) (now (lent .1 .1 .1 .1 .0)) (now (exit .1 .1 .1 .1 .0))
+  c-merge-as-path-pairs-kept =
+      word-kept word _ (λ a. 2 * valueIn 0 a) _ _ (call .0) (merged-pairs-kept _ (now (lent .1 .1 .1 .1 .0)) (now (lent .1 .1 .1 .1 .1 .0)) _ refl _ (call .1 .0))
+
+  pub c-merge-as-path-numbers-kept : WordKept word (valueIn 1) (now (lent .1 .1 .1 .1 .1 .0)) (now (exit .1 .1 .1 .1 .1 .0))
+  c-merge-as-path-numbers-kept =
+      word-kept word _ (valueIn 1) _ _ (call .0) (merged-numbers-kept _ (now (lent .1 .1 .1 .1 .0)) (now (lent .1 .1 .1 .1 .1 .0)) _ refl _ (call .1 .1))
 
 module _ (κs : _) (lent : _) (word : _) (exit : _) where
   pub c-encode-as-path-kept : «c_encode_as_path».Learnt κs lent word exit → WordKept word (valueIn 0) (now (lent .1 .1 .1 .0)) (now (exit .1 .1 .1 .0))
