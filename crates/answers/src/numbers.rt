@@ -1,5 +1,6 @@
 // What a call answered, as the numbers of its line: a refusal number or 0, then the call's own, which are 0 where it refused.
 use crate::store;
+use as4::StandingAnswer;
 use asns::AggregatorAnswer;
 use attributes::AttributeAnswer;
 use messages::MessageAnswer;
@@ -89,6 +90,52 @@ pub fn of_aggregator(a: AggregatorAnswer) -> Numbers {
             ],
         },
         AggregatorAnswer::Refused(n) => refused(n, 4),
+    }
+}
+
+fn standing_refusal(a: StandingAnswer) -> usize {
+    match a {
+        StandingAnswer::Aggregator => 0,
+        StandingAnswer::As4Aggregator => 0,
+        StandingAnswer::Refused(n) => n as usize,
+    }
+}
+
+// 1 or 2, which of two AGGREGATORs stands, and 0 where they are refused.
+fn standing(a: StandingAnswer) -> usize {
+    match a {
+        StandingAnswer::Aggregator => 1,
+        StandingAnswer::As4Aggregator => 2,
+        StandingAnswer::Refused(_) => 0,
+    }
+}
+
+// The AGGREGATOR that stands, with the length and the sum of its value, which is empty where they are refused.
+pub fn of_standing(a: StandingAnswer, value: &[u8]) -> Numbers {
+    Numbers {
+        count: 4,
+        values: [
+            standing_refusal(a),
+            standing(a),
+            value.len(),
+            store::sum_of_bytes(value),
+            0,
+            0,
+            0,
+            0,
+            0,
+        ],
+    }
+}
+
+// The path of an AS_PATH and an AS4_PATH, after which AGGREGATOR stands.
+pub fn of_merged(a: StandingAnswer, path: PathAnswer) -> Numbers {
+    match path {
+        PathAnswer::Path { segments, numbers } => Numbers {
+            count: 4,
+            values: [0, standing(a), segments, numbers, 0, 0, 0, 0, 0],
+        },
+        PathAnswer::Refused(n) => refused(n, 4),
     }
 }
 

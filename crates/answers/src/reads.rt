@@ -1,4 +1,4 @@
-// Ops 1 to 12, 18 and 19: the readers.
+// Ops 1 to 12 and 18 to 21: the readers.
 use crate::numbers;
 use crate::numbers::Numbers;
 use crate::request;
@@ -60,8 +60,16 @@ fn found(section: &[u8], kind: u8) -> Numbers {
     )
 }
 
-// The ops that lend no store, on part one; op 18 has a second.
-fn plain(h: Head, s: &[u8], two: &[u8]) -> Numbers {
+// Op 20, on parts of one lifetime: either may be handed back.
+fn standing<'a>(aggregator: &'a [u8], as4_aggregator: &'a [u8]) -> Numbers {
+    numbers::of_standing(
+        as4::which_aggregator(aggregator, as4_aggregator),
+        as4::standing_aggregator(aggregator, as4_aggregator),
+    )
+}
+
+// The ops that lend no store, on part one; ops 18 and 20 have a second.
+fn plain<'a>(h: Head, s: &'a [u8], two: &'a [u8]) -> Numbers {
     let op = h.op;
     let settings = h.settings;
     match op {
@@ -75,11 +83,12 @@ fn plain(h: Head, s: &[u8], two: &[u8]) -> Numbers {
         12 => parts(s),
         18 => attribute(s, two),
         19 => found(s, h.argument),
+        20 => standing(s, two),
         _ => counted(op, settings, s),
     }
 }
 
-// Ops 2 and 4, which lend one store, and ops 6 and 10, which lend two.
+// Ops 2 and 4, which lend one store, and ops 6 and 10, which lend two, on part one.
 fn stored(op: u8, settings: u8, s: &[u8], a: &mut [u32], b: &mut [u32]) -> Numbers {
     let mode = families::mode_of(settings);
     match op {
@@ -96,29 +105,46 @@ fn stored(op: u8, settings: u8, s: &[u8], a: &mut [u32], b: &mut [u32]) -> Numbe
     }
 }
 
+// Op 21, which lends two stores, on a whole record.
+fn merged(h: Head, s: &[u8], a: &mut [u32], b: &mut [u32]) -> Numbers {
+    let aggregator = request::aggregator(s, h);
+    let as4_aggregator = request::as4_aggregator(s, h);
+    let path = as4::merge_as_path(
+        request::part_one(s, h),
+        request::part_two(s, h),
+        aggregator,
+        as4_aggregator,
+        a,
+        b,
+    );
+    numbers::of_merged(as4::which_aggregator(aggregator, as4_aggregator), path)
+}
+
 // How many stores an op lends.
 pub fn stores_lent(op: u8) -> u8 {
     match op {
         2 | 4 => 1,
-        6 | 10 => 2,
+        6 | 10 | 21 => 2,
         _ => 0,
     }
 }
 
 // The call, on the places of each store that are lent.
-fn into_stores(op: u8, settings: u8, s: &[u8], a: &mut [u32], b: &mut [u32]) -> Numbers {
+fn into_stores(h: Head, s: &[u8], a: &mut [u32], b: &mut [u32]) -> Numbers {
     store::fill_words(a);
     store::fill_words(b);
-    stored(op, settings, s, a, b)
+    if h.op == 21 {
+        return merged(h, s, a, b);
+    }
+    stored(h.op, h.settings, request::part_one(s, h), a, b)
 }
 
 // The refusal and the numbers of a reader; what it left stands in the stores.
 pub fn answer(h: Head, s: &[u8], a: &mut [u32], b: &mut [u32]) -> Numbers {
-    let one = request::part_one(s, h);
     if stores_lent(h.op) == 0 {
-        return plain(h, one, request::part_two(s, h));
+        return plain(h, request::part_one(s, h), request::part_two(s, h));
     }
     let m = wire::least(h.room_a, a.len());
     let n = wire::least(h.room_b, b.len());
-    into_stores(h.op, h.settings, one, &mut a[..m], &mut b[..n])
+    into_stores(h, s, &mut a[..m], &mut b[..n])
 }

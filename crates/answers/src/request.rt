@@ -12,7 +12,7 @@ pub const HEAD_SIZE: usize = 18;
 pub const ROOM_LIMIT: usize = 400000;
 
 // The last op; the first is 1.
-const LAST_OP: u8 = 19;
+const LAST_OP: u8 = 21;
 
 // The largest settings byte.
 const SETTINGS_LIMIT: u8 = 63;
@@ -75,8 +75,8 @@ fn whole(size: usize) -> bool {
     size % 4 == 0
 }
 
-// Whether the parts that hold numbers are whole numbers, and as many as an op takes.
-fn numbers_whole(h: Head) -> bool {
+// Whether the parts that hold numbers are whole numbers, and as many as an op takes, and the third of op 21 is no shorter than its argument says.
+fn parts_given(h: Head) -> bool {
     let op = h.op;
     match op {
         13 => whole(h.one),
@@ -84,6 +84,7 @@ fn numbers_whole(h: Head) -> bool {
         15 => h.one == 8,
         17 => whole(wire::most(h.one % 4, h.three % 4)),
         18 => h.two == 4,
+        21 => h.argument as usize <= h.three,
         _ => true,
     }
 }
@@ -108,7 +109,7 @@ fn is_given(h: Head) -> bool {
     if ROOM_LIMIT < largest(h) {
         return false;
     }
-    numbers_whole(h)
+    parts_given(h)
 }
 
 // The record at the front of s; ended says that no byte follows s.
@@ -145,12 +146,26 @@ pub fn part_two(s: &[u8], h: Head) -> &[u8] {
     wire::part(s, plus(HEAD_SIZE, h.one), h.two)
 }
 
+fn part_three(s: &[u8], h: Head) -> &[u8] {
+    wire::part(s, plus(plus(HEAD_SIZE, h.one), h.two), h.three)
+}
+
 // The second part that holds numbers, where an op has two such: the third of op 17, and else the second.
 pub fn last_part(s: &[u8], h: Head) -> &[u8] {
     if h.op == 17 {
-        return wire::part(s, plus(plus(HEAD_SIZE, h.one), h.two), h.three);
+        return part_three(s, h);
     }
     part_two(s, h)
+}
+
+// The third part of op 21: an AGGREGATOR as long as the argument says, and then an AS4_AGGREGATOR.
+pub fn aggregator(s: &[u8], h: Head) -> &[u8] {
+    wire::part(part_three(s, h), 0, h.argument as usize)
+}
+
+pub fn as4_aggregator(s: &[u8], h: Head) -> &[u8] {
+    let start = h.argument as usize;
+    wire::part(part_three(s, h), start, minus(h.three, start))
 }
 
 // Settings, a sum: 1 Add-Path and 2 guess, which `families::mode_of` reads; 4 IPv6, 8 AS numbers of four bytes, 16 strict, 32 RFC 8654.

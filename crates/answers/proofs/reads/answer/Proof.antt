@@ -3,11 +3,11 @@ use borrow.Author.Needs.{needs}
 use Rattle.answers.proofs.reads.answer.Statement.{statement}
 use Rattle.answers.proofs.reads.answer.Tie as tie
 
-part-one-requires : tie.Need-part-one-requires
-part-one-requires c κs = search needs
-
 stores-lent-requires : tie.Need-stores-lent-requires
 stores-lent-requires c κs = search needs
+
+part-one-requires : tie.Need-part-one-requires
+part-one-requires c κs = search needs
 
 part-two-requires : tie.Need-part-two-requires
 part-two-requires c κs = search needs
@@ -52,8 +52,8 @@ pub answer-spec : {M : Type 1} → statement M
 answer-spec =
     tie.close
     (tie.spec
-    part-one-requires
     stores-lent-requires
+    part-one-requires
     part-two-requires
     plain-requires
     returns
