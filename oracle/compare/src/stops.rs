@@ -28,9 +28,10 @@ pub fn short_record() -> Vec<u8> {
 /// Runs that end in a stop: the bytes after one good record.
 fn bad_records() -> Vec<Vec<u8>> {
     let with_numbers = |op, parts| record(request(op, 0, (9, 0), parts, 0));
+    let with_argument = |argument, part_3| record(request(21, 0, (9, 9), [vec![], vec![], vec![0; part_3]], argument));
     let mut bad = vec![
         record(on_bytes(0, 0, (0, 0), &[])),
-        record(on_bytes(20, 0, (0, 0), &[])),
+        record(on_bytes(22, 0, (0, 0), &[])),
         record(on_bytes(255, 0, (0, 0), &[])),
         record(on_bytes(3, 64, (0, 0), &[])),
         record(on_bytes(9, 128, (0, 0), &[])),
@@ -50,6 +51,9 @@ fn bad_records() -> Vec<Vec<u8>> {
         with_numbers(18, [vec![], vec![0; 3], vec![]]),
         with_numbers(18, [vec![], vec![0; 5], vec![]]),
         with_numbers(18, [vec![], vec![0; 8], vec![]]),
+        with_argument(1, 0),
+        with_argument(7, 6),
+        with_argument(255, 254),
         record(on_bytes(3, 0, (0, 0), &vec![0; 400_001])),
         record(request(3, 0, (0, 0), [vec![], vec![0; 400_001], vec![]], 0)),
         record(request(3, 0, (0, 0), [vec![], vec![], vec![0; 400_001]], 0)),

@@ -1,5 +1,6 @@
 //! Where the crate and document 01 part on purpose, each with its smallest input, as docs/DIFFERENCES.md lists them.
 
+use super::paths::segment_type;
 use super::private::{Inside, PrivateCalls};
 use super::warnings;
 use crate::error::{BgpValidationWarning, EncodingError, ParserError};
@@ -53,6 +54,19 @@ pub const ALL: &[(&str, fn())] = &[
         "an_aggregator_with_a_16_byte_address_is_written_and_then_refused",
         an_aggregator_with_a_16_byte_address_is_written_and_then_refused,
     ),
+    ("of_two_aggregators_the_last_is_handed_back", of_two_aggregators_the_last_is_handed_back),
+    ("an_as4_aggregator_alone_is_handed_back", an_as4_aggregator_alone_is_handed_back),
+    ("a_refused_aggregator_is_passed_over", a_refused_aggregator_is_passed_over),
+    ("either_aggregator_may_have_the_length_of_the_other", either_aggregator_may_have_the_length_of_the_other),
+    ("the_aggregators_do_not_ignore_as4_path", the_aggregators_do_not_ignore_as4_path),
+    ("sequences_of_a_merged_path_are_joined", sequences_of_a_merged_path_are_joined),
+    ("a_joined_sequence_may_be_too_long_to_write", a_joined_sequence_may_be_too_long_to_write),
+    ("an_empty_sequence_beside_another_segment_is_dropped", an_empty_sequence_beside_another_segment_is_dropped),
+    ("confederation_segments_of_as4_path_are_kept", confederation_segments_of_as4_path_are_kept),
+    ("confederation_segments_after_the_leading_ones_are_left", confederation_segments_after_the_leading_ones_are_left),
+    ("an_empty_as4_path_is_built_upon", an_empty_as4_path_is_built_upon),
+    ("a_refused_path_is_passed_over", a_refused_path_is_passed_over),
+    ("a_set_counts_one_in_a_merge", a_set_counts_one_in_a_merge),
 ];
 
 /// A message with an all-FF marker.
@@ -259,4 +273,129 @@ fn an_aggregator_with_a_16_byte_address_is_written_and_then_refused() {
         assert_eq!(written.len(), length);
         assert!(Inside::parse_aggregator(written, &width).is_err());
     }
+}
+
+/// An AGGREGATOR (7) or AS4_AGGREGATOR (18) of the address 0.0.0.0, by the bytes of its number.
+fn aggregator(kind: u8, number: &[u8]) -> Vec<u8> {
+    [&[0xC0, kind, number.len() as u8 + 4], number, &[0; 4]].concat()
+}
+
+/// The AS number of the AGGREGATOR that the crate hands back.
+fn standing(section: &[u8]) -> Option<u32> {
+    read_section(section).0.unwrap().aggregator().map(|(asn, _)| asn.to_u32())
+}
+
+/// The order in the section decides, and not the number: 23456 (`5B A0`) or any other.
+fn of_two_aggregators_the_last_is_handed_back() {
+    for old in [[0x5B, 0xA0], [0, 1]] {
+        let (old, new) = (aggregator(7, &old), aggregator(18, &[0, 1, 0x11, 0x70]));
+        assert_eq!(standing(&[&old[..], &new].concat()), Some(70_000));
+        assert_ne!(standing(&[&new[..], &old].concat()), Some(70_000));
+    }
+}
+
+fn an_as4_aggregator_alone_is_handed_back() {
+    assert_eq!(standing(&aggregator(18, &[0; 4])), Some(0));
+}
+
+/// An empty one too, which is no absent one.
+fn a_refused_aggregator_is_passed_over() {
+    for (refused, other) in [(7, aggregator(18, &[0; 4])), (18, aggregator(7, &[0; 2]))] {
+        for size in [0, 1, 7, 9] {
+            let value = [&[0xC0, refused, size][..], &[0; 9][..usize::from(size)]].concat();
+            let attributes = read_section(&[value, other.clone()].concat()).0.unwrap();
+            assert!(attributes.has_validation_warnings() && attributes.aggregator().is_some());
+        }
+    }
+}
+
+fn either_aggregator_may_have_the_length_of_the_other() {
+    for section in [aggregator(7, &[0; 4]), aggregator(18, &[0; 2])] {
+        let (attributes, warned) = read_section(&section);
+        assert!(attributes.unwrap().aggregator().is_some());
+        assert_eq!(warned.len(), 1, "a logged warning");
+    }
+}
+
+/// A path's segments: types and numbers.
+type Segments = Vec<(u32, Vec<u32>)>;
+
+/// The path that the crate makes of a section with an AS_PATH, an AS4_PATH and more.
+fn effective(old: &[u8], new: &[u8], more: &[u8]) -> Segments {
+    let attribute = |kind, value: &[u8]| [&[0xC0, kind, value.len() as u8], value].concat();
+    let section = [&attribute(2, old)[..], &attribute(17, new), more].concat();
+    let path = read_section(&section).0.unwrap().effective_as_path().expect("a path");
+    let numbers = |segment: &AsPathSegment| segment.iter().map(|asn| asn.to_u32()).collect();
+    path.segments.iter().map(|segment| (segment_type(segment), numbers(segment))).collect()
+}
+
+fn merged(old: &[u8], new: &[u8]) -> Segments {
+    effective(old, new, &[])
+}
+
+fn the_aggregators_do_not_ignore_as4_path() {
+    let first_stands = [aggregator(7, &[0, 1]), aggregator(18, &[0; 4])].concat();
+    assert_eq!(effective(&[], &[2, 0], &first_stands), [(2, vec![])]);
+    assert_eq!(effective(&[2, 1, 0, 1], &[2, 1, 0, 0, 0, 7], &first_stands), [(2, vec![7])]);
+}
+
+/// Where a path is built, also those of AS4_PATH or of AS_PATH alone, and confederation sequences.
+fn sequences_of_a_merged_path_are_joined() {
+    assert_eq!(merged(&[2, 2, 0, 1, 0, 2], &[2, 1, 0, 0, 0, 7]), [(2, vec![1, 7])]);
+    assert_eq!(merged(&[2, 2, 0, 7, 0, 7], &[2, 1, 0, 0, 0, 7]), [(2, vec![7, 7])], "a number may come again");
+    let confederations = [3, 1, 0, 5, 3, 1, 0, 6, 1, 0, 1, 0];
+    assert_eq!(merged(&confederations, &[1, 0]), [(3, vec![5, 6]), (1, vec![]), (1, vec![])]);
+    assert_eq!(merged(&[2, 1, 0, 1, 2, 0], &[1, 0, 1, 0]).len(), 2, "AS_PATH alone, as it counts fewer");
+}
+
+fn a_joined_sequence_may_be_too_long_to_write() {
+    let sequence = |count: usize| AsPathSegment::sequence(vec![1; count]);
+    let old = AsPath::from_segments(vec![sequence(255), sequence(1)]);
+    let path = AsPath::merge_aspath_as4path(&old, &AsPath::from_segments(vec![sequence(1)]));
+    assert_eq!((path.len(), path.segments[0].len()), (1, 256));
+    let attribute = Attribute { value: AttributeValue::AsPath(path), flag: AttrFlags::TRANSITIVE };
+    assert!(attribute.encode(AsnLength::Bits32).is_err());
+}
+
+fn an_empty_sequence_beside_another_segment_is_dropped() {
+    assert_eq!(merged(&[], &[2, 0, 2, 0]), [(2, vec![])]);
+    assert_eq!(merged(&[1, 0], &[2, 0, 1, 0]), [(1, vec![])]);
+    assert_eq!(merged(&[1, 0], &[1, 0, 2, 0]), [(1, vec![])]);
+    assert_eq!(merged(&[], &[2, 0]), [(2, vec![])], "but not one alone");
+}
+
+fn confederation_segments_of_as4_path_are_kept() {
+    assert_eq!(merged(&[1, 0], &[1, 0, 4, 0]), [(1, vec![]), (4, vec![])]);
+    assert_eq!(merged(&[], &[3, 0]), [(3, vec![])]);
+}
+
+/// Also where there is nothing to make up, so that none is leading.
+fn confederation_segments_after_the_leading_ones_are_left() {
+    assert_eq!(merged(&[3, 0], &[2, 0]), [(2, vec![])]);
+    assert_eq!(merged(&[1, 0, 3, 0, 1, 0], &[1, 0]), [(1, vec![]), (1, vec![])]);
+    assert_eq!(merged(&[3, 1, 0, 5, 1, 0, 1, 0], &[1, 0]).len(), 3, "on the way it is taken");
+}
+
+/// Where the attribute is there: what stands after the last number of AS_PATH is lost, and sequences are joined. Where it is not, AS_PATH
+/// stands as it is.
+fn an_empty_as4_path_is_built_upon() {
+    assert_eq!(merged(&[2, 0], &[]), []);
+    assert_eq!(merged(&[1, 0, 4, 0], &[]), [(1, vec![])]);
+    let alone = read_section(&[0x40, 2, 4, 2, 0, 2, 0]).0.unwrap();
+    assert_eq!(alone.effective_as_path().unwrap().segments.len(), 2);
+}
+
+/// A malformed AS4_PATH leaves AS_PATH; a malformed AS_PATH, or one that is absent, leaves AS4_PATH.
+fn a_refused_path_is_passed_over() {
+    assert_eq!(merged(&[1, 0], &[2]), [(1, vec![])]);
+    assert_eq!(merged(&[2], &[1, 0]), [(1, vec![])]);
+    let absent = read_section(&[0xC0, 17, 2, 1, 0]).0.unwrap();
+    assert_eq!(absent.effective_as_path().unwrap().segments.len(), 1);
+}
+
+/// An empty one too.
+fn a_set_counts_one_in_a_merge() {
+    assert_eq!(merged(&[1, 0], &[2, 2, 0, 0, 0, 7, 0, 0, 0, 8]), [(1, vec![])], "one is fewer than two");
+    assert_eq!(merged(&[1, 2, 0, 1, 0, 2], &[2, 1, 0, 0, 0, 7]), [(2, vec![7])], "one is as many as one");
+    assert_eq!(merged(&[2, 1, 0, 1], &[1, 0]), [(1, vec![])]);
 }

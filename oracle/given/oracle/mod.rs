@@ -1,6 +1,7 @@
 //! The crate's own calls behind the request records. What the crate has no call for is not answered (`None`).
 //! Around the crate's result stand only what document 01 and the requests add by design: refusals 1, 11 and 15, and the stores.
 
+pub mod as4;
 pub mod attributes;
 pub mod facts;
 pub mod messages;
@@ -65,6 +66,8 @@ fn call(request: &Request) -> Outcome {
         17 => messages::write_update(request),
         18 => attributes::at(request),
         19 => attributes::first_of(request),
+        20 => as4::aggregator(request),
+        21 => as4::path(request),
         _ => Outcome::NoCounterpart,
     }
 }

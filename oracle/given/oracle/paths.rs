@@ -13,7 +13,7 @@ use std::net::Ipv4Addr;
 const ATTRIBUTE_HEAD: usize = 4;
 
 /// Types are document 01's numbers, which are the crate's constants.
-fn segment_type(segment: &AsPathSegment) -> u32 {
+pub fn segment_type(segment: &AsPathSegment) -> u32 {
     match segment {
         AsPathSegment::AsSet(_) => 1,
         AsPathSegment::AsSequence(_) => 2,
@@ -22,7 +22,7 @@ fn segment_type(segment: &AsPathSegment) -> u32 {
     }
 }
 
-fn segment(kind: u32, numbers: &[u32]) -> Option<AsPathSegment> {
+pub fn segment(kind: u32, numbers: &[u32]) -> Option<AsPathSegment> {
     let asns = numbers.iter().map(|number| Asn::new_32bit(*number)).collect();
     match kind {
         1 => Some(AsPathSegment::AsSet(asns)),
@@ -39,6 +39,12 @@ pub fn as_path(request: &Request) -> Outcome {
         Ok(path) => path,
         Err(error) => return Outcome::Refused(reader_refusal(&error)),
     };
+    let (counts, stores) = contents(&path);
+    Outcome::Done(counts, if request.op == 6 { stores } else { vec![] })
+}
+
+/// How many segments and numbers a path has, and its pairs and numbers.
+pub fn contents(path: &AsPath) -> (Vec<u64>, Vec<Contents>) {
     let mut pairs = vec![];
     let mut numbers = vec![];
     for segment in &path.segments {
@@ -46,8 +52,7 @@ pub fn as_path(request: &Request) -> Outcome {
         numbers.extend(segment.iter().map(|asn| asn.to_u32()));
     }
     let counts = vec![path.segments.len() as u64, numbers.len() as u64];
-    let stores = if request.op == 6 { vec![Contents::Numbers(pairs), Contents::Numbers(numbers)] } else { vec![] };
-    Outcome::Done(counts, stores)
+    (counts, vec![Contents::Numbers(pairs), Contents::Numbers(numbers)])
 }
 
 /// Op 8: the value as the only attribute of a section.

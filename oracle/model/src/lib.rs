@@ -1,6 +1,7 @@
 //! A model of every call, written from document 01, the requests after it and the RFCs they name, and from no other code.
 //! Each function follows the order of checks of its section.
 
+mod as4;
 mod attributes;
 mod headers;
 mod paths;
@@ -61,6 +62,8 @@ fn call(request: &Request) -> Done {
         }
         18 => attribute_at(request, bytes),
         19 => first_attribute(request, bytes),
+        20 => standing_aggregator(bytes, &request.parts[1]),
+        21 => joined_path(request),
         _ => unreachable!("records gives the ops up to LAST_OP"),
     }
 }
@@ -220,6 +223,22 @@ fn first_attribute(request: &Request, section: &[u8]) -> Done {
 
 fn found_or_zeros(request: &Request, numbers: Option<Vec<u64>>) -> Done {
     Ok((numbers.unwrap_or_else(|| vec![0; numbers_of(request.op)]), vec![]))
+}
+
+/// 1 or 2, the AGGREGATOR that stands, and its length and sum.
+fn standing_aggregator(aggregator: &[u8], as4_aggregator: &[u8]) -> Done {
+    let standing = as4::standing(aggregator, as4_aggregator)?.number();
+    let value = if standing == 1 { aggregator } else { as4_aggregator };
+    Ok((vec![standing, value.len() as u64, sum_bytes(value)], vec![]))
+}
+
+/// The path of two into the stores, after which AGGREGATOR stands. Part 3 is both of them, the first as long as the argument says.
+fn joined_path(request: &Request) -> Done {
+    let (aggregator, as4_aggregator) = request.parts[2].split_at(usize::from(request.argument));
+    let standing = as4::standing(aggregator, as4_aggregator)?;
+    let path = as4::path(&request.parts[0], &request.parts[1], standing)?;
+    let (counts, lent) = stored_path(request, path)?;
+    Ok(([vec![standing.number()], counts].concat(), lent))
 }
 
 /// Bytes into the output: for a list or a value 1 first if they are too many, then 11 if there is no room.

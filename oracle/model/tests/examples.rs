@@ -271,6 +271,88 @@ fn attributes_by_type() {
     assert_eq!(searched(&[hex("80 0E 00 80 0E 00"), vec![0; 65_530]].concat(), 0), "1 0 0 0 0 0");
 }
 
+/// What two AGGREGATORs come to.
+fn standing(old: &str, new: &str) -> String {
+    told_of(Request { op: 20, parts: [hex(old), hex(new), vec![]], ..Request::default() })
+}
+
+#[test]
+fn aggregators_side_by_side() {
+    let (trans, other, new) = ("5B A0 00 00 00 00", "FD E9 00 00 00 00", "00 01 11 70 00 00 00 00");
+    assert_eq!(standing("", ""), "0 1 0 0");
+    for old in [trans, other] {
+        assert!(standing(old, "").starts_with("0 1 6 "), "the second is absent");
+    }
+    assert_eq!(standing("", new), "0 1 0 0", "the first is absent, and handed back");
+    assert!(standing(trans, new).starts_with("0 2 8 "));
+    assert!(standing(other, new).starts_with("0 1 6 "));
+    assert!(standing(other, "00 00 5B A0 00 00 00 00").starts_with("0 1 6 "), "the second's number is not looked at");
+    for (old, new) in [("5B", ""), (new, ""), ("", trans), (trans, "00"), (other, other), (new, new)] {
+        assert_eq!(standing(old, new), "10 0 0 0");
+    }
+}
+
+/// AGGREGATORs of which the first stands.
+const FIRST_STANDS: &str = "FD E9 00 00 00 00 00 01 11 70 00 00 00 00";
+
+/// Refusal and segments of the path of two, with so many places of each store. Of the AGGREGATORs the first has six bytes at most.
+fn joined_in(old: &str, new: &str, aggregators: &str, rooms: (usize, usize)) -> (u32, Vec<(u32, Vec<u32>)>) {
+    let parts = [hex(old), hex(new), hex(aggregators)];
+    let argument = parts[2].len().min(6) as u8;
+    let asked = Request { op: 21, room_a: rooms.0, room_b: rooms.1, parts, argument, ..Request::default() };
+    let answer = model::answer(&asked);
+    let [records::Lent::Numbers(pairs), records::Lent::Numbers(numbers)] = &answer.lent[..] else { panic!("stores") };
+    let mut numbers = numbers.iter().copied();
+    let pairs = pairs.chunks_exact(2).take(answer.numbers[1] as usize);
+    (answer.refusal, pairs.map(|pair| (pair[0], numbers.by_ref().take(pair[1] as usize).collect())).collect())
+}
+
+/// The path of two, with room and without AGGREGATORs.
+fn joined(old: &str, new: &str) -> Vec<(u32, Vec<u32>)> {
+    let (refusal, path) = joined_in(old, new, "", (40, 40));
+    assert_eq!(refusal, 0);
+    path
+}
+
+#[test]
+fn paths_side_by_side() {
+    let example = ("02 03 FD E9 5B A0 5B A0", "02 02 00 01 11 70 00 01 11 71");
+    assert_eq!(joined(example.0, example.1), [(2, vec![65_001]), (2, vec![70_000, 70_001])]);
+    let ignored = joined_in(example.0, example.1, FIRST_STANDS, (2, 3));
+    assert_eq!(ignored, (0, vec![(2, vec![65_001, 23_456, 23_456])]));
+    let seven = "02 01 00 00 00 07";
+    let path = |old| joined(old, seven);
+    assert_eq!(path("02 01 00 01"), [(2, vec![7])], "as many");
+    assert_eq!(path(""), [], "one fewer");
+    assert_eq!(path("01 00"), [(2, vec![7])], "an empty set counts one");
+    assert_eq!(path("03 00 02 01 00 01"), [(3, vec![]), (2, vec![7])], "nothing to make up");
+    assert_eq!(path("02 01 00 01 04 00 02 01 00 02"), [(2, vec![1]), (4, vec![]), (2, vec![7])], "nothing left");
+    assert_eq!(path("02 02 00 01 00 02 03 00"), [(2, vec![1]), (2, vec![7])], "after a split");
+    assert_eq!(path("02 00 02 01 00 01"), [(2, vec![7])], "an empty sequence is another segment");
+    assert_eq!(path("02 00 02 02 00 01 00 02"), [(2, vec![]), (2, vec![1]), (2, vec![7])], "or on the way");
+    assert_eq!(path("01 02 00 01 00 02 02 01 00 03"), [(1, vec![1, 2]), (2, vec![7])], "a set is never split");
+    assert_eq!(joined("02 00", ""), [(2, vec![])], "AS4_PATH is empty");
+    assert_eq!(joined("02 00", "03 00"), [(2, vec![])], "or nothing is left of it");
+    assert_eq!(joined("02 00", "02 00 02 00"), [(2, vec![]), (2, vec![])], "an empty sequence is something");
+}
+
+#[test]
+fn orders_side_by_side() {
+    let (old, new) = ("02 02 00 01 00 02", "02 01 00 01 11 70");
+    let refusal =
+        |old: &str, new: &str, aggregators: &str, rooms: (usize, usize)| joined_in(old, new, aggregators, rooms).0;
+    assert_eq!(refusal("05", "05 00", "FD E9", (0, 0)), 10);
+    assert_eq!(refusal("05 00", "05", "", (0, 0)), 9, "AS_PATH first");
+    assert_eq!(refusal("05", "05 00", "", (0, 0)), 2);
+    for aggregators in ["", FIRST_STANDS] {
+        assert_eq!(refusal(old, "05 00", aggregators, (0, 0)), 9, "then AS4_PATH, ignored or not");
+        assert_eq!(refusal(old, "05", aggregators, (0, 0)), 2);
+        assert_eq!(refusal(old, &"02 00 ".repeat(32_768), aggregators, (0, 0)), 1);
+    }
+    assert_eq!([(4, 2), (3, 2), (4, 1)].map(|rooms| refusal(old, new, "", rooms)), [0, 11, 11]);
+    assert_eq!([(2, 2), (1, 2), (2, 1)].map(|rooms| refusal(old, new, FIRST_STANDS, rooms)), [0, 11, 11]);
+}
+
 #[test]
 fn the_format_page() {
     let request = Request { op: 3, parts: [hex("20 0A 00 00 01"), vec![], vec![]], ..Request::default() };

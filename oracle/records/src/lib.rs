@@ -19,7 +19,7 @@ pub const EXTENDED: u8 = 32;
 pub const LAST_SETTINGS: u8 = 63;
 
 /// Ops are numbered from 1 up to this one.
-pub const LAST_OP: u8 = 19;
+pub const LAST_OP: u8 = 21;
 
 /// The most places of a room and bytes of a part.
 pub const MOST: usize = 400_000;
@@ -64,15 +64,16 @@ impl Request {
     /// Whether the page gives this record; if not, it prints `stop`.
     fn is_given(&self) -> bool {
         let whole = |part: usize| self.parts[part].len() % 4 == 0;
-        let numbers_whole = match self.op {
+        let parts_given = match self.op {
             13 => whole(0),
             14 => whole(0) && whole(1),
             15 => self.parts[0].len() == 8,
             17 => whole(0) && whole(2),
             18 => self.parts[1].len() == 4,
+            21 => usize::from(self.argument) <= self.parts[2].len(),
             _ => true,
         };
-        (1..=LAST_OP).contains(&self.op) && self.settings <= LAST_SETTINGS && numbers_whole
+        (1..=LAST_OP).contains(&self.op) && self.settings <= LAST_SETTINGS && parts_given
     }
 }
 
@@ -197,7 +198,7 @@ pub fn numbers_of(op: u8) -> usize {
     match op {
         1 => 7,
         6 | 7 => 2,
-        8 => 3,
+        8 | 20 | 21 => 3,
         9 => 8,
         10 | 11 => 4,
         12 => 6,
@@ -211,7 +212,7 @@ pub fn numbers_of(op: u8) -> usize {
 pub fn lent_of(request: &Request) -> Vec<Lent> {
     match request.op {
         2 | 4 => vec![Lent::numbers(request.room_a)],
-        6 | 10 => vec![Lent::numbers(request.room_a), Lent::numbers(request.room_b)],
+        6 | 10 | 21 => vec![Lent::numbers(request.room_a), Lent::numbers(request.room_b)],
         13..=17 => vec![Lent::bytes(request.room_a)],
         _ => vec![],
     }

@@ -1,5 +1,6 @@
 //! Captured messages and the requests on them, each with its session's settings.
 
+use super::as4::{joined, standing};
 use super::attributes::{search, walk};
 use super::examples::{headers, on_bytes};
 use super::pieces::EXTENDED_LENGTH;
@@ -158,6 +159,9 @@ impl Capture {
             requests.extend(self.attribute_requests(attribute)?);
         }
         requests.extend(self.section_requests(section, &attributes));
+        if self.as_width == 2 {
+            requests.extend(self.old_and_new(&attributes));
+        }
         Some(requests)
     }
 
@@ -168,6 +172,20 @@ impl Capture {
         let walks = places.map(|place| walk(section, place as u32));
         let searches = kinds.into_iter().map(|kind| search(section, kind));
         walks.chain(searches).map(|request| Request { settings: self.settings(), ..request }).collect()
+    }
+
+    /// The AGGREGATOR that stands, and the path of AS_PATH and AS4_PATH; an attribute that is absent is empty. Nothing is asked about an
+    /// AGGREGATOR whose length is no argument.
+    fn old_and_new(&self, attributes: &[Attribute]) -> Vec<Request> {
+        let value =
+            |kind| attributes.iter().find(|attribute| attribute.kind == kind).map_or(&[][..], |found| found.value);
+        let paths = [ATTRIBUTE_AS_PATH, ATTRIBUTE_AS4_PATH].map(value);
+        let aggregators = [ATTRIBUTE_AGGREGATOR, ATTRIBUTE_AS4_AGGREGATOR].map(value);
+        if aggregators[0].len() > usize::from(u8::MAX) {
+            return vec![];
+        }
+        let asked = [standing(aggregators), joined(paths, aggregators, (64, 1_024))];
+        asked.map(|request| Request { settings: self.settings(), ..request }).to_vec()
     }
 
     fn attribute_requests(&self, attribute: &Attribute) -> Option<Vec<Request>> {

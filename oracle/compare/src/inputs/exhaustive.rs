@@ -1,6 +1,7 @@
 //! All short inputs: every byte string of at most two bytes, longer ones over the bytes where something changes,
 //! and all combinations of boundary values for headers, rows and written messages.
 
+use super::as4::{self, joined};
 use super::attributes::{search, walk};
 use super::examples::{self, on_bytes, request, words, PATH_SETTINGS};
 use records::{Request, ADD_PATH, FOUR_BYTE_AS, GUESS, IPV6};
@@ -15,9 +16,11 @@ impl Short {
                 .chain(written_messages())
                 .chain(written_rows())
                 .chain(aggregators())
+                .chain(malformed_pairs())
                 .chain(headers())
                 .chain(attributes())
                 .chain(updates())
+                .chain(pairs())
                 .chain(paths())
                 .chain(lists()),
         ))
@@ -96,6 +99,26 @@ fn updates() -> impl Iterator<Item = Request> {
 fn attributes() -> impl Iterator<Item = Request> {
     strings(&[0, 1, 14, 16], 0..=7)
         .flat_map(|section| [walk(&section, 0), walk(&section, 3), search(&section, 1), search(&section, 14)])
+}
+
+/// AS_PATH and AS4_PATH over no numbers, one, and good and bad types.
+fn malformed_pairs() -> impl Iterator<Item = Request> {
+    const ALPHABET: &[u8] = &[0, 1, 2, 5];
+    strings(ALPHABET, 0..=3)
+        .flat_map(|old| strings(ALPHABET, 0..=3).map(move |new| joined([&old, &new], as4::ABSENT, (6, 3))))
+}
+
+/// Every AS_PATH of up to three segments with every AS4_PATH of up to two: sets, sequences and confederation sequences of up to two numbers.
+fn pairs() -> impl Iterator<Item = Request> {
+    // a type and a count in each
+    const SEGMENTS: &[u8] = &[10, 11, 12, 20, 21, 22, 30, 31, 32];
+    let path = |forms: &[u8], width| {
+        let numbers = |count: u8| (1..=u32::from(count)).map(|number| 7 * number).collect();
+        as4::bytes(&forms.iter().map(|form| (form / 10, numbers(form % 10))).collect::<Vec<_>>(), width)
+    };
+    strings(SEGMENTS, 0..=3).flat_map(move |old| {
+        strings(SEGMENTS, 0..=2).map(move |new| joined([&path(&old, 2), &path(&new, 4)], as4::ABSENT, (10, 10)))
+    })
 }
 
 fn headers() -> impl Iterator<Item = Request> {

@@ -1,6 +1,7 @@
 //! Requests at each size limit, one under it and one over it. What is over a limit is malformed too, or has no room, so that
 //! the order of the two checks is seen.
 
+use super::as4::{joined, standing, ABSENT, FIRST_STANDS};
 use super::attributes::{search, walk};
 use super::examples::{on_bytes, request, words, HEADER_SETTINGS};
 use super::pieces;
@@ -20,6 +21,8 @@ pub fn all() -> Vec<Request> {
         values(),
         sections(),
         over_long_sections(),
+        joined_paths(),
+        long_joined_paths(),
     ]
     .concat()
 }
@@ -225,6 +228,39 @@ fn over_long_sections() -> Vec<Request> {
     let mut requests: Vec<Request> = [0, 65_533, 65_535, 65_536, u32::MAX].map(|place| walk(&whole, place)).to_vec();
     requests.extend([search(&whole, 200), search(&vec![0; 65_536], 0), search(&second, 0)]);
     requests
+}
+
+/// AS_PATH and AS4_PATH at 65,535 bytes, below and above; over the limit the first type is none. 10 before 1, and 1 of an AS4_PATH that is
+/// ignored. AGGREGATORs have no limit but their lengths.
+fn joined_paths() -> Vec<Request> {
+    let empty_segments = |size| {
+        let mut bytes: Vec<u8> = [2, 0].into_iter().cycle().take(size).collect();
+        bytes[0] = if size > 65_535 { 5 } else { 2 };
+        bytes
+    };
+    let old = |size, new: &[u8], aggregators| joined([&empty_segments(size), new], aggregators, (0, 0));
+    let new = |size, aggregators| joined([&[2, 0], &empty_segments(size)], aggregators, (65_534, 0));
+    vec![
+        old(65_534, &[], ABSENT),
+        old(65_535, &[5], ABSENT),
+        old(65_536, &[5], ABSENT),
+        old(65_536, &[5], [&[0; 7], &[]]),
+        new(65_534, ABSENT),
+        new(65_535, ABSENT),
+        new(65_536, ABSENT),
+        new(65_536, FIRST_STANDS),
+        standing([&vec![7; 65_536], &[]]),
+        standing([&[], &vec![7; 65_536]]),
+    ]
+}
+
+/// The longest paths: of the 32,639 numbers of AS_PATH 16,288 are leading, which are 63 full segments and 223 numbers of one that is split;
+/// then come the 16,351 of AS4_PATH in 65 segments. Just enough room, and a number too few.
+fn long_joined_paths() -> Vec<Request> {
+    let old = [[vec![2, 255], vec![1; 510]].concat().repeat(127), vec![2, 254], vec![1; 508]].concat();
+    let new = [[vec![2, 255], vec![3; 1_020]].concat().repeat(64), vec![2, 31], vec![3; 124]].concat();
+    let rooms = [(2 * (64 + 65), 32_639), (2 * (64 + 65), 32_638)];
+    rooms.map(|rooms| joined([&old, &new], ABSENT, rooms)).to_vec()
 }
 
 /// One or two attributes of a type that the crate keeps raw, so that the section has exactly this size.

@@ -1,6 +1,8 @@
 //! The inputs: examples of document 01, every least length, limit and order of two checks, captured messages, all short
 //! inputs, random ones around every boundary, damaged copies of good ones, and a few of the largest sizes.
 
+pub mod as4;
+pub mod as4_pairs;
 pub mod attributes;
 pub mod captures;
 pub mod checks;
@@ -16,7 +18,7 @@ use records::Request;
 
 /// Document 01's examples, and the numbers and orders of checks of it and of the requests: these stand in the sample too.
 pub fn numbers() -> Vec<Request> {
-    [examples::all(), checks::all(), attributes::all(), limits::all()].concat()
+    [examples::all(), checks::all(), attributes::all(), as4::all(), limits::all()].concat()
 }
 
 /// An endless source of requests, the same for the same seed and captures.

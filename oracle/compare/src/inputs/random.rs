@@ -1,5 +1,7 @@
 //! Random requests: good inputs, damaged ones, rooms just enough and just too small, and a few of the largest.
 
+use super::as4::{joined, standing};
+use super::as4_pairs::{self, AS_TRANS};
 use super::attributes::{search, walk};
 use super::examples::{on_bytes, words};
 use super::limits::raw_attribute;
@@ -25,7 +27,9 @@ pub fn request_of(rng: &mut Rng, op: u8, settings: u8) -> Request {
         16 => write_message(rng, settings),
         17 => write_update(rng, settings),
         18 => walked(rng, settings),
-        _ => searched(rng, settings),
+        19 => searched(rng, settings),
+        20 => standing_one(rng, settings),
+        _ => joined_paths(rng, settings),
     }
 }
 
@@ -321,6 +325,48 @@ fn searched(rng: &mut Rng, settings: u8) -> Request {
     request_on(19, settings, rng.under(9), parts, kind)
 }
 
+/// AGGREGATOR and AS4_AGGREGATOR: each mostly of its length or absent; the first has 23456 half the time.
+fn aggregators(rng: &mut Rng) -> [Vec<u8>; 2] {
+    let mut value = |length: usize| {
+        let size = match rng.under(24) {
+            0 => rng.under(12),
+            1..=7 => 0,
+            _ => length,
+        };
+        rng.bytes(size)
+    };
+    let [mut old, new] = [value(6), value(8)];
+    if old.len() > 1 && rng.one_in(2) {
+        old[..2].copy_from_slice(&AS_TRANS.to_be_bytes());
+    }
+    [old, new]
+}
+
+/// Its rooms, third part and argument are any, as nothing uses them.
+fn standing_one(rng: &mut Rng, settings: u8) -> Request {
+    let [old, new] = aggregators(rng);
+    let size = rng.under(4);
+    let parts = [old, new, rng.bytes(size)];
+    request_on(20, settings, rng.under(9), parts, rng.byte())
+}
+
+/// Paths that belong together, or any two, at times damaged.
+fn joined_paths(rng: &mut Rng, settings: u8) -> Request {
+    let mut pair = as4_pairs::pair(rng);
+    if rng.one_in(8) {
+        let segments = rng.under(4);
+        pair.new = pieces::path(rng, segments, 4);
+    }
+    match rng.under(10) {
+        0 => damage(rng, &mut pair.old),
+        1 => damage(rng, &mut pair.new),
+        _ => {}
+    }
+    let both = if rng.one_in(2) { aggregators(rng) } else { Default::default() };
+    let rooms = (room(rng, 2 * pair.segments), room(rng, pair.numbers));
+    Request { settings, ..joined([&pair.old, &pair.new], [&both[0], &both[1]], rooms) }
+}
+
 /// A request near the greatest size of its op.
 pub fn large(rng: &mut Rng, op: u8) -> Request {
     let settings = any_settings(rng);
@@ -356,8 +402,20 @@ fn large_to_read(rng: &mut Rng, op: u8, settings: u8, size: usize) -> Request {
             on_bytes(op, settings, (400_000, 400_000), &pieces::body(&withdrawn, &[], &announced))
         }
         18 => walk(&large_section(rng, size), rng.pick(&[0, 30_000, 65_000, size as u32 - 3, size as u32, u32::MAX])),
-        _ => search(&large_section(rng, size), rng.pick(&[14, 15, 200, 201])),
+        19 => search(&large_section(rng, size), rng.pick(&[14, 15, 200, 201])),
+        20 => standing([&vec![7; size], &[]]),
+        _ => large_joined(rng, size),
     }
+}
+
+/// Two paths of which one has this size, and the other at times one near it.
+fn large_joined(rng: &mut Rng, size: usize) -> Request {
+    let other = if rng.one_in(2) { rng.under(600) } else { rng.pick(&[40_000, 65_534, 65_535, 65_536]) };
+    let (old, new) = if rng.one_in(2) { (size, other) } else { (other, size) };
+    let paths = [large_path(rng, old, 2), large_path(rng, new, 4)];
+    let both = if rng.one_in(2) { aggregators(rng) } else { Default::default() };
+    let rooms = (rng.pick(&[140_000, 600]), rng.pick(&[60_000, 1_000]));
+    joined([&paths[0], &paths[1]], [&both[0], &both[1]], rooms)
 }
 
 fn large_to_write(rng: &mut Rng, op: u8, settings: u8, size: usize) -> Request {
