@@ -494,6 +494,146 @@ uint64_t plain_parse_aggregator(const uint8_t *value, size_t n, uint8_t four_byt
     return answer(2, (n == 8) != (four_bytes != 0), 0);
 }
 
+// ---- Old and new AS numbers side by side ----
+
+enum { SET = 1, SEQUENCE = 2, AS_TRANS = 23456, AT_ONCE = 8 };
+
+uint64_t plain_standing_aggregator(const uint8_t *aggregator, size_t n, const uint8_t *as4_aggregator, size_t m) {
+    (void)as4_aggregator;
+    if ((n && n != 6) || (m && m != 8)) return refused(BAD_AGGREGATOR);
+    return n && m && read2(aggregator) == AS_TRANS ? answer(0, m, 2) : answer(0, n, 1);
+}
+
+#define NUMBER (1ull << 16)
+#define HOP (1ull << 32)
+
+// A path is counted as in an answer, with its hops in the third field. What a segment of each type adds, and what each of
+// its numbers does, first without the segments of confederations and then with them: a table in place of branches.
+static const uint64_t for_segment[2][5] = {{0, 1 + HOP, 1, 0, 0}, {0, 1 + HOP, 1, 1, 1}};
+static const uint64_t for_number[2][5] = {{0, NUMBER, NUMBER + HOP, 0, 0}, {0, NUMBER, NUMBER + HOP, NUMBER, NUMBER}};
+
+INLINE uint64_t added_by(size_t kind, size_t count, bool confederations) {
+    return for_segment[confederations][kind] + count * for_number[confederations][kind];
+}
+
+INLINE size_t hops_of(uint64_t counted) { return counted >> 32; }
+
+// Judges a path as count_path does; its counts or the refusal.
+INLINE uint64_t count_hops(const uint8_t *s, size_t n, size_t width, bool confederations) {
+    if (n > MOST_BYTES) return refused(OVER_LONG);
+    size_t at = 0;
+    uint64_t counted = 0;
+    while (at + 1 < n) {
+        size_t kind = s[at], count = s[at + 1];
+        at += 2;
+        if (n - at < width * count) return refused(TOO_SHORT);
+        if (kind - 1 > 3) return refused(BAD_SEGMENT_TYPE);
+        at += width * count;
+        counted += added_by(kind, count, confederations);
+    }
+    return at == n ? counted : refused(TOO_SHORT);
+}
+
+// A merged path: its answer; the bytes and the counts of the whole segments that it has of AS_PATH; how many numbers it
+// has of the sequence after them; and whether AS4_PATH follows.
+typedef struct {
+    uint64_t counted, front;
+    size_t bytes, split;
+    bool has_as4_path;
+} merged;
+
+// Walks the front of a judged AS_PATH that makes up so many hops.
+INLINE void find_front(const uint8_t *s, size_t n, size_t missing, merged *path) {
+    size_t at = 0;
+    uint64_t front = 0;
+    while (at < n) {
+        size_t kind = s[at], count = s[at + 1];
+        uint64_t added = added_by(kind, count, true);
+        if (hops_of(added) > missing || (!missing && kind <= SEQUENCE)) break;
+        missing -= hops_of(added);
+        at += 2 + 2 * count;
+        front += added;
+    }
+    path->bytes = at;
+    path->front = front;
+    path->split = missing;
+}
+
+INLINE merged plan_merge(const uint8_t *as_path, size_t n, const uint8_t *as4_path, size_t m, const uint8_t *aggregator,
+                         size_t aggregator_size, const uint8_t *as4_aggregator, size_t as4_aggregator_size) {
+    merged path = {.bytes = n};
+    uint64_t standing = plain_standing_aggregator(aggregator, aggregator_size, as4_aggregator, as4_aggregator_size);
+    path.counted = refusal_of(standing) ? standing : count_hops(as_path, n, 2, true);
+    if (refusal_of(path.counted)) return path;
+    uint64_t kept = count_hops(as4_path, m, 4, false);
+    bool ignored = aggregator_size && as4_aggregator_size && standing >> 32 == 1;
+    if (refusal_of(kept)) {
+        path.counted = kept;
+    } else if (ignored || !(kept & 0xFFFF) || hops_of(path.counted) < hops_of(kept)) {
+        path.counted &= 0xFFFFFFFF;
+    } else {
+        find_front(as_path, n, hops_of(path.counted) - hops_of(kept), &path);
+        path.has_as4_path = true;
+        path.counted = ((path.front + kept) & 0xFFFFFFFF) + answer(path.split > 0, path.split, 0);
+    }
+    return path;
+}
+
+uint64_t plain_count_merged_as_path(const uint8_t *as_path, size_t n, const uint8_t *as4_path, size_t m,
+                                    const uint8_t *aggregator, size_t aggregator_size, const uint8_t *as4_aggregator,
+                                    size_t as4_aggregator_size) {
+    return plan_merge(as_path, n, as4_path, m, aggregator, aggregator_size, as4_aggregator, as4_aggregator_size)
+        .counted;
+}
+
+INLINE void fill_numbers(const uint8_t *restrict s, size_t count, size_t width, uint32_t *restrict numbers) {
+    for (size_t i = 0; i < count; i++) numbers[i] = width == 4 ? read4(s + 4 * i) : read2(s + 2 * i);
+}
+
+// Puts the first bytes of a judged path, which are whole segments. The value goes on up to `end`, and the merged path's
+// numbers up to `last`. Eight go at once where that many are there: what is too much, the next numbers overwrite.
+INLINE void fill_segments(const uint8_t *s, size_t bytes, const uint8_t *end, size_t width, bool confederations,
+                          uint32_t *pairs, uint32_t *numbers, const uint32_t *last) {
+    const uint8_t *stop = s + bytes;
+    while (s < stop) {
+        uint32_t kind = s[0], count = s[1];
+        s += 2;
+        if (confederations || kind <= SEQUENCE) {
+            *pairs++ = kind;
+            *pairs++ = count;
+            if ((size_t)(end - s) >= AT_ONCE * width && last - numbers >= AT_ONCE && count <= AT_ONCE)
+                fill_numbers(s, AT_ONCE, width, numbers);
+            else
+                fill_numbers(s, count, width, numbers);
+            numbers += count;
+        }
+        s += width * count;
+    }
+}
+
+uint64_t plain_merge_as_path(const uint8_t *as_path, size_t n, const uint8_t *as4_path, size_t m,
+                             const uint8_t *aggregator, size_t aggregator_size, const uint8_t *as4_aggregator,
+                             size_t as4_aggregator_size, uint32_t *pairs, size_t pair_places, uint32_t *numbers,
+                             size_t number_places) {
+    merged path = plan_merge(as_path, n, as4_path, m, aggregator, aggregator_size, as4_aggregator, as4_aggregator_size);
+    uint64_t counted = path.counted;
+    if (refusal_of(counted)) return counted;
+    if (2 * (counted & 0xFFFF) > pair_places || counted >> 16 > number_places) return refused(NO_ROOM);
+    const uint32_t *last = numbers + (counted >> 16);
+    fill_segments(as_path, path.bytes, as_path + n, 2, true, pairs, numbers, last);
+    if (!path.has_as4_path) return counted;
+    pairs += 2 * (path.front & 0xFFFF);
+    numbers += path.front >> 16 & 0xFFFF;
+    if (path.split) {
+        *pairs++ = SEQUENCE;
+        *pairs++ = (uint32_t)path.split;
+        fill_numbers(as_path + path.bytes + 2, path.split, 2, numbers);
+        numbers += path.split;
+    }
+    fill_segments(as4_path, m, as4_path + m, 4, false, pairs, numbers, last);
+    return counted;
+}
+
 // ---- Writers ----
 
 INLINE uint64_t joined(const uint32_t *words) { return (uint64_t)words[0] << 32 | words[1]; }

@@ -4,6 +4,9 @@ use crate::library::Library;
 use records::{lent_of, numbers_of, sum_bytes, Answer, Lent, Request};
 use records::{ADD_PATH, EXTENDED, FOUR_BYTE_AS, GUESS, IPV6, STRICT};
 
+/// The refusal where a store has too few places.
+const NO_ROOM: u64 = 11;
+
 /// The four fields of an answer word; the last is the refusal.
 pub fn fields(word: u64) -> [u64; 4] {
     [0, 16, 32, 48].map(|shift| word >> shift & 0xFFFF)
@@ -11,7 +14,7 @@ pub fn fields(word: u64) -> [u64; 4] {
 
 /// Whether the C boundary has a call for this op.
 pub fn has_call(op: u8) -> bool {
-    matches!(op, 2 | 3 | 6..=19)
+    matches!(op, 2 | 3 | 6..=21)
 }
 
 pub fn four_bytes(request: &Request) -> u8 {
@@ -44,6 +47,8 @@ pub fn answer<L: Library>(request: &Request) -> Answer {
         12 => parts::<L>(request),
         13..=17 => written::<L>(request, &mut lent),
         18 | 19 => attribute::<L>(request),
+        20 => standing::<L>(&request.parts[0], &request.parts[1]),
+        21 => merged::<L>(request, &mut lent),
         _ => read::<L>(request, &mut lent),
     };
     let refusal = fields(word)[3] as u32;
@@ -156,6 +161,33 @@ fn attribute<L: Library>(request: &Request) -> (u64, Vec<u64>) {
         return (word, vec![1, flags, start, length, sum]);
     }
     (word, vec![1, flags, kind, start, length, sum, next])
+}
+
+/// AGGREGATOR and AS4_AGGREGATOR of a path to merge.
+pub fn aggregators(request: &Request) -> [&[u8]; 2] {
+    request.parts[2].split_at(usize::from(request.argument)).into()
+}
+
+fn standing<L: Library>(aggregator: &[u8], as4_aggregator: &[u8]) -> (u64, Vec<u64>) {
+    let word = L::standing_aggregator(aggregator, as4_aggregator);
+    let [offset, length, number, _] = fields(word);
+    let value = if number == 2 { as4_aggregator } else { aggregator };
+    let sum = sum_bytes(&value[offset as usize..(offset + length) as usize]);
+    (word, vec![number, length, sum])
+}
+
+/// Counting is held to the same request: it answers alike but for the room.
+fn merged<L: Library>(request: &Request, lent: &mut [Lent]) -> (u64, Vec<u64>) {
+    let ([as_path, as4_path, _], [aggregator, as4_aggregator]) = (&request.parts, aggregators(request));
+    let [pairs, numbers] = lent else { panic!("a path has two stores") };
+    let counted = L::count_merged_as_path(as_path, as4_path, aggregator, as4_aggregator);
+    let word = L::merge_as_path(as_path, as4_path, aggregator, as4_aggregator, store(pairs), store(numbers));
+    let [segments, count, _, refusal] = fields(counted);
+    let fits = 2 * segments as usize <= request.room_a && count as usize <= request.room_b;
+    let wanted = if refusal != 0 || fits { counted } else { NO_ROOM << 48 };
+    assert_eq!(word, wanted, "a path is merged as it is counted");
+    let [_, _, number, _] = fields(L::standing_aggregator(aggregator, as4_aggregator));
+    (word, vec![number, segments, count])
 }
 
 fn written<L: Library>(request: &Request, lent: &mut [Lent]) -> (u64, Vec<u64>) {

@@ -92,6 +92,9 @@ pub fn compare(name: &str, asked: &Request, of_crate: &Request) -> io::Result<bo
 /// Compares a request to be timed. The crate has one reading without Add-Path, that with the guess: it is what is
 /// timed, so it must come to the same here. Whether the crate answered.
 fn compare_timed(name: &str, asked: &Request) -> io::Result<bool> {
+    if asked.op == inputs::COUNT_MERGED {
+        return compare_timed(name, &Request { op: 21, ..asked.clone() });
+    }
     let list = matches!(asked.op, 2 | 3 | 10 | 11) && !asked.has(ADD_PATH);
     let settings = asked.settings | if list { GUESS } else { 0 };
     compare(name, asked, &Request { settings, ..asked.clone() })
@@ -106,6 +109,7 @@ impl<'a> Cases<'a> {
         made.updates()?;
         made.attributes()?;
         made.paths()?;
+        made.merged_paths()?;
         made.headers()?;
         made.other_writers()?;
         match made.count() {
@@ -138,7 +142,7 @@ impl<'a> Cases<'a> {
             return Ok(());
         }
         for asked in all {
-            if !compare_timed(name, asked)? && !matches!(kind, Kind::WithoutCrate) {
+            if !compare_timed(name, asked)? && crate_must_answer(kind, asked) {
                 return Err(io::Error::other(format!("{name}: the crate has no answer")));
             }
         }
@@ -308,6 +312,24 @@ impl<'a> Cases<'a> {
         Ok(())
     }
 
+    /// AS_PATH and AS4_PATH merged, and the AGGREGATOR that stands beside them.
+    fn merged_paths(&mut self) -> io::Result<()> {
+        let mut rng = Rng::new(400);
+        let made: Vec<Request> = (0..SMALL_LISTS).map(|_| inputs::made_merge(&mut rng)).collect();
+        let large: Vec<Request> = (0..LARGE_PATHS).map(|_| inputs::large_merge(&mut rng)).collect();
+        let captured = inputs::captured_merges(self.captures);
+        for (what, merges) in [("captures", &captured), ("made", &made), ("64 KB", &large)] {
+            self.add(&format!("merge AS_PATH: {what}"), Kind::Path, merges)?;
+            let counts: Vec<Request> = merges.iter().map(inputs::counting).collect();
+            self.add(&format!("count merged AS_PATH: {what}"), Kind::Count, &counts)?;
+        }
+        for (what, merges) in [("captures", &captured), ("made", &made)] {
+            let asked: Vec<Request> = merges.iter().map(inputs::standing).collect();
+            self.add(&format!("standing AGGREGATOR: {what}"), Kind::WithoutCrate, &asked)?;
+        }
+        Ok(())
+    }
+
     /// The crate's reader of a message reads its body too. A KEEPALIVE has none to read, whatever its length: so the
     /// frames of the captured messages, as KEEPALIVEs, are what the crate can be asked.
     fn headers(&mut self) -> io::Result<()> {
@@ -342,10 +364,17 @@ fn write_aggregator(read: &Request) -> Request {
     request(15, settings, (8, 0), [value, vec![], vec![]], 0)
 }
 
+/// Whether the crate has to answer as the others do. It merges some paths by another rule, and is not asked for those;
+/// its time is still that of the same work.
+fn crate_must_answer(kind: Kind, asked: &Request) -> bool {
+    !matches!(kind, Kind::WithoutCrate) && !matches!(asked.op, 21 | inputs::COUNT_MERGED)
+}
+
 /// Requests of tiny calls again and again.
 fn often_enough(requests: &[Request]) -> Vec<Request> {
     let bytes: usize = requests.iter().map(|asked| asked.parts[0].len()).sum();
-    let is_tiny = matches!(requests[0].op, 7..=9 | 15 | 16 | 18 | 19) && bytes / requests.len() < 1_000;
+    let tiny_op = matches!(requests[0].op, 7..=9 | 15 | 16 | 18..=21 | inputs::COUNT_MERGED);
+    let is_tiny = tiny_op && bytes / requests.len() < 1_000;
     let times = if is_tiny { TINY_CALLS.div_ceil(requests.len()) } else { 1 };
     requests.iter().cycle().take(times * requests.len()).cloned().collect()
 }

@@ -1,13 +1,24 @@
 //! Made inputs, the same on every machine: route lists, paths, and what is rebuilt from captured messages.
 
+use crate::answers::aggregators;
 use compare::inputs::captures::Capture;
 use compare::inputs::examples::{on_bytes, request, words};
 use compare::inputs::pieces::message;
 use compare::rng::Rng;
 use records::{Lent, Request, ADD_PATH, EXTENDED, FOUR_BYTE_AS, GUESS, IPV6, STRICT};
 
+/// Counting a merged path, which the records have no op for: the same request as op 21 otherwise, and compared as that.
+pub const COUNT_MERGED: u8 = 121;
+
+/// The AS number of two bytes that stands for one of four.
+const AS_TRANS: u16 = 23_456;
+
 /// The most bytes of a tenth of a list, so that ten of them are a list of the greatest size.
 const TENTH: usize = 6_553;
+
+/// Words of pairs and AS numbers that are enough for every merged path.
+const MOST_PAIRS: usize = 2 * 65_534;
+const MOST_NUMBERS: usize = 48_990;
 
 /// How the lengths of a list's prefixes are chosen.
 #[derive(Clone, Copy)]
@@ -218,6 +229,77 @@ pub fn walk(search: &Request) -> Vec<Request> {
     walk
 }
 
+/// A request to merge these, with room for the path and no more.
+pub fn merge(as_path: Vec<u8>, as4_path: Vec<u8>, aggregator: &[u8], as4_aggregator: &[u8]) -> Request {
+    let parts = [as_path, as4_path, [aggregator, as4_aggregator].concat()];
+    let most = request(21, 0, (MOST_PAIRS, MOST_NUMBERS), parts, aggregator.len() as u8);
+    let made = model::answer(&most);
+    assert_eq!(made.refusal, 0, "only good paths are merged");
+    Request { room_a: 2 * made.numbers[1] as usize, room_b: made.numbers[2] as usize, ..most }
+}
+
+/// The captured paths that an AS4_PATH stands beside.
+pub fn captured_merges(captures: &[Capture]) -> Vec<Request> {
+    captured(captures, 21).into_iter().filter(|merge| !merge.parts[1].is_empty()).collect()
+}
+
+/// From `least` to `most` AS numbers, one in three of which is over two bytes.
+fn numbers(rng: &mut Rng, least: usize, most: usize) -> Vec<u32> {
+    let count = least + rng.under(most + 1 - least);
+    (0..count).map(|_| 1 + rng.under(64_000) as u32 + if rng.one_in(3) { 0x1_0000 } else { 0 }).collect()
+}
+
+/// A segment of these numbers, of which two bytes hold AS_TRANS for one that is over them.
+fn segment(kind: u8, numbers: &[u32], width: usize) -> Vec<u8> {
+    let narrow = |number: u32| u32::from(u16::try_from(number).unwrap_or(AS_TRANS));
+    let held = numbers.iter().map(|number| if width == 2 { narrow(*number) } else { *number });
+    let bytes = held.flat_map(|number| number.to_be_bytes().into_iter().skip(4 - width));
+    [kind, numbers.len() as u8].into_iter().chain(bytes).collect()
+}
+
+/// A path about as the routing table has them: a sequence of two to eight numbers, now and then with a confederation
+/// sequence before it or a set after it. AS4_PATH has the last of the sequence's numbers, from one of them up to all.
+pub fn made_merge(rng: &mut Rng) -> Request {
+    let sequence = numbers(rng, 2, 8);
+    let last = 1 + rng.under(sequence.len());
+    let mut as_path = segment(2, &sequence, 2);
+    let mut as4_path = segment(2, &sequence[sequence.len() - last..], 4);
+    if rng.one_in(6) {
+        as_path = [segment(3, &numbers(rng, 1, 2), 2), as_path].concat();
+    }
+    if rng.one_in(6) {
+        let set = numbers(rng, 2, 3);
+        as_path.extend(segment(1, &set, 2));
+        as4_path.extend(segment(1, &set, 4));
+    }
+    let (aggregator, as4_aggregator) = made_aggregators(rng);
+    merge(as_path, as4_path, &aggregator, &as4_aggregator)
+}
+
+/// The AGGREGATORs of a path, which most have none of: the first alone, and both, of which either stands.
+fn made_aggregators(rng: &mut Rng) -> (Vec<u8>, Vec<u8>) {
+    let old = |number: u16| [&number.to_be_bytes(), [10, 0, 0, 1].as_slice()].concat();
+    let new = [0, 1, 0, 1, 10, 0, 0, 1].to_vec();
+    match rng.under(16) {
+        0 => (old(65_001), vec![]),
+        1 => (old(65_001), new),
+        2 => (old(AS_TRANS), new),
+        _ => (vec![], vec![]),
+    }
+}
+
+/// An AS_PATH of the greatest size, and an AS4_PATH that counts about a third of it: six tenths of the greatest one.
+pub fn large_merge(rng: &mut Rng) -> Request {
+    let mut tenths = |count: usize, width: usize| (0..count).flat_map(|_| path_tenth(rng, width)).collect();
+    merge(tenths(10, 2), tenths(6, 4), &[], &[])
+}
+
+/// The request for the AGGREGATOR that stands of a path to merge.
+pub fn standing(merge: &Request) -> Request {
+    let [aggregator, as4_aggregator] = aggregators(merge).map(<[u8]>::to_vec);
+    request(20, 0, (0, 0), [aggregator, as4_aggregator, vec![]], 0)
+}
+
 /// The types that RFC 8654 made longer, from a byte over the old limit up to the new one.
 pub fn long_messages() -> Vec<Request> {
     let lengths = [4_097, 4_098, 5_000, 8_192, 16_384, 32_768, 65_534, 65_535];
@@ -232,6 +314,9 @@ pub fn strict(asked: &Request) -> Request {
 
 /// The counting request of a reading one.
 pub fn counting(read: &Request) -> Request {
+    if read.op == 21 {
+        return Request { op: COUNT_MERGED, ..read.clone() };
+    }
     Request { op: read.op + 1, room_a: 0, room_b: 0, ..read.clone() }
 }
 

@@ -84,6 +84,27 @@ libraries! {
         value.as_ptr() => Bytes, value.len() => usize, four_bytes => u8,
         words.as_mut_ptr() => Store, words.len() => usize
     );
+    fn standing_aggregator(aggregator: &[u8], as4_aggregator: &[u8]) passes (
+        aggregator.as_ptr() => Bytes, aggregator.len() => usize,
+        as4_aggregator.as_ptr() => Bytes, as4_aggregator.len() => usize
+    );
+    fn count_merged_as_path(as_path: &[u8], as4_path: &[u8], aggregator: &[u8], as4_aggregator: &[u8]) passes (
+        as_path.as_ptr() => Bytes, as_path.len() => usize,
+        as4_path.as_ptr() => Bytes, as4_path.len() => usize,
+        aggregator.as_ptr() => Bytes, aggregator.len() => usize,
+        as4_aggregator.as_ptr() => Bytes, as4_aggregator.len() => usize
+    );
+    fn merge_as_path(
+        as_path: &[u8], as4_path: &[u8], aggregator: &[u8], as4_aggregator: &[u8],
+        pairs: &mut [u32], numbers: &mut [u32]
+    ) passes (
+        as_path.as_ptr() => Bytes, as_path.len() => usize,
+        as4_path.as_ptr() => Bytes, as4_path.len() => usize,
+        aggregator.as_ptr() => Bytes, aggregator.len() => usize,
+        as4_aggregator.as_ptr() => Bytes, as4_aggregator.len() => usize,
+        pairs.as_mut_ptr() => Store, pairs.len() => usize,
+        numbers.as_mut_ptr() => Store, numbers.len() => usize
+    );
     fn encode_nlri_prefixes(rows: &[u32], ipv6: u8, add_path: u8, out: &mut [u8]) passes (
         rows.as_ptr() => Words, rows.len() => usize, ipv6 => u8, add_path => u8,
         out.as_mut_ptr() => Output, out.len() => usize

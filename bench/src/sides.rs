@@ -2,10 +2,12 @@
 //! Not timed: making the requests, and the handles (`Bytes`) that the crate's readers take and drop. Timed: the calls,
 //! and giving back what the crate's calls hand out.
 
-use crate::answers::{add_path, edition, fields, four_bytes, ipv6, list_settings};
+use crate::answers::{add_path, aggregators, edition, fields, four_bytes, ipv6, list_settings};
+use crate::inputs::COUNT_MERGED;
 use crate::library::Library;
 use crate::measure::{timed, Side};
 use bytes::{Bytes, BytesMut};
+use crate_oracle::error::ParserError;
 use crate_oracle::models::{Afi, AsPath, Asn, AsnLength, BgpMessage, BgpUpdateMessage, NetworkPrefix};
 use crate_oracle::oracle::private::{Inside, PrivateCalls};
 use crate_oracle::oracle::{messages, paths, routes};
@@ -28,6 +30,7 @@ pub struct Call {
     add_path: u8,
     four_bytes: u8,
     edition: u8,
+    aggregators: [Vec<u8>; 2],
     first: Range<usize>,
     second: Range<usize>,
 }
@@ -41,6 +44,7 @@ impl Call {
             add_path: add_path(request),
             four_bytes: four_bytes(request),
             edition: edition(request),
+            aggregators: if merges(request.op) { aggregators(request).map(<[u8]>::to_vec) } else { Default::default() },
             first: first..first + request.room_a,
             second: second..second + request.room_b,
             request: request.clone(),
@@ -50,6 +54,10 @@ impl Call {
     fn s(&self) -> &[u8] {
         &self.request.parts[0]
     }
+}
+
+fn merges(op: u8) -> bool {
+    matches!(op, 21 | COUNT_MERGED)
 }
 
 /// What is lent to a library, the same places to both.
@@ -138,6 +146,7 @@ impl Calls {
             9 => self.headers::<L>(),
             10 | 11 => self.updates::<L>(),
             18 | 19 => self.attributes::<L>(),
+            20 | 21 | COUNT_MERGED => self.side_by_side::<L>(),
             _ => self.writers::<L>(),
         }
     }
@@ -193,6 +202,22 @@ impl Calls {
         }
     }
 
+    /// The calls on old and new AS numbers side by side.
+    fn side_by_side<L: Library>(&self) -> Side {
+        match self.op() {
+            20 => self.batch(|call, _| L::standing_aggregator(call.s(), &call.request.parts[1])),
+            21 => self.batch(|call, to| {
+                let ([as_path, as4_path, _], [aggregator, as4_aggregator]) = (&call.request.parts, &call.aggregators);
+                let (pairs, numbers) = to.two(call);
+                L::merge_as_path(as_path, as4_path, aggregator, as4_aggregator, pairs, numbers)
+            }),
+            _ => self.batch(|call, _| {
+                let ([as_path, as4_path, _], [aggregator, as4_aggregator]) = (&call.request.parts, &call.aggregators);
+                L::count_merged_as_path(as_path, as4_path, aggregator, as4_aggregator)
+            }),
+        }
+    }
+
     fn writers<L: Library>(&self) -> Side {
         match self.op() {
             13 => self
@@ -233,14 +258,24 @@ impl Calls {
             18 | 19 => {
                 self.owning(|bytes, call| parse_attributes(bytes, &width(call), call.has(ADD_PATH), None, None, None))
             }
+            21 | COUNT_MERGED => self.owning_of(both_paths, |paths, _| merged_by_crate(paths)),
             _ => self.crate_writers(),
         }
     }
 
-    /// A batch of a reader of the crate, which owns the handle of its bytes. Handles are made before the clock starts.
+    /// A batch of a reader of the crate, which owns the handle of its bytes.
     fn owning<T>(&self, call: impl Fn(Bytes, &Request) -> T + 'static) -> Side {
+        self.owning_of(|request| Bytes::from(request.parts[0].clone()), call)
+    }
+
+    /// The same of a reader that owns these handles. They are made before the clock starts.
+    fn owning_of<H: Clone + 'static, T>(
+        &self,
+        handles: impl Fn(&Request) -> H,
+        call: impl Fn(H, &Request) -> T + 'static,
+    ) -> Side {
         let own = self.clone();
-        let given: Vec<Bytes> = own.calls.iter().map(|call| Bytes::from(call.s().to_vec())).collect();
+        let given: Vec<H> = own.calls.iter().map(|call| handles(&call.request)).collect();
         let mut handles = Vec::with_capacity(given.len());
         Box::new(move || {
             handles.extend(given.iter().cloned());
@@ -284,6 +319,18 @@ fn walk<L: Library>(section: &[u8]) -> u64 {
         place = (start + length) as usize;
         visited += 1;
     }
+}
+
+/// The handles of AS_PATH and AS4_PATH.
+fn both_paths(request: &Request) -> [Bytes; 2] {
+    [0, 1].map(|part| Bytes::from(request.parts[part].clone()))
+}
+
+/// What the crate makes of AS_PATH and AS4_PATH, once it has read both.
+fn merged_by_crate([as_path, as4_path]: [Bytes; 2]) -> Result<AsPath, ParserError> {
+    let old = Inside::parse_as_path(as_path, &AsnLength::Bits16)?;
+    let new = Inside::parse_as_path(as4_path, &AsnLength::Bits32)?;
+    Ok(AsPath::merge_aspath_as4path(&old, &new))
 }
 
 /// A batch of a writer of the crate.
