@@ -5,10 +5,11 @@ use mathlib.Core.List.{List, [], _∷_}
 use mathlib.Core.Bool.{Bool, false, not}
 use lib.ListN.{getD}
 use lib.Dec.{eqb}
+use Rattle.wire.specs.Answer.{flag}
 use Rattle.wire.specs.Choice.{pick}
 use Rattle.wire.specs.Refusal.{oneByteSection}
-use Rattle.wire.specs.Walk.{Step, took, stop, Reading, refused, readAll}
-use Rattle.routes.specs.Prefix.{prefixOf}
+use Rattle.wire.specs.Walk.{Step, took, stop, Reading, refused, readAll, notes, tally}
+use Rattle.routes.specs.Prefix.{prefixOf, hostBits}
 use Rattle.families.specs.declared.Form.{Form}
 use Rattle.families.specs.declared.Form.the-variants.{Plain, Tagged}
 use Rattle.families.specs.declared.AddPath.{AddPath}
@@ -71,6 +72,13 @@ listBy read s mode = readAll (stepBy read mode) Plain s
 
 abbrev pub listOf : List ℕ → ℕ → AddPath → Reading Row
 listOf s max mode = listBy (upTo max) s mode
+
+-- how many of its items have a host bit
+unfoldable pub hostsBy : Reader → List ℕ → AddPath → ℕ
+hostsBy read s mode = tally flag (notes hostBits (stepBy read mode) Plain s)
+
+abbrev pub hostsOf : List ℕ → ℕ → AddPath → ℕ
+hostsOf s max mode = hostsBy (upTo max) s mode
 
 -- one byte, and not 0
 abbrev pub strange : List ℕ → Bool

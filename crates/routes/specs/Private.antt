@@ -1,12 +1,15 @@
 -- What private functions ask of each other and answer each other; no promise rests on it.
-use Prim.Native.Nat.{ℕ, _+_, _≤_}
+use Prim.Native.Nat.{ℕ, _+_, _-_, _*_, _^_, _%_, _≤_}
 use mathlib.Core.List.{List}
+use mathlib.Core.Bool.{Bool, not}
 use lib.ListN.{length}
 use lib.Dec.{eqb}
+use Rattle.wire.specs.Answer.{flag}
 use Rattle.wire.specs.Choice.{pick}
 use Rattle.wire.specs.Refusal.{truncated}
-use Rattle.families.specs.Family.{idSize}
+use Rattle.families.specs.Family.{idSize, octets}
 use Rattle.families.specs.declared.Form.{Form}
+use Rattle.routes.specs.Promises.{hostUnit}
 use Rattle.routes.specs.declared.PrefixAnswer.{PrefixAnswer}
 use Rattle.routes.specs.declared.PrefixAnswer.the-variants as P
 use Rattle.routes.specs.declared.SizeAnswer.{SizeAnswer}
@@ -32,3 +35,11 @@ kept (Z.Refused n) form = S.Refused n
 -- a count whose last item has n octets, where so many bytes are left; in one number
 abbrev pub countUpTo : ℕ → ℕ → ℕ → ℕ
 countUpTo left n count = pick (eqb left n) count truncated
+
+-- whether a bit past the length is set in the last byte of an item
+abbrev pub pastLength : ℕ → ℕ → Bool
+pastLength l last = not (eqb (last % 2 ^ (8 * octets l - l)) 0)
+
+-- what a row adds to a count in one number, by whether it has a host bit
+abbrev pub weightOf : Bool → ℕ
+weightOf host = 1 + hostUnit * flag host

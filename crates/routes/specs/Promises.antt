@@ -1,10 +1,10 @@
 -- What the calls on a step, a list or a section answer and leave, from the bytes and from the reading of them that `List` defines.
-use Prim.Native.Nat.{ℕ, _/_}
+use Prim.Native.Nat.{ℕ, _/_, _%_}
 use mathlib.Core.List.{List, [], _∷_}
 use mathlib.Core.Bool.{Bool, true}
 use lib.ListN.{length}
 use lib.Dec.{leb}
-use Rattle.wire.specs.Answer.{Answer, given, refusal, numberIn, valueIn, filled, answerBy}
+use Rattle.wire.specs.Answer.{Answer, given, refusal, numberIn, valueIn, filled, answerBy, unpacked}
 use Rattle.wire.specs.Choice.{pick}
 use Rattle.wire.specs.Refusal.{tooLong, noRoom, listLimit}
 use Rattle.wire.specs.Walk.{Step, took, stop, Reading, flat}
@@ -16,6 +16,7 @@ use Rattle.routes.specs.declared.StepAnswer.{StepAnswer}
 use Rattle.routes.specs.declared.StepAnswer.the-variants as S
 use Rattle.routes.specs.declared.ListAnswer.{ListAnswer}
 use Rattle.routes.specs.declared.ListAnswer.the-variants.{Rows, Refused}
+use Rattle.routes.specs.declared.RoutesAnswer.{RoutesAnswer}
 
 -- ---- a step
 
@@ -36,13 +37,6 @@ abbrev pub listMeaning : ListAnswer → Answer
 listMeaning (Rows n) = given (n ∷ [])
 listMeaning (Refused n) = refusal n
 
--- the rows of an answer, and its refusal number: 0 where there is none
-abbrev pub rowsIn : ListAnswer → ℕ
-rowsIn a = valueIn 0 (listMeaning a)
-
-abbrev pub verdictIn : ListAnswer → ℕ
-verdictIn a = numberIn (listMeaning a)
-
 -- counting: 1 first, then what the reading says
 unfoldable pub countAnswer : List ℕ → Reading Row → ListAnswer
 countAnswer s r = pick (leb (length s) listLimit) (answerBy (r .verdict) (Rows (length (r .rows))) Refused) (Refused tooLong)
@@ -59,3 +53,35 @@ readAnswer s r places = pick (hasRoom (countAnswer s r) places) (countAnswer s r
 -- the store afterwards: the rows from its front where they were taken, and else as it was
 unfoldable pub storeAfter : List ℕ → Reading Row → List ℕ → List ℕ
 storeAfter s r store = filled (listMeaning (readAnswer s r (length store))) (flat words (r .rows)) store
+
+-- ---- with the rows that have a host bit
+
+-- a list's answer and how many of its rows have one: none where it is refused
+abbrev pub withHosts : ListAnswer → ℕ → RoutesAnswer
+withHosts (Rows n) hosts = record { list = Rows n; hosts = hosts }
+withHosts (Refused n) hosts = record { list = Refused n; hosts = 0 }
+
+-- as documents 01 and 02 have it: how many rows, and how many of them have a host bit
+abbrev pub rowsMeaning : ListAnswer → ℕ → Answer
+rowsMeaning (Rows n) hosts = given (n ∷ hosts ∷ [])
+rowsMeaning (Refused n) hosts = refusal n
+
+abbrev pub routesMeaning : RoutesAnswer → Answer
+routesMeaning a = rowsMeaning (a .list) (a .hosts)
+
+-- the rows of an answer, those with a host bit, and its refusal number: 0 where there is none
+abbrev pub rowsIn : RoutesAnswer → ℕ
+rowsIn a = valueIn 0 (routesMeaning a)
+
+abbrev pub hostsIn : RoutesAnswer → ℕ
+hostsIn a = valueIn 1 (routesMeaning a)
+
+abbrev pub verdictIn : RoutesAnswer → ℕ
+verdictIn a = numberIn (routesMeaning a)
+
+-- in one number, past the refusal numbers: one for each row, and this for each that has a host bit
+abbrev pub hostUnit : ℕ
+hostUnit = 65536
+
+abbrev pub inOne : ℕ → RoutesAnswer
+inOne v = unpacked (λ n. record { list = Rows (n % hostUnit); hosts = n / hostUnit }) (λ n. record { list = Refused n; hosts = 0 }) v

@@ -1,17 +1,16 @@
 // Routes: one, and a list of them (RFC 4271 section 4.3, RFC 7911 section 3). The reading of utils.rs and of read_nlri in messages.rs.
 ghost use mathlib.Core.Path.{_≡_};
 ghost use mathlib.Core.Bool.{false};
-ghost use Prim.Native.Nat.{_≤_, _<_};
+ghost use Prim.Native.Nat.{_+_, _≤_, _<_};
 ghost use lib.ListN.{length, getD, take, drop};
-ghost use Rattle.wire.specs.Answer.{unpacked};
 ghost use Rattle.wire.specs.Number.{beAt};
 ghost use Rattle.wire.specs.Refusal.{listLimit};
 ghost use Rattle.families.specs.Family.{maxOf, idSize};
-ghost use Rattle.routes.specs.Prefix.{itemRow, prefixOf};
+ghost use Rattle.routes.specs.Prefix.{itemRow, hostBits, routeOf};
 ghost use Rattle.routes.specs.ByTable.{byTable};
-ghost use Rattle.routes.specs.Private.{Bounded, sizeOf, kept, countUpTo};
-ghost use Rattle.routes.specs.List.{plainHere, fixed, stepBy, listBy, sectionBy, listOf, sectionOf, strange};
-ghost use Rattle.routes.specs.Promises.{sized, rowsIn, verdictIn, countAnswer};
+ghost use Rattle.routes.specs.Private.{Bounded, sizeOf, kept, countUpTo, pastLength, weightOf};
+ghost use Rattle.routes.specs.List.{plainHere, fixed, stepBy, listBy, hostsBy, sectionBy, listOf, hostsOf, sectionOf, strange};
+ghost use Rattle.routes.specs.Promises.{sized, countAnswer, withHosts, rowsIn, hostsIn, verdictIn, inOne};
 use families::AddPath;
 use families::Afi;
 use families::Form;
@@ -34,11 +33,26 @@ pub enum PrefixAnswer {
     Refused(u8),
 }
 
+// The same, and whether a bit past its length is set.
+pub struct RouteAnswer {
+    pub prefix: PrefixAnswer,
+    pub host: bool,
+}
+
 // A list: its rows, or a refusal number.
 pub enum ListAnswer {
     Rows(usize),
     Refused(u8),
 }
+
+// The same, and how many of the rows have a bit set past their length: 0 where it is refused.
+pub struct RoutesAnswer {
+    pub list: ListAnswer,
+    pub hosts: usize,
+}
+
+// What a row with such a bit adds to a count in one number, beside the 1 that each row adds.
+pub const HOST_UNIT: usize = 65536;
 
 // How many bytes an item takes, or why it is refused.
 enum SizeAnswer {
@@ -108,17 +122,41 @@ fn row_of(s: &[u8], e: usize, form: Form) -> Row
     }
 }
 
-// One route, in a form: the bytes it takes and its row.
-pub fn try_parse_prefix(s: &[u8], afi: Afi, form: Form) -> PrefixAnswer
-    ensures answer { λ r. ⌜ r ≡ prefixOf (now (s .entry)) (maxOf afi) form ⌝ }
+// Whether a bit past the length is set in the last byte of an item: shifted up, what is left of its last seven bits. A prefix of no bits ends with its
+// length byte, which is 0.
+fn past_length(bits: u8, last: u8) -> bool
+    ensures { λ r. ⌜ r ≡ pastLength bits last ⌝ }
+{
+    let up = (bits as u32 + 7) % 8;
+    ((last as u32) << up) % 128 != 0
+}
+
+// Whether the item of `used` bytes at place n has a bit set past its length.
+fn host_at(s: &[u8], n: usize, used: usize, form: Form) -> bool
+    requires { ⌜ idSize form + 1 ≤ used ⌝ }
+    requires { ⌜ n + used ≤ length (now s) ⌝ }
+    ensures { λ r. ⌜ r ≡ hostBits form (take used (drop n (now (s .entry)))) ⌝ }
+{
+    past_length(s[n + families::id_size(form)], s[n + used - 1])
+}
+
+// One route, in a form: the bytes it takes and its row, and whether it has a bit set past its length.
+pub fn try_parse_prefix(s: &[u8], afi: Afi, form: Form) -> RouteAnswer
+    ensures answer { λ r. ⌜ r ≡ routeOf (now (s .entry)) (maxOf afi) form ⌝ }
 {
     let counts = octets::counts(afi);
     match front_size(s, &counts, form) {
-        SizeAnswer::Size(used) => PrefixAnswer::Prefix {
-            used,
-            row: row_of(s, used, form),
+        SizeAnswer::Size(used) => RouteAnswer {
+            prefix: PrefixAnswer::Prefix {
+                used,
+                row: row_of(s, used, form),
+            },
+            host: host_at(s, 0, used, form),
         },
-        SizeAnswer::Refused(n) => PrefixAnswer::Refused(n),
+        SizeAnswer::Refused(n) => RouteAnswer {
+            prefix: PrefixAnswer::Refused(n),
+            host: false,
+        },
     }
 }
 
@@ -208,11 +246,21 @@ fn ended(left: usize, n: usize, count: usize) -> usize
     }
 }
 
+// What a row adds to a count in one number.
+fn weight(host: bool) -> usize
+    ensures { λ r. ⌜ r ≡ weightOf host ⌝ }
+{
+    if host {
+        return 1 + HOST_UNIT;
+    }
+    1
+}
+
 // How many rows a list has whose items all stand in one form, in one number. It carries how many octets the item before has, and the bytes from where the
 // next length byte would stand if it had none, so that the next length byte waits for nothing but the table.
 fn count_form(s: &[u8], counts: &[u8; 256], form: Form) -> usize
     requires { ⌜ length (now s) ≤ listLimit ⌝ }
-    ensures { λ r. ⌜ unpacked ListAnswer.Rows ListAnswer.Refused r ≡ countAnswer (now (s .entry)) (listBy (byTable (now (counts .entry))) (now (s .entry)) (fixed form)) ⌝ }
+    ensures { λ r. ⌜ inOne r ≡ withHosts (countAnswer (now (s .entry)) (listBy (byTable (now (counts .entry))) (now (s .entry)) (fixed form))) (hostsBy (byTable (now (counts .entry))) (now (s .entry)) (fixed form)) ⌝ }
 {
     let k = families::id_size(form);
     if s.len() < k {
@@ -222,13 +270,18 @@ fn count_form(s: &[u8], counts: &[u8; 256], form: Form) -> usize
     let mut n: usize = 0;
     let mut count: usize = refusal::PAST_ALL;
     while n + 1 <= head.len() {
-        let next = octets::after(counts, head[n]);
+        let bits = head[n];
+        let next = octets::after(counts, bits);
         if next == octets::REFUSED {
             return refusal::PREFIX_LENGTH as usize;
         }
+        let last = n + next as usize;
+        if head.len() <= last {
+            return refusal::TRUNCATED as usize;
+        }
+        count = count + weight(past_length(bits, head[last]));
         let rest = &head[n + 1..];
         n = next as usize;
-        count = count + 1;
         if rest.len() < n + k {
             return ended(rest.len(), n, count);
         }
@@ -241,7 +294,7 @@ fn count_form(s: &[u8], counts: &[u8; 256], form: Form) -> usize
 // reason.
 fn count_guess(s: &[u8], counts: &[u8; 256]) -> usize
     requires { ⌜ length (now s) ≤ listLimit ⌝ }
-    ensures { λ r. ⌜ unpacked ListAnswer.Rows ListAnswer.Refused r ≡ countAnswer (now (s .entry)) (listBy (byTable (now (counts .entry))) (now (s .entry)) AddPath.Guess) ⌝ }
+    ensures { λ r. ⌜ inOne r ≡ withHosts (countAnswer (now (s .entry)) (listBy (byTable (now (counts .entry))) (now (s .entry)) AddPath.Guess)) (hostsBy (byTable (now (counts .entry))) (now (s .entry)) AddPath.Guess) ⌝ }
 {
     let mut rest = s;
     let mut n: usize = 0;
@@ -250,6 +303,7 @@ fn count_guess(s: &[u8], counts: &[u8; 256]) -> usize
     while n < rest.len() {
         match guess_at(rest, n, counts, form) {
             StepAnswer::Item { used, form: next } => {
+                count = count + weight(host_at(rest, n, used, next));
                 // Each form takes its own bytes out again, so that the count from the table is carried as it is.
                 match next {
                     Form::Plain => {
@@ -261,7 +315,6 @@ fn count_guess(s: &[u8], counts: &[u8; 256]) -> usize
                         n = used - 5;
                     }
                 }
-                count = count + 1;
                 form = next;
             }
             StepAnswer::Refused(why) => {
@@ -274,7 +327,7 @@ fn count_guess(s: &[u8], counts: &[u8; 256]) -> usize
 
 // How many rows a list has by a table that the caller lends, with no store: in one number, which stays in a register. `counted` is the answer.
 pub fn count_list_by(s: &[u8], counts: &[u8; 256], mode: AddPath) -> usize
-    ensures answer { λ r. ⌜ unpacked ListAnswer.Rows ListAnswer.Refused r ≡ countAnswer (now (s .entry)) (listBy (byTable (now (counts .entry))) (now (s .entry)) mode) ⌝ }
+    ensures answer { λ r. ⌜ inOne r ≡ withHosts (countAnswer (now (s .entry)) (listBy (byTable (now (counts .entry))) (now (s .entry)) mode)) (hostsBy (byTable (now (counts .entry))) (now (s .entry)) mode) ⌝ }
 {
     // So that the slice is handed on in registers.
     let whole = &s[..];
@@ -289,18 +342,25 @@ pub fn count_list_by(s: &[u8], counts: &[u8; 256], mode: AddPath) -> usize
 }
 
 // The answer that such a number stands for.
-pub fn counted(n: usize) -> ListAnswer
-    ensures answer { λ r. ⌜ r ≡ unpacked ListAnswer.Rows ListAnswer.Refused n ⌝ }
+pub fn counted(n: usize) -> RoutesAnswer
+    ensures answer { λ r. ⌜ r ≡ inOne n ⌝ }
 {
     if n < refusal::PAST_ALL {
-        return ListAnswer::Refused(n as u8);
+        return RoutesAnswer {
+            list: ListAnswer::Refused(n as u8),
+            hosts: 0,
+        };
     }
-    ListAnswer::Rows(n - refusal::PAST_ALL)
+    let v = n - refusal::PAST_ALL;
+    RoutesAnswer {
+        list: ListAnswer::Rows(v % HOST_UNIT),
+        hosts: v / HOST_UNIT,
+    }
 }
 
 // How many rows a list has, with no store.
-pub fn count_nlri_list(s: &[u8], afi: Afi, mode: AddPath) -> ListAnswer
-    ensures answer { λ r. ⌜ r ≡ countAnswer (now (s .entry)) (listOf (now (s .entry)) (maxOf afi) mode) ⌝ }
+pub fn count_nlri_list(s: &[u8], afi: Afi, mode: AddPath) -> RoutesAnswer
+    ensures answer { λ r. ⌜ r ≡ withHosts (countAnswer (now (s .entry)) (listOf (now (s .entry)) (maxOf afi) mode)) (hostsOf (now (s .entry)) (maxOf afi) mode) ⌝ }
 {
     let counts = octets::counts(afi);
     counted(count_list_by(s, &counts, mode))
@@ -316,20 +376,32 @@ pub fn is_strange(s: &[u8]) -> bool
     s[0] != 0
 }
 
-// The rows of an answer, and its refusal number: 0 where there is none.
-pub fn rows_in(a: ListAnswer) -> usize
+// The rows of an answer, those with a bit set past their length, and its refusal number: 0 where there is none.
+pub fn rows_in(a: RoutesAnswer) -> usize
     ensures { λ r. ⌜ r ≡ rowsIn a ⌝ }
 {
-    match a {
+    let list = a.list;
+    match list {
         ListAnswer::Rows(n) => n,
         ListAnswer::Refused(_) => 0,
     }
 }
 
-pub fn verdict_in(a: ListAnswer) -> u8
+pub fn hosts_in(a: RoutesAnswer) -> usize
+    ensures { λ r. ⌜ r ≡ hostsIn a ⌝ }
+{
+    let list = a.list;
+    match list {
+        ListAnswer::Rows(_) => a.hosts,
+        ListAnswer::Refused(_) => 0,
+    }
+}
+
+pub fn verdict_in(a: RoutesAnswer) -> u8
     ensures { λ r. ⌜ r ≡ verdictIn a ⌝ }
 {
-    match a {
+    let list = a.list;
+    match list {
         ListAnswer::Rows(_) => 0,
         ListAnswer::Refused(n) => n,
     }
@@ -337,7 +409,7 @@ pub fn verdict_in(a: ListAnswer) -> u8
 
 // How many rows a section of an UPDATE has by a table that the caller lends, as count_list_by.
 pub fn count_section_by(s: &[u8], counts: &[u8; 256], mode: AddPath) -> usize
-    ensures answer { λ r. ⌜ unpacked ListAnswer.Rows ListAnswer.Refused r ≡ countAnswer (now (s .entry)) (sectionBy (byTable (now (counts .entry))) (now (s .entry)) mode) ⌝ }
+    ensures answer { λ r. ⌜ inOne r ≡ withHosts (countAnswer (now (s .entry)) (sectionBy (byTable (now (counts .entry))) (now (s .entry)) mode)) (hostsBy (byTable (now (counts .entry))) (now (s .entry)) mode) ⌝ }
 {
     let whole = &s[..];
     if is_strange(whole) {
@@ -347,8 +419,8 @@ pub fn count_section_by(s: &[u8], counts: &[u8; 256], mode: AddPath) -> usize
 }
 
 // How many rows a section of an UPDATE has, with no store.
-pub fn count_nlri(s: &[u8], afi: Afi, mode: AddPath) -> ListAnswer
-    ensures answer { λ r. ⌜ r ≡ countAnswer (now (s .entry)) (sectionOf (now (s .entry)) (maxOf afi) mode) ⌝ }
+pub fn count_nlri(s: &[u8], afi: Afi, mode: AddPath) -> RoutesAnswer
+    ensures answer { λ r. ⌜ r ≡ withHosts (countAnswer (now (s .entry)) (sectionOf (now (s .entry)) (maxOf afi) mode)) (hostsOf (now (s .entry)) (maxOf afi) mode) ⌝ }
 {
     let counts = octets::counts(afi);
     counted(count_section_by(s, &counts, mode))

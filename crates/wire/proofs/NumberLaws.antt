@@ -3,7 +3,7 @@
 use Prim.Native.Nat.{ℕ, zero, suc, _+_, _-_, _*_, _^_, _/_, _%_, _≤_, _<_}
 use mathlib.Core.Path.{_≡_, refl, sym, ap, ap₂, _∙_}
 use mathlib.Core.List.{List, [], _∷_, _++_}
-use native.Mathlib.Nat.{div-add-mod', mod-lt, add-zero, add-suc, div-lt-iff-lt-mul, one-le-pow, pow-succ', not-suc-le-zero, mul-assoc, zero-mul, add-mul, add-assoc}
+use native.Mathlib.Nat.{div-add-mod', mod-lt, add-zero, add-suc, div-lt-iff-lt-mul, one-le-pow, pow-succ', not-suc-le-zero, mul-assoc, zero-mul, add-mul, add-assoc, mul-add-mod-self-right}
 use native.Mathlib.Omega.{arith}
 use lib.ListN.{length, getD, take, drop, replicate, length-replicate, length-append, length-drop, take-append-drop}
 use lib.Seq.{getD-drop, take-length}
@@ -231,3 +231,26 @@ be-cut m k s b e =
     ∙ sym (be-append (take m s) (replicate k 0)
     ∙ ap₂ (λ (j x : ℕ). be (take m s) * 256 ^ j + x) (length-replicate k 0) (be-zeros k)
     ∙ add-zero (be (take m s) * 256 ^ k))
+
+-- ---- the last bits of a number
+
+be-one : (s : List ℕ) → length s ≡ 1 → be s ≡ getD s 0 0
+be-one [] e = absurd (omega arith)
+be-one (b ∷ []) e = omega arith
+be-one (b ∷ c ∷ s) e = absurd (let h : length s + 2 ≡ 1 = omega arith in omega arith)
+
+-- up to eight of them are those of its last byte
+pub be-last : (s : List ℕ) (q : ℕ) → 0 < length s → q ≤ 8 → be s % 2 ^ q ≡ getD s (length s - 1) 0 % 2 ^ q
+be-last s q pos few =
+    let n : ℕ = length s - 1 in
+    let one : length (drop n s) ≡ 1 = omega (arith, length-drop n s) in
+    let last : be (drop n s) ≡ getD s n 0 = be-one (drop n s) one ∙ getD-drop n s 0 0 ∙ ap (λ (i : ℕ). getD s i 0) (add-zero n) in
+    let byte : 256 ^ 1 ≡ 2 ^ (8 - q) * 2 ^ q = (let e : 8 ≡ 8 - q + q = omega arith in ap (λ (k : ℕ). 2 ^ k) e ∙ pow-add 2 (8 - q) q) in
+    let front : ℕ = be (take n s) in
+    let whole : be s ≡ front * 2 ^ (8 - q) * 2 ^ q + getD s n 0 =
+    ap be (sym (take-append-drop n s))
+    ∙ be-append (take n s) (drop n s)
+    ∙ ap₂ (λ (k x : ℕ). front * 256 ^ k + x) one last
+    ∙ ap (λ (x : ℕ). front * x + getD s n 0) byte
+    ∙ ap (λ (x : ℕ). x + getD s n 0) (sym (mul-assoc front (2 ^ (8 - q)) (2 ^ q))) in
+    ap (λ (x : ℕ). x % 2 ^ q) whole ∙ mul-add-mod-self-right (front * 2 ^ (8 - q)) (2 ^ q) (getD s n 0)

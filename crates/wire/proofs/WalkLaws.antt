@@ -1,13 +1,13 @@
 -- Laws of reading item by item, over any step.
 -- Assumes nothing.
 use Prim.Native.Nat.{ℕ, zero, suc, _+_, _-_, _*_, _≤_, _<_}
-use mathlib.Core.Path.{_≡_, refl, sym, ap, subst}
-use mathlib.Core.List.{List, [], _∷_, _++_}
+use mathlib.Core.Path.{_≡_, refl, sym, ap, ap₂, subst, _∙_}
+use mathlib.Core.List.{List, [], _∷_, _++_, map}
 use native.Mathlib.Nat.{not-suc-le-zero, le-refl, mul-zero, mul-suc}
 use native.Mathlib.Numerals.{sub-one}
 use native.Mathlib.Omega.{arith}
 use lib.ListN.{length, take, drop, length-drop, length-append}
-use Rattle.wire.specs.Walk.{Step, took, stop, Reading, whole, refused, more, after, walk, readAll, taken, pieces, tally, flat}
+use Rattle.wire.specs.Walk.{Step, took, stop, Reading, whole, refused, more, after, walk, readAll, noted, notes, pieces, tally, flat}
 
 -- ---- the equations that a reader expects
 
@@ -67,22 +67,78 @@ module _ {S A : Type 0} (step : S → List ℕ → Step S A) (sound : Sound step
     pub all-ind : (st : S) (s : List ℕ) → P st s (readAll step st s)
     all-ind st s = go (length s) st s (le-refl (length s))
 
--- ---- the pieces that a reading takes
+-- ---- what is said of the items that a reading takes
 
+module _ {S A B : Type 0} (f : S → List ℕ → B) (step : S → List ℕ → Step S A) where
+  -- the step, with what f says in place of its value
+  abbrev says : S → List ℕ → Step S B
+  says st s = noted f s (step st s)
+
+  pub notes-nil : (st : S) → notes f step st [] ≡ []
+  unfolding notes
+  notes-nil st = ap (λ (r : Reading B). r .rows) (all-nil says st)
+
+  pub notes-stop : (st : S) (s : List ℕ) (n : ℕ) → 0 < length s → step st s ≡ stop n → notes f step st s ≡ []
+  unfolding notes
+  notes-stop st s n pos e = ap (λ (r : Reading B). r .rows) (all-stop says st s n pos (ap (noted f s) e))
+
+  pub notes-took : (st st′ : S) (s : List ℕ) (used : ℕ) (a : A) → 0 < length s → 0 < used → step st s ≡ took used a st′
+      → notes f step st s ≡ f st′ (take used s) ∷ notes f step st′ (drop used s)
+  unfolding notes
+  notes-took st st′ s used a pos up e = ap (λ (r : Reading B). r .rows) (all-took says st st′ s used (f st′ (take used s)) pos up (ap (noted f s) e))
+
+-- the pieces that it takes
 module _ {S A : Type 0} (step : S → List ℕ → Step S A) where
   pub pieces-nil : (st : S) → pieces step st [] ≡ []
-  unfolding pieces
-  pieces-nil st = ap (λ (r : Reading (List ℕ)). r .rows) (all-nil (λ st′ t. taken t (step st′ t)) st)
+  pieces-nil st = notes-nil (λ _ item. item) step st
 
   pub pieces-stop : (st : S) (s : List ℕ) (n : ℕ) → 0 < length s → step st s ≡ stop n → pieces step st s ≡ []
-  unfolding pieces
-  pieces-stop st s n pos e = ap (λ (r : Reading (List ℕ)). r .rows) (all-stop (λ st′ t. taken t (step st′ t)) st s n pos (ap (taken s) e))
+  pieces-stop st s n pos e = notes-stop (λ _ item. item) step st s n pos e
 
   pub pieces-took : (st st′ : S) (s : List ℕ) (used : ℕ) (a : A) → 0 < length s → 0 < used → step st s ≡ took used a st′
       → pieces step st s ≡ take used s ∷ pieces step st′ (drop used s)
-  unfolding pieces
-  pieces-took st st′ s used a pos up e =
-      ap (λ (r : Reading (List ℕ)). r .rows) (all-took (λ st₁ t. taken t (step st₁ t)) st st′ s used (take used s) pos up (ap (taken s) e))
+  pieces-took st st′ s used a pos up e = notes-took (λ _ item. item) step st st′ s used a pos up e
+
+-- the step behind one of which something is said
+module _ {S A B : Type 0} (f : S → List ℕ → B) (s : List ℕ) where
+  noted-took : (x : Step S A) (used : ℕ) (b : B) (st : S) → noted f s x ≡ took used b st → (a : A) × (x ≡ took used a st)
+  noted-took (took u a st₁) used b st e = (a, let p : u ≡ used = cc in let q : st₁ ≡ st = cc in ap₂ (λ (n : ℕ) (st₂ : S). took n a st₂) p q)
+  noted-took (stop n) used b st e = let z : _≡_ {A = ℕ} 0 1 = cc in absurd (omega arith)
+
+  noted-stop : (x : Step S A) (n : ℕ) → noted f s x ≡ stop n → x ≡ stop n
+  noted-stop (took u a st₁) n e = let z : _≡_ {A = ℕ} 0 1 = cc in absurd (omega arith)
+  noted-stop (stop m) n e = let p : m ≡ n = cc in ap stop p
+
+module _ {S A B : Type 0} (f : S → List ℕ → B) (step : S → List ℕ → Step S A) (sound : Sound step) where
+  pub noted-sound : Sound (says f step)
+  noted-sound = record {
+    takes = λ st st′ s used b e. (let t = noted-took f s (step st s) used b st′ e in sound .takes st st′ s used (t .0) (t .1));
+    names = λ st s n e. sound .names st s n (noted-stop f s (step st s) n e);
+  }
+
+  -- something is said of as many items as are read, up to the same verdict
+  pub noted-alike : (st : S) (s : List ℕ) → (readAll (says f step) st s .verdict ≡ readAll step st s .verdict) × (length (notes f step st s) ≡ length (readAll step st s .rows))
+  unfolding notes
+  noted-alike =
+      all-ind step sound (λ st s r. (readAll (says f step) st s .verdict ≡ r .verdict) × (length (readAll (says f step) st s .rows) ≡ length (r .rows)))
+      (λ st. let e = all-nil (says f step) st in (ap (λ (r : Reading B). r .verdict) e, ap (λ (r : Reading B). length (r .rows)) e))
+      (λ st s n pos e.
+      let g = all-stop (says f step) st s n pos (ap (noted f s) e) in
+      (ap (λ (r : Reading B). r .verdict) g, ap (λ (r : Reading B). length (r .rows)) g))
+      (λ st st′ s used a pos e again.
+      let g = all-took (says f step) st st′ s used (f st′ (take used s)) pos (sound .takes st st′ s used a e .0) (ap (noted f s) e) in
+      (ap (λ (r : Reading B). r .verdict) g ∙ again .0, ap (λ (r : Reading B). length (r .rows)) g ∙ ap suc (again .1)))
+
+  -- where f says the same of an item in whichever state its step leaves, it is said of the pieces
+  pub notes-pieces : (g : List ℕ → B) → ((st st′ : S) (s : List ℕ) (used : ℕ) (a : A) → step st s ≡ took used a st′ → f st′ (take used s) ≡ g (take used s))
+      → (st : S) (s : List ℕ) → notes f step st s ≡ map g (pieces step st s)
+  notes-pieces g same =
+      all-ind step sound (λ st s r. notes f step st s ≡ map g (pieces step st s))
+      (λ st. notes-nil f step st ∙ ap (map g) (sym (pieces-nil step st)))
+      (λ st s n pos e. notes-stop f step st s n pos e ∙ ap (map g) (sym (pieces-stop step st s n pos e)))
+      (λ st st′ s used a pos e again.
+      let up = sound .takes st st′ s used a e .0 in
+      notes-took f step st st′ s used a pos up e ∙ ap₂ _∷_ (same st st′ s used a e) again ∙ ap (map g) (sym (pieces-took step st st′ s used a pos up e)))
 
 -- ---- sums and places of values
 

@@ -37,14 +37,18 @@ walk step st (suc k) (b ∷ s) = walk step st k s
 unfoldable pub readAll : {S A : Type 0} → (S → List ℕ → Step S A) → S → List ℕ → Reading A
 readAll step st s = walk step st 0 s
 
--- the same step, whose value is the places that it takes
-abbrev pub taken : {S A : Type 0} → List ℕ → Step S A → Step S (List ℕ)
-taken s (took used a st) = took used (take used s) st
-taken s (stop n) = stop n
+-- the same step, whose value is what f says of the state that it leaves and of the places that it takes
+abbrev pub noted : {S A B : Type 0} → (S → List ℕ → B) → List ℕ → Step S A → Step S B
+noted f s (took used a st) = took used (f st (take used s)) st
+noted f s (stop n) = stop n
 
--- the places of each item that a reading takes, before its refusal
-unfoldable pub pieces : {S A : Type 0} → (S → List ℕ → Step S A) → S → List ℕ → List (List ℕ)
-pieces step st s = readAll (λ st′ t. taken t (step st′ t)) st s .rows
+-- what f says of each item that a reading takes, before its refusal
+unfoldable pub notes : {S A B : Type 0} → (S → List ℕ → B) → (S → List ℕ → Step S A) → S → List ℕ → List B
+notes f step st s = readAll (λ st′ t. noted f t (step st′ t)) st s .rows
+
+-- the places of each item
+abbrev pub pieces : {S A : Type 0} → (S → List ℕ → Step S A) → S → List ℕ → List (List ℕ)
+pieces step st s = notes (λ _ item. item) step st s
 
 -- the sum of a weight over values
 unfoldable pub tally : {A : Type 0} → (A → ℕ) → List A → ℕ
