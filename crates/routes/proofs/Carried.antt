@@ -1,7 +1,7 @@
 -- A loop that carries the bytes from the octets of the item before on, and how many these are: what it reads next, and what it counts.
 -- Assumes nothing.
-use Prim.Native.Nat.{ℕ, _+_, _-_, _≤_, _<_}
-use mathlib.Core.Path.{_≡_, refl, sym, ap, _∙_}
+use Prim.Native.Nat.{ℕ, _+_, _-_, _*_, _≤_, _<_}
+use mathlib.Core.Path.{_≡_, refl, sym, ap, subst, _∙_}
 use mathlib.Core.List.{List}
 use native.Mathlib.Nat.{lt-of-not-le}
 use native.Mathlib.Decide.{decLe}
@@ -10,24 +10,24 @@ use lib.ListN.{length, getD, take, drop, length-drop}
 use lib.Seq.{drop-drop, getD-drop}
 use Rattle.wire.proofs.ChoiceLaws.{pick-eqb}
 use Rattle.wire.proofs.Turn.{rest}
-use Rattle.wire.specs.Answer.{unpacked}
 use Rattle.wire.specs.Refusal.{truncated, prefixLength, pastAll, listLimit}
-use Rattle.wire.specs.Walk.{readAll, took, stop}
+use Rattle.wire.specs.Walk.{took, stop}
 use Rattle.families.specs.Family.{idSize}
 use Rattle.families.specs.Octets.{refusedLength, entry}
 use Rattle.families.proofs.FamilyLaws.{id-one}
 use Rattle.families.specs.declared.AddPath.{AddPath}
 use Rattle.families.specs.declared.Form.{Form}
-use Rattle.routes.specs.List.{Reader, asStep, fixed, stepBy, listBy}
+use Rattle.routes.specs.Prefix.{hostBits}
+use Rattle.routes.specs.List.{Reader, asStep, fixed, stepBy}
 use Rattle.routes.specs.ByTable.{endBy, byTable}
-use Rattle.routes.specs.Promises.{sized, countAnswer}
-use Rattle.routes.specs.Private.{countUpTo}
+use Rattle.routes.specs.Promises.{sized, hostUnit}
+use Rattle.routes.specs.Private.{countUpTo, pastLength, weightOf}
 use Rattle.routes.specs.declared.Row.{Row}
-use Rattle.routes.specs.declared.ListAnswer.the-variants.{Rows, Refused}
 use Rattle.routes.specs.declared.StepAnswer.{StepAnswer}
 use Rattle.routes.specs.declared.StepAnswer.the-variants as S
 use Rattle.routes.specs.declared.StepAnswer.the-variants.{Item}
-use Rattle.routes.proofs.ListLaws.{Fair, Packed, packed-start, packed-step, packed-stop, packed-done, step-item, turn-took, turn-refused, fixed-step, list-fixed}
+use Rattle.routes.proofs.ListLaws.{Fair, Tells, TellsList, tells-fixed, Packed, packed-start, packed-step, packed-few, packed-stop, packed-done, step-item, turn-took, turn-refused, fixed-step}
+use Rattle.routes.proofs.HostLaws.{host-at}
 use Rattle.routes.proofs.TableLaws.{table-none, table-long, table-short, table-took, table-size, fair-table}
 
 -- ---- what is carried
@@ -81,13 +81,17 @@ module _ (read : Reader) (fair : Fair read) (mode : AddPath) (st₀ : Form) (s :
     long : length left - n ≡ length s - h .at
     long = behind-long s left n (h .at) (h .behind)
 
-    pub carried-step : (used : ℕ) (row : Row) (st′ : Form) → stepBy read mode st (drop n left) ≡ took used row st′ → (b m : ℕ) → used ≡ b + m
-        → (n + used ≤ length left) × (count < pastAll + length s) × Carried read mode st₀ s (take (length left - (n + b)) (drop (n + b) left)) m st′ (count + 1)
-    carried-step used row st′ e b m size =
-        let next = packed-step read fair mode st₀ s st (h .at) count (h .packed) used row st′ (ap (stepBy read mode st) (sym (h .behind .is)) ∙ e) in
+    -- what is counted so far
+    pub carried-few : count ≤ pastAll + (1 + hostUnit) * length s
+    carried-few = packed-few read fair mode st₀ s st (h .at) count (h .packed)
+
+    pub carried-step : (used : ℕ) (row : Row) (st′ : Form) → stepBy read mode st (drop n left) ≡ took used row st′ → (w : ℕ) → w ≡ weightOf (hostBits st′ (take used (drop n left)))
+        → (b m : ℕ) → used ≡ b + m → (n + used ≤ length left) × Carried read mode st₀ s (take (length left - (n + b)) (drop (n + b) left)) m st′ (count + w)
+    carried-step used row st′ e w is b m size =
+        let here : w ≡ weightOf (hostBits st′ (take used (drop (h .at) s))) = is ∙ ap (λ (l : List ℕ). weightOf (hostBits st′ (take used l))) (h .behind .is) in
+        let next = packed-step read fair mode st₀ s st (h .at) count (h .packed) used row st′ (ap (stepBy read mode st) (sym (h .behind .is)) ∙ e) w here in
         let fits : n + used ≤ length left = omega (arith, next .0, next .1, long, h .behind .within) in (
           fits,
-          omega (arith, next .0, next .1, h .packed .counted .few, h .packed .past),
           record {
             at = h .at + used;
             behind = behind-next s left n (h .at) (h .behind) b m (h .at + used) (ap (λ (i : ℕ). h .at + i) size) (omega arith);
@@ -96,56 +100,62 @@ module _ (read : Reader) (fair : Fair read) (mode : AddPath) (st₀ : Form) (s :
         )
 
     module _ (small : length s ≤ listLimit) where
-      pub carried-stop : (why : ℕ) → n < length left → stepBy read mode st (drop n left) ≡ stop why → unpacked Rows Refused why ≡ countAnswer s (readAll (stepBy read mode) st₀ s)
+      pub carried-stop : (why : ℕ) → n < length left → stepBy read mode st (drop n left) ≡ stop why → Tells read mode st₀ s why
       carried-stop why lt e = packed-stop read fair mode st₀ s st (h .at) count (h .packed) small why (omega (arith, long)) (ap (stepBy read mode st) (sym (h .behind .is)) ∙ e)
 
-      pub carried-done : length left ≤ n → unpacked Rows Refused count ≡ countAnswer s (readAll (stepBy read mode) st₀ s)
+      pub carried-done : length left ≤ n → Tells read mode st₀ s count
       carried-done le = packed-done read fair mode st₀ s st (h .at) count (h .packed) small (omega (arith, long))
 
 -- ---- of whichever items a step takes, by a table
 
 module _ (counts : List ℕ) (mode : AddPath) (st₀ : Form) (s left : List ℕ) (n : ℕ) (st : Form) (count : ℕ) (h : Carried (byTable counts) mode st₀ s left n st count) (r : StepAnswer)
     (told : r ≡ sized (stepBy (byTable counts) mode st (drop n left))) where
-  pub sized-next : (used : ℕ) (form : Form) → r ≡ Item used form → (b : ℕ) → b ≡ idSize form + 1
-      → (b ≤ used) × (n + used ≤ length left) × (count < pastAll + length s) × (length (take (length left - (n + b)) (drop (n + b) left)) - (used - b) < length left - n)
-      × Carried (byTable counts) mode st₀ s (take (length left - (n + b)) (drop (n + b) left)) (used - b) form (count + 1)
-  sized-next used form f b bytes =
+  -- the item is there, and has its id and length byte
+  pub sized-fits : (used : ℕ) (form : Form) → r ≡ Item used form → (idSize form + 1 ≤ used) × (n + used ≤ length left)
+  sized-fits used form f =
       let took = turn-took (byTable counts) (drop n left) mode st r told (fair-table counts) used form f in
-      let size = table-size counts (drop n left) form used _ (step-item (byTable counts) mode st form (drop n left) used _ took) in
-      let enough : b ≤ used = omega (arith, bytes, size) in
-      let next = carried-step (byTable counts) (fair-table counts) mode st₀ s left n st count h used _ form took b (used - b) (omega arith) in
-      (enough, next .0, next .1, omega (arith, bytes, enough, next .0, ap length (rest left (n + b)), length-drop (n + b) left), next .2)
+      let item = step-item (byTable counts) mode st form (drop n left) used _ took in
+      let there = fair-table counts .takes (drop n left) form used _ item in
+      (omega (arith, table-size counts (drop n left) form used _ item), omega (arith, there .1, length-drop n left, h .behind .within))
 
-  pub sized-stop : length s ≤ listLimit → n < length left → (why : ℕ) → r ≡ S.Refused why → unpacked Rows Refused why ≡ countAnswer s (readAll (stepBy (byTable counts) mode) st₀ s)
+  pub sized-next : (used : ℕ) (form : Form) → r ≡ Item used form → (w : ℕ) → w ≡ weightOf (hostBits form (take used (drop n left))) → (b : ℕ) → b ≡ idSize form + 1
+      → (length (take (length left - (n + b)) (drop (n + b) left)) - (used - b) < length left - n)
+      × Carried (byTable counts) mode st₀ s (take (length left - (n + b)) (drop (n + b) left)) (used - b) form (count + w)
+  sized-next used form f w is b bytes =
+      let took = turn-took (byTable counts) (drop n left) mode st r told (fair-table counts) used form f in
+      let fits = sized-fits used form f in
+      let next = carried-step (byTable counts) (fair-table counts) mode st₀ s left n st count h used _ form took w is b (used - b) (omega (arith, bytes, fits .0)) in
+      (omega (arith, bytes, fits .0, fits .1, ap length (rest left (n + b)), length-drop (n + b) left), next .1)
+
+  pub sized-stop : length s ≤ listLimit → n < length left → (why : ℕ) → r ≡ S.Refused why → Tells (byTable counts) mode st₀ s why
   sized-stop small lt why f =
       carried-stop (byTable counts) (fair-table counts) mode st₀ s left n st count h small why lt (turn-refused (byTable counts) (drop n left) mode st r told why f)
 
 -- ---- of items in one form, by a table
 
 module _ (counts : List ℕ) (form : Form) (s left : List ℕ) (n count : ℕ) (h : Carried (byTable counts) (fixed form) form s left n form count) (small : length s ≤ listLimit) where
-  as-list : countAnswer s (readAll (stepBy (byTable counts) (fixed form)) form s) ≡ countAnswer s (listBy (byTable counts) s (fixed form))
-  as-list = ap (countAnswer s) (sym (list-fixed (byTable counts) s form))
+  refused : (why : ℕ) → n < length left → asStep form (byTable counts (drop n left) form) ≡ stop why → TellsList (byTable counts) (fixed form) s why
+  refused why lt e =
+      tells-fixed (byTable counts) form s why
+      (carried-stop (byTable counts) (fair-table counts) (fixed form) form s left n form count h small why lt (fixed-step (byTable counts) form form (drop n left) ∙ e))
 
-  refused : (why : ℕ) → n < length left → asStep form (byTable counts (drop n left) form) ≡ stop why → unpacked Rows Refused why ≡ countAnswer s (listBy (byTable counts) s (fixed form))
-  refused why lt e = carried-stop (byTable counts) (fair-table counts) (fixed form) form s left n form count h small why lt (fixed-step (byTable counts) form form (drop n left) ∙ e) ∙ as-list
-
-  form-done : n ≡ length left → unpacked Rows Refused count ≡ countAnswer s (listBy (byTable counts) s (fixed form))
-  form-done e = carried-done (byTable counts) (fair-table counts) (fixed form) form s left n form count h small (omega arith) ∙ as-list
+  form-done : n ≡ length left → TellsList (byTable counts) (fixed form) s count
+  form-done e = tells-fixed (byTable counts) form s count (carried-done (byTable counts) (fair-table counts) (fixed form) form s left n form count h small (omega arith))
 
   module _ (b : ℕ) (bytes : b ≡ idSize form + 1) where
     -- the id or the length byte is not there
-    form-cut : length left < n + b → (n ≡ length left → ⊥) → unpacked Rows Refused truncated ≡ countAnswer s (listBy (byTable counts) s (fixed form))
+    form-cut : length left < n + b → (n ≡ length left → ⊥) → TellsList (byTable counts) (fixed form) s truncated
     form-cut lack some =
         refused truncated (omega (arith, some, h .behind .within)) (ap (asStep form) (table-none counts (drop n left) form (omega (arith, bytes, length-drop n left))))
 
-    module _ (there : n + b ≤ length left) (m : ℕ) (says : m ≡ entry counts (getD left (n + idSize form) 0)) where
+    module _ (there : n + b ≤ length left) (bits m : ℕ) (byte : bits ≡ getD left (n + idSize form) 0) (says : m ≡ entry counts bits) where
       front : idSize form < length (drop n left)
       front = omega (arith, bytes, length-drop n left)
 
       here : entry counts (getD (drop n left) (idSize form) 0) ≡ m
-      here = ap (entry counts) (getD-drop n left (idSize form) 0) ∙ sym says
+      here = ap (entry counts) (getD-drop n left (idSize form) 0 ∙ sym byte) ∙ sym says
 
-      form-long : m ≡ refusedLength → unpacked Rows Refused prefixLength ≡ countAnswer s (listBy (byTable counts) s (fixed form))
+      form-long : m ≡ refusedLength → TellsList (byTable counts) (fixed form) s prefixLength
       form-long e = refused prefixLength (omega (arith, bytes)) (ap (asStep form) (table-long counts (drop n left) form front (here ∙ e)))
 
       module _ (known : m ≡ refusedLength → ⊥) where
@@ -155,16 +165,19 @@ module _ (counts : List ℕ) (form : Form) (s left : List ℕ) (n count : ℕ) (
         known-here : entry counts (getD (drop n left) (idSize form) 0) ≡ refusedLength → ⊥
         known-here e = known (sym here ∙ e)
 
-        form-short : length left < n + b + m → unpacked Rows Refused truncated ≡ countAnswer s (listBy (byTable counts) s (fixed form))
+        form-short : length left < n + b + m → TellsList (byTable counts) (fixed form) s truncated
         form-short lack =
             refused truncated (omega (arith, bytes)) (ap (asStep form) (table-short counts (drop n left) form front known-here (omega (arith, end, length-drop n left))))
 
-        form-next : n + b + m ≤ length left
-            → (count < pastAll + length s) × Carried (byTable counts) (fixed form) form s (take (length left - (n + b)) (drop (n + b) left)) m form (count + 1)
-        form-next fits =
+        -- its last byte is looked at
+        form-next : n + b + m ≤ length left → (last w : ℕ) → last ≡ getD left (n + idSize form + m) 0 → w ≡ weightOf (pastLength bits last)
+            → Carried (byTable counts) (fixed form) form s (take (length left - (n + b)) (drop (n + b) left)) m form (count + w)
+        form-next fits last w is adds =
             let t = table-took counts (drop n left) form front known-here (omega (arith, end, length-drop n left)) in
-            let next = carried-step (byTable counts) (fair-table counts) (fixed form) form s left n form count h _ _ form (fixed-step (byTable counts) form form (drop n left) ∙ ap (asStep form) t) b m end in
-            (next .1, next .2)
+            let place : n + idSize form + m ≡ n + endBy counts form (drop n left) - 1 = omega (arith, end, bytes) in
+            let host = host-at left n (endBy counts form (drop n left)) form bits last (omega (arith, end, bytes)) (omega (arith, end)) byte (is ∙ ap (λ (i : ℕ). getD left i 0) place) in
+            carried-step (byTable counts) (fair-table counts) (fixed form) form s left n form count h _ _ form (fixed-step (byTable counts) form form (drop n left) ∙ ap (asStep form) t)
+            w (adds ∙ ap weightOf host) b m end .1
 
 -- ---- the same, where the loop passes over the bytes of an id as well
 
@@ -183,10 +196,10 @@ headed-start counts s form k e le =
 
 -- a list with no room for an id
 pub headed-none : (counts s : List ℕ) (form : Form) (k : ℕ) → k ≡ idSize form → length s ≤ listLimit → length s < k
-    → unpacked Rows Refused (countUpTo (length s) 0 pastAll) ≡ countAnswer s (listBy (byTable counts) s (fixed form))
+    → TellsList (byTable counts) (fixed form) s (countUpTo (length s) 0 pastAll)
 headed-none counts s form k e small lack =
     let start = carried-start (byTable counts) (fair-table counts) (fixed form) form s in
-    pick-eqb (λ (x : ℕ). unpacked Rows Refused x ≡ countAnswer s (listBy (byTable counts) s (fixed form))) (length s) 0 pastAll truncated
+    pick-eqb (λ (x : ℕ). TellsList (byTable counts) (fixed form) s x) (length s) 0 pastAll truncated
     (λ none. form-done counts form s s 0 pastAll start small (sym none))
     (λ some. form-cut counts form s s 0 pastAll start small (idSize form + 1) refl (omega (arith, e, lack)) (λ none. some (sym none)))
 
@@ -197,34 +210,44 @@ module _ (counts s : List ℕ) (k : ℕ) (head : List ℕ) (n count : ℕ) (h : 
   bytes : k + 1 ≡ idSize (h .form) + 1
   bytes = ap (λ (i : ℕ). i + 1) (h .ids)
 
-  -- what is carried is some of the list, and so is what was counted
-  pub headed-few : (n ≤ length head + k) × (length head + k ≤ length s) × (count ≤ pastAll + length s)
+  -- a byte of what follows the id
+  byte-at : (i j : ℕ) → j ≡ k + i → getD head i 0 ≡ getD (h .left) j 0
+  byte-at i j e = ap (λ (l : List ℕ). getD l i 0) (h .is) ∙ getD-drop k (h .left) i 0 ∙ ap (λ (x : ℕ). getD (h .left) x 0) (sym e)
+
+  -- what is carried is some of the list, and what was counted weighs no more than its bytes
+  pub headed-few : (n ≤ length head + k) × (length head + k ≤ length s) × (count ≤ pastAll + (1 + hostUnit) * length s)
   headed-few =
-      let c = h .carried in
-      (omega (arith, room, h .long, c .behind .within), omega (arith, room, h .long, c .behind .part), omega (arith, c .packed .past, c .packed .counted .few, c .packed .counted .within))
+      let c = h .carried in (
+        omega (arith, room, h .long, c .behind .within),
+        omega (arith, room, h .long, c .behind .part),
+        carried-few (byTable counts) (fair-table counts) (fixed (h .form)) (h .form) s (h .left) n (h .form) count c,
+      )
 
   module _ (form : Form) (same : k ≡ idSize form) where
-    answer : (r : ℕ) → unpacked Rows Refused r ≡ countAnswer s (listBy (byTable counts) s (fixed (h .form))) → unpacked Rows Refused r ≡ countAnswer s (listBy (byTable counts) s (fixed form))
-    answer r e = e ∙ ap (λ (f : Form). countAnswer s (listBy (byTable counts) s (fixed f))) (id-one (h .form) form (sym (h .ids) ∙ same))
+    answer : (r : ℕ) → TellsList (byTable counts) (fixed (h .form)) s r → TellsList (byTable counts) (fixed form) s r
+    answer r e = subst (λ (f : Form). TellsList (byTable counts) (fixed f) s r) (id-one (h .form) form (sym (h .ids) ∙ same)) e
 
-    pub headed-done : length head < n + 1 → unpacked Rows Refused (countUpTo (length head + k) n count) ≡ countAnswer s (listBy (byTable counts) s (fixed form))
+    -- fewer bytes than an id and a length byte are left: the list ends there, or what follows is cut
+    ending : length (h .left) < n + (k + 1) → TellsList (byTable counts) (fixed form) s (countUpTo (length (h .left)) n count)
+    ending lack =
+        pick-eqb (λ (x : ℕ). TellsList (byTable counts) (fixed form) s x) (length (h .left)) n count truncated
+        (λ all. answer count (form-done counts (h .form) s (h .left) n count (h .carried) small (sym all)))
+        (λ some. answer truncated (form-cut counts (h .form) s (h .left) n count (h .carried) small (k + 1) bytes lack (λ all. some (sym all))))
+
+    pub headed-done : length head < n + 1 → TellsList (byTable counts) (fixed form) s (countUpTo (length head + k) n count)
     headed-done none =
-        pick-eqb (λ (x : ℕ). unpacked Rows Refused x ≡ countAnswer s (listBy (byTable counts) s (fixed form))) (length head + k) n count truncated
-        (λ all. answer count (form-done counts (h .form) s (h .left) n count (h .carried) small (omega (arith, all, room, h .long))))
-        (λ some. answer truncated
-        (form-cut counts (h .form) s (h .left) n count (h .carried) small (k + 1) bytes (omega (arith, none, room, h .long)) (λ all. some (omega (arith, all, room, h .long)))))
+        let all : length head + k ≡ length (h .left) = omega (arith, room, h .long) in
+        rw all (ending (omega (arith, none, room, h .long)))
 
-    module _ (there : n + 1 ≤ length head) (m : ℕ) (says : m ≡ entry counts (getD head n 0)) where
+    module _ (there : n + 1 ≤ length head) (bits m : ℕ) (byte : bits ≡ getD head n 0) (says : m ≡ entry counts bits) where
       whole : n + (k + 1) ≤ length (h .left)
       whole = omega (arith, there, room, h .long)
 
-      said : m ≡ entry counts (getD (h .left) (n + idSize (h .form)) 0)
-      said =
-          let place : k + n ≡ n + idSize (h .form) = omega (arith, h .ids) in
-          says ∙ ap (λ (l : List ℕ). entry counts (getD l n 0)) (h .is) ∙ ap (entry counts) (getD-drop k (h .left) n 0 ∙ ap (λ (i : ℕ). getD (h .left) i 0) place)
+      said : bits ≡ getD (h .left) (n + idSize (h .form)) 0
+      said = byte ∙ byte-at n (n + idSize (h .form)) (omega (arith, h .ids))
 
-      pub headed-long : m ≡ refusedLength → unpacked Rows Refused prefixLength ≡ countAnswer s (listBy (byTable counts) s (fixed form))
-      headed-long e = answer prefixLength (form-long counts (h .form) s (h .left) n count (h .carried) small (k + 1) bytes whole m said e)
+      pub headed-long : m ≡ refusedLength → TellsList (byTable counts) (fixed form) s prefixLength
+      headed-long e = answer prefixLength (form-long counts (h .form) s (h .left) n count (h .carried) small (k + 1) bytes whole bits m said says e)
 
       -- from the item's octets on
       module _ (known : m ≡ refusedLength → ⊥) (after : List ℕ) (e : after ≡ take (length head - (n + 1)) (drop (n + 1) head)) where
@@ -236,22 +259,29 @@ module _ (counts s : List ℕ) (k : ℕ) (head : List ℕ) (n count : ℕ) (h : 
         size : length after ≡ length (h .left) - (n + (k + 1))
         size = ap length from ∙ ap length (rest (h .left) (n + (k + 1))) ∙ length-drop (n + (k + 1)) (h .left)
 
-        taken : m ≤ length after → Carried (byTable counts) (fixed (h .form)) (h .form) s after m (h .form) (count + 1)
-        taken fits = rw from (form-next counts (h .form) s (h .left) n count (h .carried) small (k + 1) bytes whole m said known (omega (arith, fits, size, whole)) .1)
+        -- they are not all there
+        pub headed-short : length after < m → TellsList (byTable counts) (fixed form) s truncated
+        headed-short lack =
+            answer truncated (form-short counts (h .form) s (h .left) n count (h .carried) small (k + 1) bytes whole bits m said says known (omega (arith, lack, size, whole)))
 
-        -- it is the last, or what follows is cut
-        pub headed-last : length after < m + k → unpacked Rows Refused (countUpTo (length after) m (count + 1)) ≡ countAnswer s (listBy (byTable counts) s (fixed form))
-        headed-last lack =
-            pick-eqb (λ (x : ℕ). unpacked Rows Refused x ≡ countAnswer s (listBy (byTable counts) s (fixed form))) (length after) m (count + 1) truncated
-            (λ all. answer (count + 1) (form-done counts (h .form) s after m (count + 1) (taken (omega (arith, all))) small (sym all)))
-            (λ some. answer truncated
-            (elim (decLe m (length after)) [
-              | yes le ↦ form-cut counts (h .form) s after m (count + 1) (taken le) small (k + 1) bytes (omega (arith, lack)) (λ all. some (sym all))
-              | no gt ↦ form-short counts (h .form) s (h .left) n count (h .carried) small (k + 1) bytes whole m said known (omega (arith, lt-of-not-le gt, size, whole))
-            ]))
+        -- or are, and its last byte is looked at
+        module _ (fits : m ≤ length after) (last w : ℕ) (is : last ≡ getD head (n + m) 0) (adds : w ≡ weightOf (pastLength bits last)) where
+          taken : Carried (byTable counts) (fixed (h .form)) (h .form) s after m (h .form) (count + w)
+          taken =
+              rw from
+              (form-next counts (h .form) s (h .left) n count (h .carried) small (k + 1) bytes whole bits m said says known (omega (arith, fits, size, whole)) last w
+              (is ∙ byte-at (n + m) (n + idSize (h .form) + m) (omega (arith, h .ids))) adds)
 
-        pub headed-next : m + k ≤ length after → Headed counts s k (take (length after - k) (drop k after)) m (count + 1) × (length (take (length after - k) (drop k after)) - m < length head - n)
-        headed-next fits = (
-          record { form = h .form; left = after; ids = h .ids; long = omega (arith, fits); is = rest after k; carried = taken (omega (arith, fits)) },
-          omega (arith, fits, there, size, room, h .long, ap length (rest after k), length-drop k after),
-        )
+          -- it is the last, or what follows is cut
+          pub headed-last : length after < m + k → TellsList (byTable counts) (fixed form) s (countUpTo (length after) m (count + w))
+          headed-last lack =
+              pick-eqb (λ (x : ℕ). TellsList (byTable counts) (fixed form) s x) (length after) m (count + w) truncated
+              (λ all. answer _ (form-done counts (h .form) s after m _ taken small (sym all)))
+              (λ some. answer truncated (form-cut counts (h .form) s after m _ taken small (k + 1) bytes (omega (arith, lack)) (λ all. some (sym all))))
+
+          pub headed-next : m + k ≤ length after
+              → Headed counts s k (take (length after - k) (drop k after)) m (count + w) × (length (take (length after - k) (drop k after)) - m < length head - n)
+          headed-next more = (
+            record { form = h .form; left = after; ids = h .ids; long = omega (arith, more); is = rest after k; carried = taken },
+            omega (arith, more, there, size, room, h .long, ap length (rest after k), length-drop k after),
+          )

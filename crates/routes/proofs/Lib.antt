@@ -1,4 +1,5 @@
 pub mod PrefixLaws
+pub mod HostLaws
 pub mod ListLaws
 pub mod CuttingLaws
 pub mod TableLaws

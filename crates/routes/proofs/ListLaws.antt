@@ -1,6 +1,6 @@
 -- Laws of a step under any setting, whatever reads one item, and of a list's answers.
 -- Assumes nothing.
-use Prim.Native.Nat.{ℕ, zero, suc, _+_, _-_, _*_, _/_, _≤_, _<_}
+use Prim.Native.Nat.{ℕ, zero, suc, _+_, _-_, _*_, _/_, _%_, _≤_, _<_}
 use mathlib.Core.Path.{_≡_, refl, sym, ap, ap₂, _∙_}
 use mathlib.Core.List.{List, [], _∷_}
 use mathlib.Core.Bool.{Bool, true, false, not}
@@ -10,20 +10,21 @@ use native.Mathlib.Decide.{decLe}
 use native.Mathlib.Omega.{arith}
 use borrow.Author.Tests.{le-leb, lt-leb, eqb-true}
 use lib.ListN.{length, getD, take, drop}
-use Rattle.wire.specs.Answer.{given, filled, answerBy, unpacked}
+use Rattle.wire.specs.Answer.{given, valueIn, filled, answerBy, flag}
 use Rattle.wire.proofs.AnswerLaws.{answer-refused, unpacked-count, unpacked-refused}
 use Rattle.wire.specs.Choice.{pick}
 use Rattle.wire.proofs.ChoiceLaws.{pick-leb}
 use Rattle.wire.specs.Refusal.{tooLong, oneByteSection, noRoom, pastAll, listLimit}
 use Rattle.wire.specs.Store.{laid}
-use Rattle.wire.proofs.Turn.{Light, Counted, turn-fits, count-start, count-step, count-stop, count-done}
-use Rattle.wire.specs.Walk.{readAll, Step, took, stop, Reading, refused, tally, flat}
-use Rattle.wire.proofs.WalkLaws.{Sound, tally-one, flat-length, all-blind}
-use Rattle.routes.specs.Prefix.{itemRow, words}
+use Rattle.wire.proofs.Turn.{Light, Counted, turn-fits, count-start, count-step, count-stop, count-done, tally-few}
+use Rattle.wire.specs.Walk.{readAll, Step, took, stop, Reading, refused, noted, notes, tally, flat}
+use Rattle.wire.proofs.WalkLaws.{Sound, tally-one, flat-length, all-blind, noted-sound, noted-alike}
+use Rattle.routes.specs.Prefix.{itemRow, words, hostBits}
 use Rattle.routes.proofs.PrefixLaws.{Took, prefix-took, prefix-names}
-use Rattle.routes.specs.List.{Reader, upTo, asStep, inForm, plainHere, tried, guessForm, formBy, fixed, stepBy, stepOf, listBy, strange, sectionBy}
-use Rattle.routes.specs.Promises.{sized, listMeaning, rowsIn, countAnswer, hasRoom, readAnswer, storeAfter}
-use Rattle.routes.specs.Private.{sizeOf, kept}
+use Rattle.routes.specs.List.{Reader, upTo, asStep, inForm, plainHere, tried, guessForm, formBy, fixed, stepBy, stepOf, listBy, hostsBy, strange, sectionBy}
+use Rattle.routes.specs.Promises.{sized, listMeaning, countAnswer, hasRoom, readAnswer, storeAfter, withHosts, hostUnit, inOne}
+use Rattle.routes.specs.Private.{sizeOf, kept, weightOf}
+use Rattle.routes.proofs.HostLaws.{weight-few, tally-weights}
 use Rattle.families.specs.declared.Form.{Form}
 use Rattle.families.specs.declared.Form.the-variants.{Plain, Tagged}
 use Rattle.families.specs.declared.AddPath.{AddPath}
@@ -36,6 +37,7 @@ use Rattle.routes.specs.declared.StepAnswer.{StepAnswer}
 use Rattle.routes.specs.declared.StepAnswer.the-variants as S
 use Rattle.routes.specs.declared.ListAnswer.{ListAnswer}
 use Rattle.routes.specs.declared.ListAnswer.the-variants as L
+use Rattle.routes.specs.declared.RoutesAnswer.{RoutesAnswer}
 
 zero-ne-one : _≡_ {A = ℕ} 0 1 → ⊥
 zero-ne-one e = omega arith
@@ -85,6 +87,13 @@ module _ (read : Reader) (fair : Fair read) (mode : AddPath) where
   -- a row weighs one in a count
   pub light-by : Light (stepBy read mode) (λ _. 1) 1
   light-by st st′ s used row e = omega (arith, sound-by .takes st st′ s used row e)
+
+  -- and in one number by whether its item has a host bit
+  pub host-sound : Sound (λ st s. noted hostBits s (stepBy read mode st s))
+  host-sound = noted-sound hostBits (stepBy read mode) sound-by
+
+  host-light : Light (λ st s. noted hostBits s (stepBy read mode st s)) weightOf (1 + hostUnit)
+  host-light st st′ s used host e = omega (arith, host-sound .takes st st′ s used host e .0, weight-few host .1)
 
 -- ---- at most so many bits
 
@@ -191,6 +200,14 @@ list-fixed read s form =
     (λ st st′ t. ap (λ (f : Form). inForm read f t) (fixed-form read form st t ∙ sym (fixed-form read form st′ t)))
     Plain form s
 
+pub hosts-fixed : (read : Reader) (s : List ℕ) (form : Form) → hostsBy read s (fixed form) ≡ tally flag (notes hostBits (stepBy read (fixed form)) form s)
+unfolding hostsBy notes stepBy
+hosts-fixed read s form =
+    ap (λ (r : Reading Bool). tally flag (r .rows))
+    (all-blind (λ st t. noted hostBits t (inForm read (formBy read (fixed form) st t) t))
+    (λ st st′ t. ap (λ (f : Form). noted hostBits t (inForm read f t)) (fixed-form read form st t ∙ sym (fixed-form read form st′ t)))
+    Plain form s)
+
 -- ---- a list's answers, over any reading
 
 pub words-length : (rows : List Row) → length (flat words rows) ≡ 6 * length rows
@@ -201,19 +218,32 @@ answer-rows zero n m e = (refl, cc)
 answer-rows (suc v) n m e = let z : _≡_ {A = ℕ} 0 1 = cc in absurd (zero-ne-one z)
 
 -- the number that stands for an answer, and that there is one
-abbrev numberOf : ListAnswer → ℕ
-numberOf (L.Rows n) = pastAll + n
-numberOf (L.Refused n) = n
+abbrev numberOf : ListAnswer → ℕ → ℕ
+numberOf (L.Rows n) hosts = pastAll + (n + hostUnit * hosts)
+numberOf (L.Refused n) hosts = n
 
-pub one-number : (n m : ℕ) → unpacked L.Rows L.Refused n ≡ unpacked L.Rows L.Refused m → n ≡ m
-one-number n m e = back n ∙ ap numberOf e ∙ sym (back m)
+-- what a number stands for: a count from `pastAll` on, and a refusal before
+pub one-count : (v : ℕ) → pastAll ≤ v → inOne v ≡ record { list = L.Rows ((v - pastAll) % hostUnit); hosts = (v - pastAll) / hostUnit }
+one-count v h = unpacked-count _ _ v h
+
+pub one-refused : (v : ℕ) → v < pastAll → inOne v ≡ record { list = L.Refused v; hosts = 0 }
+one-refused v h = unpacked-refused _ _ v h
+
+pub one-number : (n m : ℕ) → inOne n ≡ inOne m → n ≡ m
+one-number n m e = back n ∙ ap (λ (a : RoutesAnswer). numberOf (a .list) (a .hosts)) e ∙ sym (back m)
   where
-    back : (k : ℕ) → k ≡ numberOf (unpacked L.Rows L.Refused k)
+    back : (k : ℕ) → k ≡ numberOf (inOne k .list) (inOne k .hosts)
     back k =
         elim (decLe pastAll k) [
-          | yes le ↦ (let whole : k ≡ pastAll + (k - pastAll) = omega arith in whole ∙ sym (ap numberOf (unpacked-count L.Rows L.Refused k le)))
-          | no gt ↦ sym (ap numberOf (unpacked-refused L.Rows L.Refused k (lt-of-not-le gt)))
+          | yes le ↦ (let whole : k ≡ pastAll + ((k - pastAll) % hostUnit + hostUnit * ((k - pastAll) / hostUnit)) = omega arith in
+              whole ∙ sym (ap (λ (a : RoutesAnswer). numberOf (a .list) (a .hosts)) (one-count k le)))
+          | no gt ↦ sym (ap (λ (a : RoutesAnswer). numberOf (a .list) (a .hosts)) (one-refused k (lt-of-not-le gt)))
         ]
+
+-- an answer with the rows that have a host bit, and the one beside
+pub beside-list : (a : ListAnswer) (hosts : ℕ) → withHosts a hosts .list ≡ a
+beside-list (L.Rows n) hosts = refl
+beside-list (L.Refused n) hosts = refl
 
 module _ (s : List ℕ) (r : Reading Row) where
   pub count-long : listLimit < length s → countAnswer s r ≡ L.Refused tooLong
@@ -260,11 +290,11 @@ module _ (s : List ℕ) (r : Reading Row) where
   store-by d a e = ap (λ (x : ListAnswer). filled (listMeaning x) (flat words (r .rows)) d) e
 
   -- an answer counts the places of its rows
-  pub counted-places : (a : ListAnswer) (fields : List ℕ) → countAnswer s r ≡ a → listMeaning a ≡ given fields → length (flat words (r .rows)) ≡ 6 * rowsIn a
+  pub counted-places : (a : ListAnswer) (fields : List ℕ) → countAnswer s r ≡ a → listMeaning a ≡ given fields → length (flat words (r .rows)) ≡ 6 * valueIn 0 (listMeaning a)
   counted-places (L.Rows n) fields c e = words-length (r .rows) ∙ ap (λ (k : ℕ). 6 * k) (count-rows n c .1)
   counted-places (L.Refused n) fields c e = let z : _≡_ {A = ℕ} 0 1 = cc in absurd (zero-ne-one z)
 
-  pub read-places : (places : ℕ) (a : ListAnswer) (fields : List ℕ) → readAnswer s r places ≡ a → listMeaning a ≡ given fields → length (flat words (r .rows)) ≡ 6 * rowsIn a
+  pub read-places : (places : ℕ) (a : ListAnswer) (fields : List ℕ) → readAnswer s r places ≡ a → listMeaning a ≡ given fields → length (flat words (r .rows)) ≡ 6 * valueIn 0 (listMeaning a)
   read-places places (L.Rows n) fields c e = counted-places (L.Rows n) fields (read-rows n places c .0) e
   read-places places (L.Refused n) fields c e = let z : _≡_ {A = ℕ} 0 1 = cc in absurd (zero-ne-one z)
 
@@ -300,37 +330,71 @@ module _ (read : Reader) (s : List ℕ) (mode : AddPath) (st : Form) (r : StepAn
 
 -- ---- a loop that counts in one number
 
--- at its head: the count is `pastAll` and the rows before `at`
+-- that a number stands for what counting answers, from a state; and of a list
+abbrev pub Tells : Reader → AddPath → Form → List ℕ → ℕ → Type 0
+Tells read mode st s v = inOne v ≡ withHosts (countAnswer s (readAll (stepBy read mode) st s)) (tally flag (notes hostBits (stepBy read mode) st s))
+
+abbrev pub TellsList : Reader → AddPath → List ℕ → ℕ → Type 0
+TellsList read mode s v = inOne v ≡ withHosts (countAnswer s (listBy read s mode)) (hostsBy read s mode)
+
+pub tells-list : (read : Reader) (mode : AddPath) (s : List ℕ) (v : ℕ) → Tells read mode Plain s v → TellsList read mode s v
+unfolding listBy hostsBy
+tells-list read mode s v e = e
+
+pub tells-fixed : (read : Reader) (form : Form) (s : List ℕ) (v : ℕ) → Tells read (fixed form) form s v → TellsList read (fixed form) s v
+tells-fixed read form s v e = e ∙ ap₂ (λ (r : Reading Row) (hosts : ℕ). withHosts (countAnswer s r) hosts) (sym (list-fixed read s form)) (sym (hosts-fixed read s form))
+
+-- at its head: the count is `pastAll` and the weight of the rows before `at`
 pub record Packed (read : Reader) (mode : AddPath) (st₀ : Form) (s : List ℕ) (st : Form) (at count : ℕ) : Type 0 where
   pub past : pastAll ≤ count
-  pub counted : Counted (stepBy read mode) (λ _. 1) 1 st₀ s st at (count - pastAll)
+  pub counted : Counted (λ st₁ t. noted hostBits t (stepBy read mode st₁ t)) weightOf (1 + hostUnit) st₀ s st at (count - pastAll)
 
 module _ (read : Reader) (fair : Fair read) (mode : AddPath) (st₀ : Form) (s : List ℕ) where
+  -- the step that it counts by
+  abbrev by-host : Form → List ℕ → Step Form Bool
+  by-host st t = noted hostBits t (stepBy read mode st t)
+
   pub packed-start : Packed read mode st₀ s st₀ 0 pastAll
-  packed-start = record { past = omega arith; counted = count-start (stepBy read mode) (sound-by read fair mode) (λ _. 1) 1 (light-by read fair mode) st₀ s }
+  packed-start = record { past = omega arith; counted = count-start by-host (host-sound read fair mode) weightOf (1 + hostUnit) (host-light read fair mode) st₀ s }
 
   module _ (st : Form) (at count : ℕ) (h : Packed read mode st₀ s st at count) where
-    pub packed-step : (used : ℕ) (row : Row) (st′ : Form) → stepBy read mode st (drop at s) ≡ took used row st′
-        → (0 < used) × (at + used ≤ length s) × Packed read mode st₀ s st′ (at + used) (count + 1)
-    packed-step used row st′ e =
-        let fits = turn-fits (stepBy read mode) (sound-by read fair mode) s st at st′ used row e (h .counted .within) in
-        let more : count - pastAll + 1 ≡ count + 1 - pastAll = omega (arith, h .past) in
-        let next = count-step (stepBy read mode) (sound-by read fair mode) (λ _. 1) 1 (light-by read fair mode) st₀ s st at (count - pastAll) (h .counted) st′ used row e in
+    pub packed-step : (used : ℕ) (row : Row) (st′ : Form) → stepBy read mode st (drop at s) ≡ took used row st′ → (w : ℕ) → w ≡ weightOf (hostBits st′ (take used (drop at s)))
+        → (0 < used) × (at + used ≤ length s) × Packed read mode st₀ s st′ (at + used) (count + w)
+    packed-step used row st′ e w is =
+        let f : by-host st (drop at s) ≡ took used (hostBits st′ (take used (drop at s))) st′ = ap (noted hostBits (drop at s)) e in
+        let fits = turn-fits by-host (host-sound read fair mode) s st at st′ used _ f (h .counted .within) in
+        let more : count - pastAll + weightOf (hostBits st′ (take used (drop at s))) ≡ count + w - pastAll = omega (arith, h .past, is) in
+        let next = count-step by-host (host-sound read fair mode) weightOf (1 + hostUnit) (host-light read fair mode) st₀ s st at (count - pastAll) (h .counted) st′ used _ f in
         (fits .0, fits .1, record { past = omega (arith, h .past); counted = rw more at next })
 
+    -- the weights so far are no more than those of all bytes
+    pub packed-few : count ≤ pastAll + (1 + hostUnit) * length s
+    packed-few = omega (arith, h .past, h .counted .few, h .counted .within)
+
     module _ (small : length s ≤ listLimit) where
-      pub packed-stop : (n : ℕ) → at < length s → stepBy read mode st (drop at s) ≡ stop n → unpacked L.Rows L.Refused n ≡ countAnswer s (readAll (stepBy read mode) st₀ s)
+      alike : (readAll by-host st₀ s .verdict ≡ readAll (stepBy read mode) st₀ s .verdict) × (length (notes hostBits (stepBy read mode) st₀ s) ≡ length (readAll (stepBy read mode) st₀ s .rows))
+      alike = noted-alike hostBits (stepBy read mode) (sound-by read fair mode) st₀ s
+
+      pub packed-stop : (n : ℕ) → at < length s → stepBy read mode st (drop at s) ≡ stop n → Tells read mode st₀ s n
       packed-stop n lt e =
           let named = fair .names (drop at s) (formBy read mode st (drop at s)) n (step-stop read mode st (drop at s) n e) in
-          unpacked-refused L.Rows L.Refused n (named .1)
-          ∙ sym (count-bad s (readAll (stepBy read mode) st₀ s) n small
-          (count-stop (stepBy read mode) (sound-by read fair mode) (λ _. 1) 1 (light-by read fair mode) st₀ s st at (count - pastAll) (h .counted) n lt e) (named .0))
+          let verdict = count-stop by-host (host-sound read fair mode) weightOf (1 + hostUnit) (host-light read fair mode) st₀ s st at (count - pastAll) (h .counted) n lt (ap (noted hostBits (drop at s)) e) in
+          one-refused n (named .1)
+          ∙ sym (ap (λ (a : ListAnswer). withHosts a (tally flag (notes hostBits (stepBy read mode) st₀ s))) (count-bad s (readAll (stepBy read mode) st₀ s) n small (sym (alike .0) ∙ verdict) (named .0)))
 
-      pub packed-done : length s ≤ at → unpacked L.Rows L.Refused count ≡ countAnswer s (readAll (stepBy read mode) st₀ s)
+      pub packed-done : length s ≤ at → Tells read mode st₀ s count
+      unfolding notes
       packed-done le =
-          unpacked-count L.Rows L.Refused count (h .past)
-          ∙ sym (count-good s (readAll (stepBy read mode) st₀ s) (count - pastAll) small
-          (count-done (stepBy read mode) (sound-by read fair mode) (λ _. 1) 1 (light-by read fair mode) st₀ s st at (count - pastAll) (h .counted) le))
+          let r : Reading Row = readAll (stepBy read mode) st₀ s in
+          let said : List Bool = notes hostBits (stepBy read mode) st₀ s in
+          let done = count-done by-host (host-sound read fair mode) weightOf (1 + hostUnit) (host-light read fair mode) st₀ s st at (count - pastAll) (h .counted) le in
+          let few : tally (λ _. 1) (r .rows) ≤ length s = tally-few (stepBy read mode) (sound-by read fair mode) (λ _. 1) (light-by read fair mode) st₀ s in
+          let sum : count - pastAll ≡ length (r .rows) + hostUnit * tally flag said = omega (arith, done .1, tally-weights said, alike .1) in
+          let rows : (count - pastAll) % hostUnit ≡ length (r .rows) = omega (arith, sum, few, tally-one (r .rows), small) in
+          let hosts : (count - pastAll) / hostUnit ≡ tally flag said = omega (arith, sum, few, tally-one (r .rows), small) in
+          one-count count (h .past)
+          ∙ ap₂ (λ (n m : ℕ). record { list = L.Rows n; hosts = m }) rows hosts
+          ∙ sym (ap (λ (a : ListAnswer). withHosts a (tally flag said)) (count-good s r (length (r .rows)) small (sym (alike .0) ∙ done .0, tally-one (r .rows))))
 
 -- ---- a section
 

@@ -275,15 +275,15 @@ fn count_form(s: &[u8], counts: &[u8; 256], form: Form) -> usize
         if next == octets::REFUSED {
             return refusal::PREFIX_LENGTH as usize;
         }
-        let last = n + next as usize;
-        if head.len() <= last {
+        let rest = &head[n + 1..];
+        let m = next as usize;
+        if rest.len() < m {
             return refusal::TRUNCATED as usize;
         }
-        count = count + weight(past_length(bits, head[last]));
-        let rest = &head[n + 1..];
-        n = next as usize;
-        if rest.len() < n + k {
-            return ended(rest.len(), n, count);
+        count = count + weight(past_length(bits, head[n + m]));
+        n = m;
+        if rest.len() < m + k {
+            return ended(rest.len(), m, count);
         }
         head = &rest[k..];
     }

@@ -1,11 +1,13 @@
 use Prim.Native.Nat.{_+_, _-_, _≤_, _<_}
-use mathlib.Core.Path.{refl, ap, _∙_}
+use mathlib.Core.Path.{_≡_, refl, ap, _∙_}
 use native.Mathlib.Omega.{arith}
-use lib.ListN.{length, take, drop}
-use Rattle.wire.specs.Answer.{unpacked}
+use lib.ListN.{length, getD, take, drop, length-drop}
+use Rattle.wire.proofs.Turn.{rest}
 use Rattle.families.proofs.FamilyLaws.{id-small}
-use Rattle.routes.specs.declared.ListAnswer.the-variants.{Rows, Refused}
-use Rattle.routes.proofs.Carried.{Headed, headed-start, headed-none, headed-few, headed-done, headed-long, headed-last, headed-next}
+use Rattle.routes.specs.Promises.{inOne}
+use Rattle.routes.specs.Private.{pastLength, weightOf}
+use Rattle.routes.proofs.HostLaws.{weight-few}
+use Rattle.routes.proofs.Carried.{Headed, headed-start, headed-none, headed-few, headed-done, headed-long, headed-short, headed-last, headed-next}
 use borrow.Author.Needs.{needs}
 use Rattle.routes.proofs.count_form.Statement.{statement}
 use Rattle.routes.proofs.count_form.Tie as tie
@@ -25,7 +27,7 @@ ended-requires c κs = search needs
 returns : tie.Need-returns Inv-loop μ-loop
 returns c =
     let g = c .before .before .before .before in
-    ap (unpacked Rows Refused) (c .ended .ensures) ∙ headed-none (g .args .counts .now) (g .args .s .now) (g .args .form) _ (c .before .before .id-size .ensures) (g .pre) (c .before .if1 .taken)
+    ap inOne (c .ended .ensures) ∙ headed-none (g .args .counts .now) (g .args .s .now) (g .args .form) _ (c .before .before .id-size .ensures) (g .pre) (c .before .if1 .taken)
 
 sub-head : tie.Need-sub-head Inv-loop μ-loop
 sub-head c = c .if1 .left
@@ -39,10 +41,10 @@ part-head-end c = search needs
 loop-holds : tie.Need-loop-holds Inv-loop μ-loop
 loop-holds c = let a = c .before .before .before .before .args in headed-start (a .counts .now) (a .s .now) (a .form) _ (c .before .before .id-size .ensures) (c .before .if1 .left)
 
--- what is carried is some of the list, and so is what was counted
+-- what is carried is some of the list, and what was counted weighs no more than its bytes
 few : (c : tie.At-loop Inv-loop μ-loop) →
     let k = c .before .before .before .id-size .result in
-    (c .loop .n ≤ length (c .loop .head .now) + k) × (length (c .loop .head .now) + k ≤ 65535) × (c .loop .count ≤ 65567) × (k ≤ 4)
+    (c .loop .n ≤ length (c .loop .head .now) + k) × (length (c .loop .head .now) + k ≤ 65535) × (c .loop .count ≤ 4294967327) × (k ≤ 4)
 few c =
     let g = c .before .before .before .before .before in
     let k = c .before .before .before .id-size .ensures in
@@ -52,8 +54,8 @@ few c =
 add-loop : tie.Need-add-loop Inv-loop μ-loop
 add-loop c = omega (arith, few c)
 
-shared-slice-read-after : tie.Need-shared-slice-read-after Inv-loop μ-loop
-shared-slice-read-after c = omega (arith, c .before .loop-test .taken)
+shared-slice-read-bits : tie.Need-shared-slice-read-bits Inv-loop μ-loop
+shared-slice-read-bits c = omega (arith, c .before .loop-test .taken)
 
 after-requires : tie.Need-after-requires Inv-loop μ-loop
 after-requires c κs = search needs
@@ -66,7 +68,7 @@ returns-2 c =
     let t = c .before in
     let l = t .before .before .before in
     let g = l .before .before .before .before .before in
-    headed-long (g .args .counts .now) (g .args .s .now) _ (l .loop .head .now) (l .loop .n) (l .loop .count) (l .loop .inv) (g .pre) (g .args .form) (l .before .before .before .id-size .ensures) (t .before .before .loop-test .taken) _ (t .after .ensures) (c .if2 .taken)
+    headed-long (g .args .counts .now) (g .args .s .now) _ (l .loop .head .now) (l .loop .n) (l .loop .count) (l .loop .inv) (g .pre) (g .args .form) (l .before .before .before .id-size .ensures) (t .before .before .loop-test .taken) _ _ refl (t .after .ensures) (c .if2 .taken)
 
 add-rest : tie.Need-add-rest Inv-loop μ-loop
 add-rest c = omega (arith, few (c .before .before .before .before))
@@ -80,51 +82,97 @@ part-rest-start c = c .before .before .before .loop-test .taken
 part-rest-end : tie.Need-part-rest-end Inv-loop μ-loop
 part-rest-end c = search needs
 
-cast-n : tie.Need-cast-n Inv-loop μ-loop
-cast-n c = search needs
+cast-m : tie.Need-cast-m Inv-loop μ-loop
+cast-m c = search needs
+
+cast-result-2 : tie.Need-cast-result-2 Inv-loop μ-loop
+cast-result-2 c = search needs
+
+returns-3 : tie.Need-returns-3 Inv-loop μ-loop
+returns-3 c =
+    let u = c .before .before in
+    let t = u .before in
+    let l = t .before .before .before in
+    let g = l .before .before .before .before .before in
+    headed-short (g .args .counts .now) (g .args .s .now) _ (l .loop .head .now) (l .loop .n) (l .loop .count) (l .loop .inv) (g .pre) (g .args .form) (l .before .before .before .id-size .ensures) (t .before .before .loop-test .taken) _ _ refl (t .after .ensures) (u .if2 .left) _ refl (c .if3 .taken)
+
+-- the item's octets are there
+inside : (c : tie.Else3 Inv-loop μ-loop) →
+    let l = c .before .before .before .before .before .before in
+    l .loop .n + c .before .before .before .after .result < length (l .loop .head .now)
+inside c =
+    let t = c .before .before .before in
+    let l = t .before .before .before in
+    let head = l .loop .head .now in
+    omega (arith, c .if3 .left, t .before .before .loop-test .taken, ap length (rest head (l .loop .n + 1)), length-drop (l .loop .n + 1) head)
+
+add-past-length : tie.Need-add-past-length Inv-loop μ-loop
+add-past-length c = omega (arith, inside c, few (c .before .before .before .before .before .before))
+
+shared-slice-read-past-length : tie.Need-shared-slice-read-past-length Inv-loop μ-loop
+shared-slice-read-past-length c = inside (c .before)
+
+past-length-requires : tie.Need-past-length-requires Inv-loop μ-loop
+past-length-requires c κs = search needs
+
+weight-requires : tie.Need-weight-requires Inv-loop μ-loop
+weight-requires c κs = search needs
+
+-- what it adds to the count
+added : (c : tie.After-weight Inv-loop μ-loop) →
+    let u = c .before .before .before in
+    let l = u .before .before .before .before .before .before in
+    let head = l .loop .head .now in
+    (c .weight .result ≡ weightOf (pastLength (getD head (l .loop .n) 0) (getD head (l .loop .n + u .before .before .before .after .result) 0))) × (c .weight .result ≤ 65537)
+added c =
+    let w = c .weight .ensures in
+    (w ∙ ap weightOf (c .before .past-length .ensures), omega (arith, w, weight-few (c .before .past-length .result) .1))
 
 add-count : tie.Need-add-count Inv-loop μ-loop
-add-count c = omega (arith, few (c .before .before .before .before .before))
+add-count c = omega (arith, added c .1, few (c .before .before .before .before .before .before .before .before .before))
 
-add-if3 : tie.Need-add-if3 Inv-loop μ-loop
-add-if3 c = omega (arith, few (c .before .before .before .before .before))
+add-if4 : tie.Need-add-if4 Inv-loop μ-loop
+add-if4 c = omega (arith, inside (c .before .before .before), few (c .before .before .before .before .before .before .before .before .before))
 
 ended-requires-2 : tie.Need-ended-requires-2 Inv-loop μ-loop
 ended-requires-2 c κs = search needs
 
-returns-3 : tie.Need-returns-3 Inv-loop μ-loop
-returns-3 c =
-    let u = c .before .before .before in
-    let t = u .before in
+returns-4 : tie.Need-returns-4 Inv-loop μ-loop
+returns-4 c =
+    let v = c .before .before in
+    let u = v .before .before .before in
+    let t = u .before .before .before in
     let l = t .before .before .before in
     let g = l .before .before .before .before .before in
-    ap (unpacked Rows Refused) (c .ended2 .ensures)
-    ∙ headed-last (g .args .counts .now) (g .args .s .now) _ (l .loop .head .now) (l .loop .n) (l .loop .count) (l .loop .inv) (g .pre) (g .args .form) (l .before .before .before .id-size .ensures) (t .before .before .loop-test .taken) _ (t .after .ensures) (u .if2 .left) _ refl (c .before .if3 .taken)
+    ap inOne (c .ended2 .ensures)
+    ∙ headed-last (g .args .counts .now) (g .args .s .now) _ (l .loop .head .now) (l .loop .n) (l .loop .count) (l .loop .inv) (g .pre) (g .args .form) (l .before .before .before .id-size .ensures) (t .before .before .loop-test .taken) _ _ refl (t .after .ensures) (u .before .before .if2 .left) _ refl (u .if3 .left) _ _ refl (added v .0) (c .before .if4 .taken)
 
 sub-head-2 : tie.Need-sub-head-2 Inv-loop μ-loop
-sub-head-2 c = omega (arith, c .if3 .left)
+sub-head-2 c = omega (arith, c .if4 .left)
 
 part-head-start-2 : tie.Need-part-head-start-2 Inv-loop μ-loop
-part-head-start-2 c = omega (arith, c .if3 .left)
+part-head-start-2 c = omega (arith, c .if4 .left)
 
 part-head-end-2 : tie.Need-part-head-end-2 Inv-loop μ-loop
 part-head-end-2 c = search needs
 
 -- what holds after an item, and the front of the next
-next : (c : tie.Else3 Inv-loop μ-loop) →
-    let u = c .before .before in
-    let l = u .before .before .before .before in
+next : (c : tie.Else4 Inv-loop μ-loop) →
+    let v = c .before in
+    let t = v .before .before .before .before .before .before in
+    let l = t .before .before .before in
     let a = l .before .before .before .before .before .args in
     let k = l .before .before .before .id-size .result in
     let after = take (length (l .loop .head .now) - (l .loop .n + 1)) (drop (l .loop .n + 1) (l .loop .head .now)) in
     let head = take (length after - k) (drop k after) in
-    Headed (a .counts .now) (a .s .now) k head (u .before .after .result) (l .loop .count + 1) × (length head - u .before .after .result < length (l .loop .head .now) - l .loop .n)
+    Headed (a .counts .now) (a .s .now) k head (t .after .result) (l .loop .count + v .weight .result) × (length head - t .after .result < length (l .loop .head .now) - l .loop .n)
 next c =
-    let u = c .before .before in
-    let t = u .before in
+    let v = c .before in
+    let u = v .before .before .before in
+    let t = u .before .before .before in
     let l = t .before .before .before in
     let g = l .before .before .before .before .before in
-    headed-next (g .args .counts .now) (g .args .s .now) _ (l .loop .head .now) (l .loop .n) (l .loop .count) (l .loop .inv) (g .pre) (g .args .form) (l .before .before .before .id-size .ensures) (t .before .before .loop-test .taken) _ (t .after .ensures) (u .if2 .left) _ refl (c .if3 .left)
+    headed-next (g .args .counts .now) (g .args .s .now) _ (l .loop .head .now) (l .loop .n) (l .loop .count) (l .loop .inv) (g .pre) (g .args .form) (l .before .before .before .id-size .ensures) (t .before .before .loop-test .taken) _ _ refl (t .after .ensures) (u .before .before .if2 .left) _ refl (u .if3 .left) _ _ refl (added v .0) (c .if4 .left)
 
 loop-less : tie.Need-loop-less Inv-loop μ-loop
 loop-less c = next (c .before) .1
@@ -138,11 +186,11 @@ add-ended c = omega (arith, few (c .before))
 ended-requires-3 : tie.Need-ended-requires-3 Inv-loop μ-loop
 ended-requires-3 c κs = search needs
 
-returns-4 : tie.Need-returns-4 Inv-loop μ-loop
-returns-4 c =
+returns-5 : tie.Need-returns-5 Inv-loop μ-loop
+returns-5 c =
     let l = c .before .before in
     let g = l .before .before .before .before .before in
-    ap (unpacked Rows Refused) (c .ended3 .ensures) ∙ headed-done (g .args .counts .now) (g .args .s .now) _ (l .loop .head .now) (l .loop .n) (l .loop .count) (l .loop .inv) (g .pre) (g .args .form) (l .before .before .before .id-size .ensures) (omega (arith, c .before .loop-test .left))
+    ap inOne (c .ended3 .ensures) ∙ headed-done (g .args .counts .now) (g .args .s .now) _ (l .loop .head .now) (l .loop .n) (l .loop .count) (l .loop .inv) (g .pre) (g .args .form) (l .before .before .before .id-size .ensures) (omega (arith, c .before .loop-test .left))
 
 pub count-form-spec : {M : Type 1} → statement M
 count-form-spec =
@@ -158,7 +206,7 @@ count-form-spec =
     part-head-end
     loop-holds
     add-loop
-    shared-slice-read-after
+    shared-slice-read-bits
     after-requires
     cast-result
     returns-2
@@ -166,11 +214,17 @@ count-form-spec =
     sub-rest
     part-rest-start
     part-rest-end
-    cast-n
-    add-count
-    add-if3
-    ended-requires-2
+    cast-m
+    cast-result-2
     returns-3
+    add-past-length
+    shared-slice-read-past-length
+    past-length-requires
+    weight-requires
+    add-count
+    add-if4
+    ended-requires-2
+    returns-4
     sub-head-2
     part-head-start-2
     part-head-end-2
@@ -178,4 +232,4 @@ count-form-spec =
     loop-again
     add-ended
     ended-requires-3
-    returns-4)
+    returns-5)

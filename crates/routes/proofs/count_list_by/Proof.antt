@@ -1,11 +1,11 @@
-use mathlib.Core.Path.{sym, _∙_}
+use mathlib.Core.Path.{sym, ap, _∙_}
 use native.Mathlib.Omega.{arith}
 use Rattle.wire.specs.Refusal.{tooLong}
-use Rattle.routes.specs.List.{listBy}
+use Rattle.routes.specs.List.{listBy, hostsBy}
 use Rattle.routes.specs.ByTable.{byTable}
-use Rattle.wire.proofs.AnswerLaws.{unpacked-refused}
-use Rattle.routes.specs.declared.ListAnswer.the-variants.{Rows, Refused}
-use Rattle.routes.proofs.ListLaws.{count-long}
+use Rattle.routes.specs.Promises.{withHosts}
+use Rattle.routes.specs.declared.ListAnswer.{ListAnswer}
+use Rattle.routes.proofs.ListLaws.{one-refused, count-long}
 use borrow.Author.Needs.{needs}
 use Rattle.routes.proofs.count_list_by.Statement.{statement}
 use Rattle.routes.proofs.count_list_by.Tie as tie
@@ -16,7 +16,8 @@ cast-result c = search needs
 returns : tie.Need-returns
 returns c =
     let a = c .before .before .args in
-    unpacked-refused Rows Refused tooLong (omega arith) ∙ sym (count-long (a .s .now) (listBy (byTable (a .counts .now)) (a .s .now) (a .mode)) (c .if1 .taken))
+    one-refused tooLong (omega arith)
+    ∙ sym (ap (λ (x : ListAnswer). withHosts x (hostsBy (byTable (a .counts .now)) (a .s .now) (a .mode))) (count-long (a .s .now) (listBy (byTable (a .counts .now)) (a .s .now) (a .mode)) (c .if1 .taken)))
 
 enum-told : tie.Need-enum-told
 enum-told c = search needs

@@ -1,6 +1,5 @@
-use mathlib.Core.Path.{ap, _∙_}
-use Rattle.routes.specs.Promises.{countAnswer}
-use Rattle.routes.proofs.TableLaws.{section-family}
+use mathlib.Core.Path.{_∙_}
+use Rattle.routes.proofs.TableLaws.{count-section-family}
 use borrow.Author.Needs.{needs}
 use Rattle.routes.proofs.count_nlri.Statement.{statement}
 use Rattle.routes.proofs.count_nlri.Tie as tie
@@ -19,7 +18,7 @@ returns c =
     let a = c .before .before .before .before .before .args in
     c .counted .ensures
     ∙ c .before .count-section-by .ensures
-    ∙ ap (countAnswer (a .s .now)) (section-family _ (a .afi) (c .before .before .before .counts .ensures) (a .s .now) (a .mode))
+    ∙ count-section-family _ (a .afi) (c .before .before .before .counts .ensures) (a .s .now) (a .mode)
 
 pub count-nlri-spec : {M : Type 1} → statement M
 count-nlri-spec = tie.close (tie.spec counts-requires count-section-by-requires counted-requires returns)

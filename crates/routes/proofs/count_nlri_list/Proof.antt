@@ -1,6 +1,5 @@
-use mathlib.Core.Path.{ap, _∙_}
-use Rattle.routes.specs.Promises.{countAnswer}
-use Rattle.routes.proofs.TableLaws.{list-family}
+use mathlib.Core.Path.{_∙_}
+use Rattle.routes.proofs.TableLaws.{count-list-family}
 use borrow.Author.Needs.{needs}
 use Rattle.routes.proofs.count_nlri_list.Statement.{statement}
 use Rattle.routes.proofs.count_nlri_list.Tie as tie
@@ -19,7 +18,7 @@ returns c =
     let a = c .before .before .before .before .before .args in
     c .counted .ensures
     ∙ c .before .count-list-by .ensures
-    ∙ ap (countAnswer (a .s .now)) (list-family _ (a .afi) (c .before .before .before .counts .ensures) (a .s .now) (a .mode))
+    ∙ count-list-family _ (a .afi) (c .before .before .before .counts .ensures) (a .s .now) (a .mode)
 
 pub count-nlri-list-spec : {M : Type 1} → statement M
 count-nlri-list-spec = tie.close (tie.spec counts-requires count-list-by-requires counted-requires returns)

@@ -1,11 +1,13 @@
 use mathlib.Core.Path.{sym, ap, _∙_}
 use native.Mathlib.Omega.{arith}
 use Rattle.wire.specs.Refusal.{oneByteSection}
-use Rattle.wire.proofs.AnswerLaws.{unpacked-refused}
+use Rattle.wire.specs.Walk.{Reading}
 use Rattle.routes.specs.ByTable.{byTable}
-use Rattle.routes.specs.Promises.{countAnswer}
-use Rattle.routes.specs.declared.ListAnswer.the-variants.{Rows, Refused}
-use Rattle.routes.proofs.ListLaws.{section-strange, section-list}
+use Rattle.routes.specs.List.{hostsBy}
+use Rattle.routes.specs.Promises.{countAnswer, withHosts}
+use Rattle.routes.specs.declared.Row.{Row}
+use Rattle.routes.specs.declared.ListAnswer.{ListAnswer}
+use Rattle.routes.proofs.ListLaws.{one-refused, section-strange, section-list}
 use borrow.Author.Needs.{needs}
 use Rattle.routes.proofs.count_section_by.Statement.{statement}
 use Rattle.routes.proofs.count_section_by.Tie as tie
@@ -19,8 +21,9 @@ cast-result c = search needs
 returns : tie.Need-returns
 returns c =
     let a = c .before .before .before .args in
-    unpacked-refused Rows Refused oneByteSection (omega arith)
-    ∙ sym (section-strange (byTable (a .counts .now)) (a .s .now) (a .mode) (sym (c .before .is-strange .ensures) ∙ c .if1 .taken))
+    one-refused oneByteSection (omega arith)
+    ∙ sym (ap (λ (x : ListAnswer). withHosts x (hostsBy (byTable (a .counts .now)) (a .s .now) (a .mode)))
+    (section-strange (byTable (a .counts .now)) (a .s .now) (a .mode) (sym (c .before .is-strange .ensures) ∙ c .if1 .taken)))
 
 count-list-by-requires : tie.Need-count-list-by-requires
 count-list-by-requires c κs = search needs
@@ -29,7 +32,8 @@ returns-2 : tie.Need-returns-2
 returns-2 c =
     let a = c .before .before .before .before .args in
     c .count-list-by .ensures
-    ∙ ap (countAnswer (a .s .now)) (sym (section-list (byTable (a .counts .now)) (a .s .now) (a .mode) (sym (c .before .before .is-strange .ensures) ∙ c .before .if1 .left)))
+    ∙ ap (λ (r : Reading Row). withHosts (countAnswer (a .s .now) r) (hostsBy (byTable (a .counts .now)) (a .s .now) (a .mode)))
+    (sym (section-list (byTable (a .counts .now)) (a .s .now) (a .mode) (sym (c .before .before .is-strange .ensures) ∙ c .before .if1 .left)))
 
 pub count-section-by-spec : {M : Type 1} → statement M
 count-section-by-spec =

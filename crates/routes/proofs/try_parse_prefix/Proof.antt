@@ -1,8 +1,12 @@
-use mathlib.Core.Path.{_≡_, sym, ap, _∙_}
+use Prim.Native.Nat.{_+_, _≤_}
+use mathlib.Core.Path.{_≡_, sym, ap, ap₂, _∙_}
+use mathlib.Core.Bool.{Bool}
 use native.Mathlib.Omega.{arith}
-use Rattle.families.specs.Family.{maxOf}
+use lib.ListN.{length, take}
+use Rattle.families.specs.Family.{maxOf, idSize}
+use Rattle.routes.specs.declared.Row.{Row}
 use Rattle.routes.specs.declared.PrefixAnswer.the-variants.{Prefix}
-use Rattle.routes.specs.Prefix.{prefixOf}
+use Rattle.routes.specs.Prefix.{itemRow, prefixOf, withHost, routeOf}
 use Rattle.routes.specs.List.{Reader, upTo}
 use Rattle.routes.specs.Private.{sizeOf}
 use Rattle.routes.proofs.PrefixLaws.{prefix-took}
@@ -27,26 +31,38 @@ size c =
     let a = c .before .before .before .before .args in
     sym (c .front-size .ensures ∙ ap (λ (read : Reader). sizeOf (read (a .s .now) (a .form))) (item-family _ (a .afi) (c .before .before .counts .ensures)))
 
-row-of-requires : tie.Need-row-of-requires
-row-of-requires c κs =
+-- the item, and that it is there
+item : (c : tie.After-known-told) →
     let a = c .before .before .before .before .before .before .before .args in
-    let item = size-took (upTo (maxOf (a .afi))) (fair (maxOf (a .afi))) (a .s .now) (a .form) _ (size (c .before .before .before) ∙ c .before .used .given .1) in
-    let t = prefix-took (a .s .now) (maxOf (a .afi)) (a .form) _ _ item in
-    record { front = omega (arith, t .size); within = t .room }
+    let used = c .before .used .given .0 .0 in
+    (prefixOf (a .s .now) (maxOf (a .afi)) (a .form) ≡ Prefix used (itemRow (a .form) (take used (a .s .now)))) × (idSize (a .form) + 1 ≤ used) × (used ≤ length (a .s .now))
+item c =
+    let a = c .before .before .before .before .before .before .before .args in
+    let e = size-took (upTo (maxOf (a .afi))) (fair (maxOf (a .afi))) (a .s .now) (a .form) _ (size (c .before .before .before) ∙ c .before .used .given .1) in
+    let t = prefix-took (a .s .now) (maxOf (a .afi)) (a .form) _ _ e in
+    (e, omega (arith, t .size), t .room)
+
+row-of-requires : tie.Need-row-of-requires
+row-of-requires c κs = record { front = item c .1; within = item c .2 }
+
+host-at-requires : tie.Need-host-at-requires
+host-at-requires c κs = (item (c .before) .1, omega (arith, item (c .before) .2))
 
 enum-known-n : tie.Need-enum-known-n
 enum-known-n c = search needs
 
 returns : tie.Need-returns
+unfolding routeOf
 returns c =
-    let a = c .before .before .before .before .before .before .before .before .args in
-    let item = size-took (upTo (maxOf (a .afi))) (fair (maxOf (a .afi))) (a .s .now) (a .form) _ (size (c .before .before .before .before) ∙ c .before .before .used .given .1) in
-    ap (Prefix (c .before .before .used .given .0 .0)) (c .row-of .ensures) ∙ sym item
+    let a = c .before .before .before .before .before .before .before .before .before .args in
+    ap₂ (λ (row : Row) (host : Bool). record { prefix = Prefix (c .before .before .before .used .given .0 .0) row; host = host }) (c .before .row-of .ensures) (c .host-at .ensures)
+    ∙ sym (ap (withHost (a .form) (a .s .now)) (item (c .before .before) .0))
 
 returns-2 : tie.Need-returns-2
+unfolding routeOf
 returns-2 c =
     let a = c .before .before .before .before .before .before .before .args in
-    size-refused (prefixOf (a .s .now) (maxOf (a .afi)) (a .form)) _ (size (c .before .before .before) ∙ c .before .n .given .1)
+    ap (withHost (a .form) (a .s .now)) (size-refused (prefixOf (a .s .now) (maxOf (a .afi)) (a .form)) _ (size (c .before .before .before) ∙ c .before .n .given .1))
 
 pub try-parse-prefix-spec : {M : Type 1} → statement M
 try-parse-prefix-spec =
@@ -56,6 +72,7 @@ try-parse-prefix-spec =
     front-size-requires
     enum-known-used
     row-of-requires
+    host-at-requires
     enum-known-n
     returns
     returns-2)

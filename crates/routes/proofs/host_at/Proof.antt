@@ -1,0 +1,47 @@
+use Prim.Native.Nat.{ℕ, _+_}
+use mathlib.Core.Path.{refl, ap, _∙_}
+use lib.ListN.{getD}
+use Rattle.routes.proofs.HostLaws.{host-at}
+use borrow.Author.Needs.{needs}
+use Rattle.routes.proofs.host_at.Statement.{statement}
+use Rattle.routes.proofs.host_at.Tie as tie
+
+id-size-requires : tie.Need-id-size-requires
+id-size-requires c κs = search needs
+
+add-past-length : tie.Need-add-past-length
+add-past-length c = search needs
+
+shared-slice-read-past-length : tie.Need-shared-slice-read-past-length
+shared-slice-read-past-length c = search needs
+
+add-past-length-2 : tie.Need-add-past-length-2
+add-past-length-2 c = search needs
+
+sub-past-length : tie.Need-sub-past-length
+sub-past-length c = search needs
+
+shared-slice-read-past-length-2 : tie.Need-shared-slice-read-past-length-2
+shared-slice-read-past-length-2 c = search needs
+
+past-length-requires : tie.Need-past-length-requires
+past-length-requires c κs = search needs
+
+returns : tie.Need-returns
+returns c =
+    let g = c .before .before .before .before .before in
+    let a = g .args in
+    c .past-length .ensures ∙ host-at (a .s .now) (a .n) (a .used) (a .form) _ _ (g .pre .0) (g .pre .1) (ap (λ (k : ℕ). getD (a .s .now) (a .n + k) 0) (c .before .before .before .id-size .ensures)) refl
+
+pub host-at-spec : {M : Type 1} → statement M
+host-at-spec =
+    tie.close
+    (tie.spec
+    id-size-requires
+    add-past-length
+    shared-slice-read-past-length
+    add-past-length-2
+    sub-past-length
+    shared-slice-read-past-length-2
+    past-length-requires
+    returns)
