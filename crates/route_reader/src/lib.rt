@@ -15,8 +15,8 @@ ghost use Rattle.families.specs.declared.Afi.the-variants.{Ipv4, Ipv6};
 ghost use Rattle.families.specs.declared.AddPath.the-variants.{Guess};
 ghost use Rattle.routes.specs.Prefix.{words};
 ghost use Rattle.routes.specs.ByTable.{byTable};
-ghost use Rattle.routes.specs.List.{fixed, stepBy, listOf, sectionOf};
-ghost use Rattle.routes.specs.Promises.{sized, listMeaning, countAnswer, hasRoom, readAnswer, storeAfter};
+ghost use Rattle.routes.specs.List.{upTo, fixed, stepBy, listOf, sectionOf};
+ghost use Rattle.routes.specs.Promises.{sized, listMeaning, countAnswer, hasRoom, readList, readSection, storeAfter};
 ghost use Rattle.route_reader.specs.Private.{headWords, addressWords, masks, Octets, Fitting};
 ghost use Rattle.route_reader.specs.Pair.{readPair, readPairFirst, readPairSecond};
 use families::AddPath;
@@ -24,6 +24,7 @@ use families::Afi;
 use families::Form;
 use families::octets;
 use routes::ListAnswer;
+use routes::RoutesAnswer;
 use routes::StepAnswer;
 use wire::refusal;
 
@@ -382,31 +383,43 @@ fn fill_rows(s: &[u8], afi: Afi, mode: AddPath, counts: &[u8; 256], store: &mut 
     fill_form(whole, afi, form, counts, store)
 }
 
+// A refusal, which has no rows.
+fn refused(n: u8) -> RoutesAnswer
+    ensures { λ r. ⌜ r ≡ record { list = ListAnswer.Refused n; hosts = 0 } ⌝ }
+{
+    RoutesAnswer {
+        list: ListAnswer::Refused(n),
+        hosts: 0,
+    }
+}
+
 // A list into a lent store, six words a row.
-pub fn parse_nlri_list(s: &[u8], afi: Afi, mode: AddPath, store: &mut [u32]) -> ListAnswer
-    ensures answer { λ r. ⌜ r ≡ readAnswer (now (s .entry)) (listOf (now (s .entry)) (maxOf afi) mode) (length (now (store .entry))) ⌝ }
+pub fn parse_nlri_list(s: &[u8], afi: Afi, mode: AddPath, store: &mut [u32]) -> RoutesAnswer
+    ensures answer { λ r. ⌜ r ≡ readList (upTo (maxOf afi)) (now (s .entry)) mode (length (now (store .entry))) ⌝ }
     ensures store { λ _. ⌜ now (store .exit) ≡ storeAfter (now (s .entry)) (listOf (now (s .entry)) (maxOf afi) mode) (now (store .entry)) ⌝ }
 {
     let counts = octets::counts(afi);
-    match routes::counted(routes::count_list_by(s, &counts, mode)) {
+    let found = routes::counted(routes::count_list_by(s, &counts, mode));
+    let list = found.list;
+    match list {
         ListAnswer::Rows(n) => {
             if store.len() / 6 < n {
-                return ListAnswer::Refused(refusal::NO_ROOM);
+                return refused(refusal::NO_ROOM);
             }
             fill_rows(s, afi, mode, &counts, store);
-            ListAnswer::Rows(n)
+            found
         }
-        ListAnswer::Refused(n) => ListAnswer::Refused(n),
+        ListAnswer::Refused(_) => found,
     }
 }
 
 // A section of an UPDATE into a lent store, six words a row.
-pub fn read_nlri(s: &[u8], afi: Afi, mode: AddPath, store: &mut [u32]) -> ListAnswer
-    ensures answer { λ r. ⌜ r ≡ readAnswer (now (s .entry)) (sectionOf (now (s .entry)) (maxOf afi) mode) (length (now (store .entry))) ⌝ }
+pub fn read_nlri(s: &[u8], afi: Afi, mode: AddPath, store: &mut [u32]) -> RoutesAnswer
+    ensures answer { λ r. ⌜ r ≡ readSection (upTo (maxOf afi)) (now (s .entry)) mode (length (now (store .entry))) ⌝ }
     ensures store { λ _. ⌜ now (store .exit) ≡ storeAfter (now (s .entry)) (sectionOf (now (s .entry)) (maxOf afi) mode) (now (store .entry)) ⌝ }
 {
     if routes::is_strange(s) {
-        return ListAnswer::Refused(refusal::ONE_BYTE_SECTION);
+        return refused(refusal::ONE_BYTE_SECTION);
     }
     parse_nlri_list(s, afi, mode, store)
 }
@@ -414,8 +427,8 @@ pub fn read_nlri(s: &[u8], afi: Afi, mode: AddPath, store: &mut [u32]) -> ListAn
 // Two sections, each with its rows or its own refusal number; or a refusal of both.
 pub enum PairAnswer {
     Sections {
-        first: ListAnswer,
-        second: ListAnswer,
+        first: RoutesAnswer,
+        second: RoutesAnswer,
     },
     Refused(u8),
 }
@@ -468,14 +481,16 @@ pub fn read_nlri_pair(
     let counts = octets::counts(afi);
     let a = routes::counted(routes::count_section_by(s, &counts, mode));
     let b = routes::counted(routes::count_section_by(t, &counts, mode));
-    if !has_room(a, first.len()) {
+    let one = a.list;
+    let two = b.list;
+    if !has_room(one, first.len()) {
         return PairAnswer::Refused(refusal::NO_ROOM);
     }
-    if !has_room(b, second.len()) {
+    if !has_room(two, second.len()) {
         return PairAnswer::Refused(refusal::NO_ROOM);
     }
-    fill_counted(s, afi, mode, &counts, a, first);
-    fill_counted(t, afi, mode, &counts, b, second);
+    fill_counted(s, afi, mode, &counts, one, first);
+    fill_counted(t, afi, mode, &counts, two, second);
     PairAnswer::Sections {
         first: a,
         second: b,

@@ -22,7 +22,7 @@ use Rattle.wire.proofs.WalkLaws.{Sound, tally-one, flat-length, all-blind, note
 use Rattle.routes.specs.Prefix.{itemRow, words, hostBits}
 use Rattle.routes.proofs.PrefixLaws.{Took, prefix-took, prefix-names}
 use Rattle.routes.specs.List.{Reader, upTo, asStep, inForm, plainHere, tried, guessForm, formBy, fixed, stepBy, stepOf, listBy, hostsBy, strange, sectionBy}
-use Rattle.routes.specs.Promises.{sized, listMeaning, countAnswer, hasRoom, readAnswer, storeAfter, withHosts, hostUnit, inOne}
+use Rattle.routes.specs.Promises.{sized, listMeaning, countAnswer, hasRoom, readAnswer, storeAfter, withHosts, countList, hostUnit, inOne}
 use Rattle.routes.specs.Private.{sizeOf, kept, weightOf}
 use Rattle.routes.proofs.HostLaws.{weight-few, tally-weights}
 use Rattle.families.specs.declared.Form.{Form}
@@ -240,10 +240,16 @@ one-number n m e = back n ∙ ap (λ (a : RoutesAnswer). numberOf (a .list) (a .
           | no gt ↦ sym (ap (λ (a : RoutesAnswer). numberOf (a .list) (a .hosts)) (one-refused k (lt-of-not-le gt)))
         ]
 
--- an answer with the rows that have a host bit, and the one beside
+-- an answer with the rows that have a host bit, and the one without
 pub beside-list : (a : ListAnswer) (hosts : ℕ) → withHosts a hosts .list ≡ a
 beside-list (L.Rows n) hosts = refl
 beside-list (L.Refused n) hosts = refl
+
+pub told-list : (a : ListAnswer) (hosts : ℕ) (z : RoutesAnswer) → z ≡ withHosts a hosts → z .list ≡ a
+told-list a hosts z e = ap (λ (x : RoutesAnswer). x .list) e ∙ beside-list a hosts
+
+pub told-alone : (a : ListAnswer) (hosts : ℕ) (z : RoutesAnswer) (x : ListAnswer) → z ≡ withHosts a hosts → z .list ≡ x → z ≡ withHosts x hosts
+told-alone a hosts z x e f = e ∙ ap (λ (y : ListAnswer). withHosts y hosts) (sym (told-list a hosts z e) ∙ f)
 
 module _ (s : List ℕ) (r : Reading Row) where
   pub count-long : listLimit < length s → countAnswer s r ≡ L.Refused tooLong
@@ -299,19 +305,23 @@ module _ (s : List ℕ) (r : Reading Row) where
   read-places places (L.Refused n) fields c e = let z : _≡_ {A = ℕ} 0 1 = cc in absurd (zero-ne-one z)
 
   -- the answer and the store that a reading leaves, by what the count says
-  module _ (d : List ℕ) where
-    leave : (a : ListAnswer) → a ≡ readAnswer s r (length d) → (a ≡ readAnswer s r (length d)) × (filled (listMeaning a) (flat words (r .rows)) d ≡ storeAfter s r d)
-    leave a e = (e, sym (store-by d a (sym e)))
+  module _ (hosts : ℕ) (d : List ℕ) where
+    leave : (a : ListAnswer) → a ≡ readAnswer s r (length d)
+        → (withHosts a hosts ≡ withHosts (readAnswer s r (length d)) hosts) × (filled (listMeaning a) (flat words (r .rows)) d ≡ storeAfter s r d)
+    leave a e = (ap (λ (x : ListAnswer). withHosts x hosts) e, sym (store-by d a (sym e)))
 
-    pub leave-refused : (n : ℕ) → countAnswer s r ≡ L.Refused n → (L.Refused n ≡ readAnswer s r (length d)) × (d ≡ storeAfter s r d)
+    pub leave-refused : (n : ℕ) → countAnswer s r ≡ L.Refused n
+        → (withHosts (L.Refused n) hosts ≡ withHosts (readAnswer s r (length d)) hosts) × (d ≡ storeAfter s r d)
     unfolding readAnswer
     leave-refused n e = leave (L.Refused n) (rw e)
 
-    pub leave-full : (n : ℕ) → countAnswer s r ≡ L.Rows n → length d / 6 < n → (L.Refused noRoom ≡ readAnswer s r (length d)) × (d ≡ storeAfter s r d)
+    pub leave-full : (n : ℕ) → countAnswer s r ≡ L.Rows n → length d / 6 < n
+        → (withHosts (L.Refused noRoom) hosts ≡ withHosts (readAnswer s r (length d)) hosts) × (d ≡ storeAfter s r d)
     unfolding readAnswer
     leave-full n e lt = leave (L.Refused noRoom) (rw (e, lt-leb n (length d / 6) lt))
 
-    pub leave-rows : (n : ℕ) → countAnswer s r ≡ L.Rows n → n ≤ length d / 6 → (L.Rows n ≡ readAnswer s r (length d)) × (laid d 0 (flat words (r .rows)) ≡ storeAfter s r d)
+    pub leave-rows : (n : ℕ) → countAnswer s r ≡ L.Rows n → n ≤ length d / 6
+        → (withHosts (L.Rows n) hosts ≡ withHosts (readAnswer s r (length d)) hosts) × (laid d 0 (flat words (r .rows)) ≡ storeAfter s r d)
     unfolding readAnswer
     leave-rows n e le = leave (L.Rows n) (rw (e, le-leb n (length d / 6) le))
 
@@ -335,7 +345,7 @@ abbrev pub Tells : Reader → AddPath → Form → List ℕ → ℕ → Type 0
 Tells read mode st s v = inOne v ≡ withHosts (countAnswer s (readAll (stepBy read mode) st s)) (tally flag (notes hostBits (stepBy read mode) st s))
 
 abbrev pub TellsList : Reader → AddPath → List ℕ → ℕ → Type 0
-TellsList read mode s v = inOne v ≡ withHosts (countAnswer s (listBy read s mode)) (hostsBy read s mode)
+TellsList read mode s v = inOne v ≡ countList read s mode
 
 pub tells-list : (read : Reader) (mode : AddPath) (s : List ℕ) (v : ℕ) → Tells read mode Plain s v → TellsList read mode s v
 unfolding listBy hostsBy

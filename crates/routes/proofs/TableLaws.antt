@@ -21,8 +21,8 @@ use Rattle.families.specs.declared.AddPath.{AddPath}
 use Rattle.families.proofs.FamilyLaws.{max-small}
 use Rattle.families.proofs.OctetLaws.{entry-in, entry-out, octets-few}
 use Rattle.routes.specs.Prefix.{itemEnd, itemRow, prefixOf}
-use Rattle.routes.specs.List.{Reader, upTo, asStep, inForm, formBy, stepBy, stepOf, listBy, listOf, hostsBy, hostsOf, sectionBy, sectionOf}
-use Rattle.routes.specs.Promises.{countAnswer, withHosts}
+use Rattle.routes.specs.List.{Reader, upTo, asStep, inForm, formBy, stepBy, stepOf, listBy, listOf, sectionBy, sectionOf}
+use Rattle.routes.specs.Promises.{countList, countSection}
 use Rattle.routes.specs.ByTable.{endBy, byTable}
 use Rattle.routes.specs.declared.Row.{Row}
 use Rattle.routes.specs.declared.PrefixAnswer.{PrefixAnswer}
@@ -130,10 +130,8 @@ module _ (counts : List ℕ) (afi : Afi) (table : counts ≡ tableOf (maxOf afi)
   section-family s mode = ap (λ (read : Reader). sectionBy read s mode) item-family
 
   -- and what counting answers
-  pub count-list-family : (s : List ℕ) (mode : AddPath)
-      → withHosts (countAnswer s (listBy (byTable counts) s mode)) (hostsBy (byTable counts) s mode) ≡ withHosts (countAnswer s (listOf s (maxOf afi) mode)) (hostsOf s (maxOf afi) mode)
-  count-list-family s mode = ap (λ (read : Reader). withHosts (countAnswer s (listBy read s mode)) (hostsBy read s mode)) item-family
+  pub count-list-family : (s : List ℕ) (mode : AddPath) → countList (byTable counts) s mode ≡ countList (upTo (maxOf afi)) s mode
+  count-list-family s mode = ap (λ (read : Reader). countList read s mode) item-family
 
-  pub count-section-family : (s : List ℕ) (mode : AddPath)
-      → withHosts (countAnswer s (sectionBy (byTable counts) s mode)) (hostsBy (byTable counts) s mode) ≡ withHosts (countAnswer s (sectionOf s (maxOf afi) mode)) (hostsOf s (maxOf afi) mode)
-  count-section-family s mode = ap (λ (read : Reader). withHosts (countAnswer s (sectionBy read s mode)) (hostsBy read s mode)) item-family
+  pub count-section-family : (s : List ℕ) (mode : AddPath) → countSection (byTable counts) s mode ≡ countSection (upTo (maxOf afi)) s mode
+  count-section-family s mode = ap (λ (read : Reader). countSection read s mode) item-family

@@ -10,7 +10,9 @@ use Rattle.wire.specs.Refusal.{tooLong, noRoom, listLimit}
 use Rattle.wire.specs.Walk.{Step, took, stop, Reading, flat}
 use Rattle.families.specs.Family.{markOf}
 use Rattle.families.specs.declared.Form.{Form}
+use Rattle.families.specs.declared.AddPath.{AddPath}
 use Rattle.routes.specs.Prefix.{words}
+use Rattle.routes.specs.List.{Reader, listBy, sectionBy, hostsBy}
 use Rattle.routes.specs.declared.Row.{Row}
 use Rattle.routes.specs.declared.StepAnswer.{StepAnswer}
 use Rattle.routes.specs.declared.StepAnswer.the-variants as S
@@ -60,6 +62,19 @@ storeAfter s r store = filled (listMeaning (readAnswer s r (length store))) (fla
 abbrev pub withHosts : ListAnswer → ℕ → RoutesAnswer
 withHosts (Rows n) hosts = record { list = Rows n; hosts = hosts }
 withHosts (Refused n) hosts = record { list = Refused n; hosts = 0 }
+
+-- what counting and reading answer, of a list and of a section of an UPDATE
+abbrev pub countList : Reader → List ℕ → AddPath → RoutesAnswer
+countList read s mode = withHosts (countAnswer s (listBy read s mode)) (hostsBy read s mode)
+
+abbrev pub countSection : Reader → List ℕ → AddPath → RoutesAnswer
+countSection read s mode = withHosts (countAnswer s (sectionBy read s mode)) (hostsBy read s mode)
+
+abbrev pub readList : Reader → List ℕ → AddPath → ℕ → RoutesAnswer
+readList read s mode places = withHosts (readAnswer s (listBy read s mode) places) (hostsBy read s mode)
+
+abbrev pub readSection : Reader → List ℕ → AddPath → ℕ → RoutesAnswer
+readSection read s mode places = withHosts (readAnswer s (sectionBy read s mode) places) (hostsBy read s mode)
 
 -- as documents 01 and 02 have it: how many rows, and how many of them have a host bit
 abbrev pub rowsMeaning : ListAnswer → ℕ → Answer

@@ -9,8 +9,8 @@ ghost use Rattle.families.specs.Family.{maxOf, idSize};
 ghost use Rattle.routes.specs.Prefix.{itemRow, hostBits, routeOf};
 ghost use Rattle.routes.specs.ByTable.{byTable};
 ghost use Rattle.routes.specs.Private.{Bounded, sizeOf, kept, countUpTo, pastLength, weightOf};
-ghost use Rattle.routes.specs.List.{plainHere, fixed, stepBy, listBy, hostsBy, sectionBy, listOf, hostsOf, sectionOf, strange};
-ghost use Rattle.routes.specs.Promises.{sized, countAnswer, withHosts, rowsIn, hostsIn, verdictIn, inOne};
+ghost use Rattle.routes.specs.List.{upTo, plainHere, fixed, stepBy, strange};
+ghost use Rattle.routes.specs.Promises.{sized, countList, countSection, rowsIn, hostsIn, verdictIn, inOne};
 use families::AddPath;
 use families::Afi;
 use families::Form;
@@ -260,7 +260,7 @@ fn weight(host: bool) -> usize
 // next length byte would stand if it had none, so that the next length byte waits for nothing but the table.
 fn count_form(s: &[u8], counts: &[u8; 256], form: Form) -> usize
     requires { ⌜ length (now s) ≤ listLimit ⌝ }
-    ensures { λ r. ⌜ inOne r ≡ withHosts (countAnswer (now (s .entry)) (listBy (byTable (now (counts .entry))) (now (s .entry)) (fixed form))) (hostsBy (byTable (now (counts .entry))) (now (s .entry)) (fixed form)) ⌝ }
+    ensures { λ r. ⌜ inOne r ≡ countList (byTable (now (counts .entry))) (now (s .entry)) (fixed form) ⌝ }
 {
     let k = families::id_size(form);
     if s.len() < k {
@@ -294,7 +294,7 @@ fn count_form(s: &[u8], counts: &[u8; 256], form: Form) -> usize
 // reason.
 fn count_guess(s: &[u8], counts: &[u8; 256]) -> usize
     requires { ⌜ length (now s) ≤ listLimit ⌝ }
-    ensures { λ r. ⌜ inOne r ≡ withHosts (countAnswer (now (s .entry)) (listBy (byTable (now (counts .entry))) (now (s .entry)) AddPath.Guess)) (hostsBy (byTable (now (counts .entry))) (now (s .entry)) AddPath.Guess) ⌝ }
+    ensures { λ r. ⌜ inOne r ≡ countList (byTable (now (counts .entry))) (now (s .entry)) AddPath.Guess ⌝ }
 {
     let mut rest = s;
     let mut n: usize = 0;
@@ -327,7 +327,7 @@ fn count_guess(s: &[u8], counts: &[u8; 256]) -> usize
 
 // How many rows a list has by a table that the caller lends, with no store: in one number, which stays in a register. `counted` is the answer.
 pub fn count_list_by(s: &[u8], counts: &[u8; 256], mode: AddPath) -> usize
-    ensures answer { λ r. ⌜ inOne r ≡ withHosts (countAnswer (now (s .entry)) (listBy (byTable (now (counts .entry))) (now (s .entry)) mode)) (hostsBy (byTable (now (counts .entry))) (now (s .entry)) mode) ⌝ }
+    ensures answer { λ r. ⌜ inOne r ≡ countList (byTable (now (counts .entry))) (now (s .entry)) mode ⌝ }
 {
     // So that the slice is handed on in registers.
     let whole = &s[..];
@@ -360,7 +360,7 @@ pub fn counted(n: usize) -> RoutesAnswer
 
 // How many rows a list has, with no store.
 pub fn count_nlri_list(s: &[u8], afi: Afi, mode: AddPath) -> RoutesAnswer
-    ensures answer { λ r. ⌜ r ≡ withHosts (countAnswer (now (s .entry)) (listOf (now (s .entry)) (maxOf afi) mode)) (hostsOf (now (s .entry)) (maxOf afi) mode) ⌝ }
+    ensures answer { λ r. ⌜ r ≡ countList (upTo (maxOf afi)) (now (s .entry)) mode ⌝ }
 {
     let counts = octets::counts(afi);
     counted(count_list_by(s, &counts, mode))
@@ -409,7 +409,7 @@ pub fn verdict_in(a: RoutesAnswer) -> u8
 
 // How many rows a section of an UPDATE has by a table that the caller lends, as count_list_by.
 pub fn count_section_by(s: &[u8], counts: &[u8; 256], mode: AddPath) -> usize
-    ensures answer { λ r. ⌜ inOne r ≡ withHosts (countAnswer (now (s .entry)) (sectionBy (byTable (now (counts .entry))) (now (s .entry)) mode)) (hostsBy (byTable (now (counts .entry))) (now (s .entry)) mode) ⌝ }
+    ensures answer { λ r. ⌜ inOne r ≡ countSection (byTable (now (counts .entry))) (now (s .entry)) mode ⌝ }
 {
     let whole = &s[..];
     if is_strange(whole) {
@@ -420,7 +420,7 @@ pub fn count_section_by(s: &[u8], counts: &[u8; 256], mode: AddPath) -> usize
 
 // How many rows a section of an UPDATE has, with no store.
 pub fn count_nlri(s: &[u8], afi: Afi, mode: AddPath) -> RoutesAnswer
-    ensures answer { λ r. ⌜ r ≡ withHosts (countAnswer (now (s .entry)) (sectionOf (now (s .entry)) (maxOf afi) mode)) (hostsOf (now (s .entry)) (maxOf afi) mode) ⌝ }
+    ensures answer { λ r. ⌜ r ≡ countSection (upTo (maxOf afi)) (now (s .entry)) mode ⌝ }
 {
     let counts = octets::counts(afi);
     counted(count_section_by(s, &counts, mode))

@@ -1,9 +1,10 @@
-use mathlib.Core.Path.{_≡_, refl, sym, ap, _∙_}
+use mathlib.Core.Path.{_≡_, refl, sym, _∙_}
 use borrow.Author.Tests.{not-true, not-false}
 use Rattle.families.specs.Family.{maxOf}
-use Rattle.routes.specs.List.{sectionOf}
-use Rattle.routes.specs.Promises.{countAnswer}
-use Rattle.routes.proofs.TableLaws.{section-family}
+use Rattle.routes.specs.List.{upTo, hostsOf, sectionOf}
+use Rattle.routes.specs.Promises.{countAnswer, countSection}
+use Rattle.routes.proofs.ListLaws.{told-list}
+use Rattle.routes.proofs.TableLaws.{count-section-family}
 use Rattle.route_reader.specs.Pair.{readPair}
 use Rattle.route_reader.proofs.PairLaws.{pair-first, pair-second, pair-both}
 use borrow.Author.Needs.{needs}
@@ -31,13 +32,12 @@ has-room-requires c κs = search needs
 -- both counts, which are of the family
 counted : (c : tie.After-counted2) →
     let a = c .before .before .before .before .before .before .before .before .before .before .before .args in
-    (c .before .before .before .counted .result ≡ countAnswer (a .s .now) (sectionOf (a .s .now) (maxOf (a .afi)) (a .mode)))
-    × (c .counted2 .result ≡ countAnswer (a .t .now) (sectionOf (a .t .now) (maxOf (a .afi)) (a .mode)))
+    (c .before .before .before .counted .result ≡ countSection (upTo (maxOf (a .afi))) (a .s .now) (a .mode)) × (c .counted2 .result ≡ countSection (upTo (maxOf (a .afi))) (a .t .now) (a .mode))
 counted c =
     let a = c .before .before .before .before .before .before .before .before .before .before .before .args in
     let table = c .before .before .before .before .before .before .counts .ensures in (
-      c .before .before .before .counted .ensures ∙ c .before .before .before .before .count-section-by .ensures ∙ ap (countAnswer (a .s .now)) (section-family _ (a .afi) table (a .s .now) (a .mode)),
-      c .counted2 .ensures ∙ c .before .count-section-by2 .ensures ∙ ap (countAnswer (a .t .now)) (section-family _ (a .afi) table (a .t .now) (a .mode)),
+      c .before .before .before .counted .ensures ∙ c .before .before .before .before .count-section-by .ensures ∙ count-section-family _ (a .afi) table (a .s .now) (a .mode),
+      c .counted2 .ensures ∙ c .before .count-section-by2 .ensures ∙ count-section-family _ (a .afi) table (a .t .now) (a .mode),
     )
 
 returns : tie.Need-returns
@@ -58,12 +58,16 @@ returns-2 c =
 fill-counted-requires : tie.Need-fill-counted-requires
 fill-counted-requires c κs =
     let k = c .before .before .before .before .before .before in
-    (k .before .before .before .before .before .before .counts .ensures, (counted k .0, sym (c .before .before .before .before .before .has-room .ensures) ∙ not-false _ (c .before .before .before .before .if1 .left)))
+    let a = k .before .before .before .before .before .before .before .before .before .before .before .args in
+    let count = countAnswer (a .s .now) (sectionOf (a .s .now) (maxOf (a .afi)) (a .mode)) in
+    (k .before .before .before .before .before .before .counts .ensures, (told-list count (hostsOf (a .s .now) (maxOf (a .afi)) (a .mode)) _ (counted k .0), sym (c .before .before .before .before .before .has-room .ensures) ∙ not-false _ (c .before .before .before .before .if1 .left)))
 
 fill-counted-requires-2 : tie.Need-fill-counted-requires-2
 fill-counted-requires-2 c κs =
     let k = c .before .before .before .before .before .before .before .before .before .before .before in
-    (k .before .before .before .before .before .before .counts .ensures, (counted k .1, sym (c .before .before .before .before .before .before .before .before .has-room2 .ensures) ∙ not-false _ (c .before .before .before .before .before .before .before .if2 .left)))
+    let a = k .before .before .before .before .before .before .before .before .before .before .before .args in
+    let count = countAnswer (a .t .now) (sectionOf (a .t .now) (maxOf (a .afi)) (a .mode)) in
+    (k .before .before .before .before .before .before .counts .ensures, (told-list count (hostsOf (a .t .now) (maxOf (a .afi)) (a .mode)) _ (counted k .1), sym (c .before .before .before .before .before .before .before .before .has-room2 .ensures) ∙ not-false _ (c .before .before .before .before .before .before .before .if2 .left)))
 
 same-length : tie.Need-same-length
 same-length c = search needs
