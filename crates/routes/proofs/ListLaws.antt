@@ -10,7 +10,7 @@ use native.Mathlib.Decide.{decLe}
 use native.Mathlib.Omega.{arith}
 use borrow.Author.Tests.{le-leb, lt-leb, eqb-true}
 use lib.ListN.{length, getD, take, drop}
-use Rattle.wire.specs.Answer.{given, valueIn, filled, answerBy, flag}
+use Rattle.wire.specs.Answer.{given, numberIn, valueIn, filled, answerBy, flag}
 use Rattle.wire.proofs.AnswerLaws.{answer-refused, unpacked-count, unpacked-refused}
 use Rattle.wire.specs.Choice.{pick}
 use Rattle.wire.proofs.ChoiceLaws.{pick-leb}
@@ -22,7 +22,7 @@ use Rattle.wire.proofs.WalkLaws.{Sound, tally-one, flat-length, all-blind, note
 use Rattle.routes.specs.Prefix.{itemRow, words, hostBits}
 use Rattle.routes.proofs.PrefixLaws.{Took, prefix-took, prefix-names}
 use Rattle.routes.specs.List.{Reader, upTo, asStep, inForm, plainHere, tried, guessForm, formBy, fixed, stepBy, stepOf, listBy, hostsBy, strange, sectionBy}
-use Rattle.routes.specs.Promises.{sized, listMeaning, countAnswer, hasRoom, readAnswer, storeAfter, withHosts, countList, hostUnit, inOne}
+use Rattle.routes.specs.Promises.{sized, listMeaning, countAnswer, hasRoom, readAnswer, storeAfter, withHosts, countList, rowsIn, verdictIn, hostUnit, inOne}
 use Rattle.routes.specs.Private.{sizeOf, kept, weightOf}
 use Rattle.routes.proofs.HostLaws.{weight-few, tally-weights}
 use Rattle.families.specs.declared.Form.{Form}
@@ -244,6 +244,14 @@ one-number n m e = back n ∙ ap (λ (a : RoutesAnswer). numberOf (a .list) (a .
 pub beside-list : (a : ListAnswer) (hosts : ℕ) → withHosts a hosts .list ≡ a
 beside-list (L.Rows n) hosts = refl
 beside-list (L.Refused n) hosts = refl
+
+pub beside-rows : (a : ListAnswer) (hosts : ℕ) → rowsIn (withHosts a hosts) ≡ valueIn 0 (listMeaning a)
+beside-rows (L.Rows n) hosts = refl
+beside-rows (L.Refused n) hosts = refl
+
+pub beside-verdict : (a : ListAnswer) (hosts : ℕ) → verdictIn (withHosts a hosts) ≡ numberIn (listMeaning a)
+beside-verdict (L.Rows n) hosts = refl
+beside-verdict (L.Refused n) hosts = refl
 
 pub told-list : (a : ListAnswer) (hosts : ℕ) (z : RoutesAnswer) → z ≡ withHosts a hosts → z .list ≡ a
 told-list a hosts z e = ap (λ (x : RoutesAnswer). x .list) e ∙ beside-list a hosts

@@ -15,10 +15,10 @@ use Rattle.wire.proofs.WalkLaws.{all-ind}
 use Rattle.families.specs.Family.{maxOf}
 use Rattle.routes.specs.Prefix.{prefixOf}
 use Rattle.routes.proofs.PrefixLaws.{prefix-cases}
-use Rattle.routes.specs.List.{upTo, asStep, inForm, formBy, stepBy, stepOf, listBy, listOf, strange, sectionBy, sectionOf}
-use Rattle.routes.proofs.ListLaws.{sound}
-use Rattle.wire.specs.Answer.{answerBy}
-use Rattle.routes.specs.Promises.{verdictIn, countAnswer, hasRoom}
+use Rattle.routes.specs.List.{upTo, asStep, inForm, formBy, stepBy, stepOf, listBy, listOf, hostsOf, strange, sectionBy, sectionOf}
+use Rattle.routes.proofs.ListLaws.{sound, beside-verdict}
+use Rattle.wire.specs.Answer.{numberIn, answerBy}
+use Rattle.routes.specs.Promises.{listMeaning, verdictIn, countAnswer, hasRoom}
 use Rattle.routes.specs.declared.ListAnswer.the-variants as L
 use Rattle.route_reader.specs.Pair.{readPairBy, readPair}
 use Rattle.route_reader.specs.declared.PairAnswer.{PairAnswer}
@@ -28,7 +28,7 @@ use Rattle.families.specs.declared.Form.{Form}
 use Rattle.families.specs.declared.Form.the-variants.{Plain}
 use Rattle.families.specs.declared.AddPath.{AddPath}
 use Rattle.routes.specs.declared.Row.{Row}
-use Rattle.routes.specs.declared.ListAnswer.{ListAnswer}
+use Rattle.routes.specs.declared.RoutesAnswer.{RoutesAnswer}
 use Rattle.routes.specs.declared.PrefixAnswer.{PrefixAnswer}
 use Rattle.routes.specs.declared.PrefixAnswer.the-variants as P
 use Rattle.updates.specs.Body.{lengthSize, partsOf, withdrawnOf, attributesOf, announcedOf}
@@ -121,7 +121,7 @@ module _ (max : ℕ) (mode : AddPath) where
   unfolding sectionBy
   section-verdict s = pick-any (λ (r : Reading Row). SectionVerdict (r .verdict)) (strange s) (refused oneByteSection) (listOf s max mode) single (ofList (list-verdict s))
 
-answered : (v count : ℕ) → SectionVerdict v → SectionVerdict (verdictIn (answerBy v (L.Rows count) L.Refused))
+answered : (v count : ℕ) → SectionVerdict v → SectionVerdict (numberIn (listMeaning (answerBy v (L.Rows count) L.Refused)))
 answered zero count h = h
 answered (suc v) count h = h
 
@@ -130,10 +130,11 @@ pub counted-verdict : (s : List ℕ) (mode : AddPath) → length s ≤ listLimit
 unfolding countAnswer
 counted-verdict s mode h =
     let r : Reading Row = sectionOf s (maxOf Ipv4) mode in
-    rw (le-leb (length s) listLimit h) (answered (r .verdict) (length (r .rows)) (section-verdict (maxOf Ipv4) mode s))
+    subst SectionVerdict (sym (beside-verdict (countAnswer s r) (hostsOf s (maxOf Ipv4) mode)))
+    (rw (le-leb (length s) listLimit h) (answered (r .verdict) (length (r .rows)) (section-verdict (maxOf Ipv4) mode s)))
 
 -- so are both sections of an UPDATE that is not refused
-pub update-verdicts : (b : List ℕ) (mode : AddPath) (first second : ListAnswer) → countUpdate b mode ≡ Update first second
+pub update-verdicts : (b : List ℕ) (mode : AddPath) (first second : RoutesAnswer) → countUpdate b mode ≡ Update first second
     → SectionVerdict (verdictIn first) × SectionVerdict (verdictIn second)
 unfolding countUpdate
 update-verdicts b mode first second = by-parts (partsOf b) refl
@@ -144,15 +145,15 @@ update-verdicts b mode first second = by-parts (partsOf b) refl
         let one : counted (withdrawnOf b) mode ≡ first = cc in
         let two : counted (announcedOf b) mode ≡ second = cc in
         let whole = parts-add-up b w a n found in (
-          subst (λ (x : ListAnswer). SectionVerdict (verdictIn x)) one (counted-verdict (withdrawnOf b) mode (omega (arith, whole, withdrawn-length b w a n found))),
-          subst (λ (x : ListAnswer). SectionVerdict (verdictIn x)) two (counted-verdict (announcedOf b) mode (omega (arith, whole, announced-length b w a n found))),
+          subst (λ (x : RoutesAnswer). SectionVerdict (verdictIn x)) one (counted-verdict (withdrawnOf b) mode (omega (arith, whole, withdrawn-length b w a n found))),
+          subst (λ (x : RoutesAnswer). SectionVerdict (verdictIn x)) two (counted-verdict (announcedOf b) mode (omega (arith, whole, announced-length b w a n found))),
         )
     by-parts (Refused m) found e = never (let z : _≡_ {A = ℕ} 0 1 = cc in z)
 
 -- ---- reading and counting
 
 -- the sections of an UPDATE that is counted are counted each by itself
-pub counted-sections : (b : List ℕ) (mode : AddPath) (first second : ListAnswer) → countUpdate b mode ≡ Update first second
+pub counted-sections : (b : List ℕ) (mode : AddPath) (first second : RoutesAnswer) → countUpdate b mode ≡ Update first second
     → (counted (withdrawnOf b) mode ≡ first) × (counted (announcedOf b) mode ≡ second)
 unfolding countUpdate
 counted-sections b mode first second = by-parts (partsOf b)
@@ -163,20 +164,20 @@ counted-sections b mode first second = by-parts (partsOf b)
     by-parts (Refused m) e = never (let z : _≡_ {A = ℕ} 0 1 = cc in z)
 
 -- an UPDATE that is read into stores is answered as it is counted
-pub read-is-count : (b : List ℕ) (mode : AddPath) (places places′ : ℕ) (first second : ListAnswer) → readUpdate b mode places places′ ≡ Update first second
+pub read-is-count : (b : List ℕ) (mode : AddPath) (places places′ : ℕ) (first second : RoutesAnswer) → readUpdate b mode places places′ ≡ Update first second
     → countUpdate b mode ≡ Update first second
 unfolding readUpdate countUpdate readPair readPairBy
 read-is-count b mode places places′ first second = by-parts (partsOf b)
   where
-    one : ListAnswer
+    one : RoutesAnswer
     one = counted (withdrawnOf b) mode
 
-    two : ListAnswer
+    two : RoutesAnswer
     two = counted (announcedOf b) mode
 
     by-parts : (p : PartsAnswer) → ifParts p (asUpdate (readPairBy one two places places′)) ≡ Update first second → ifParts p (Update one two) ≡ Update first second
     by-parts (Parts w a n) =
         let P : PairAnswer → Type 0 = λ x. asUpdate x ≡ Update first second → Update one two ≡ Update first second in
         let full : P (Q.Refused noRoom) = λ e. never (let z : _≡_ {A = ℕ} 0 1 = cc in z) in
-        pick-any P (hasRoom one places) _ (Q.Refused noRoom) (pick-any P (hasRoom two places′) (Q.Sections one two) (Q.Refused noRoom) (λ e. e) full) full
+        pick-any P (hasRoom (one .list) places) _ (Q.Refused noRoom) (pick-any P (hasRoom (two .list) places′) (Q.Sections one two) (Q.Refused noRoom) (λ e. e) full) full
     by-parts (Refused m) = λ e. never (let z : _≡_ {A = ℕ} 0 1 = cc in z)

@@ -5,14 +5,14 @@ use mathlib.Core.List.{List, [], _∷_}
 use Rattle.wire.specs.Answer.{Answer, given, refusal, filled}
 use Rattle.wire.specs.Walk.{flat}
 use Rattle.families.specs.Family.{maxOf}
-use Rattle.routes.specs.List.{sectionOf}
+use Rattle.routes.specs.List.{upTo, sectionOf}
 use Rattle.routes.specs.Prefix.{words}
-use Rattle.routes.specs.Promises.{listMeaning, rowsIn, verdictIn, countAnswer}
+use Rattle.routes.specs.Promises.{listMeaning, rowsIn, hostsIn, verdictIn, countSection}
 use Rattle.route_reader.specs.Pair.{readPair}
 use Rattle.families.specs.declared.Afi.the-variants.{Ipv4}
 use Rattle.families.specs.declared.AddPath.{AddPath}
 use Rattle.routes.specs.declared.Row.{Row}
-use Rattle.routes.specs.declared.ListAnswer.{ListAnswer}
+use Rattle.routes.specs.declared.RoutesAnswer.{RoutesAnswer}
 use Rattle.route_reader.specs.declared.PairAnswer.{PairAnswer}
 use Rattle.route_reader.specs.declared.PairAnswer.the-variants as P
 use Rattle.updates.specs.Body.{partsOf, withdrawnOf, announcedOf}
@@ -21,18 +21,20 @@ use Rattle.updates.specs.declared.PartsAnswer.the-variants as S
 use Rattle.updates.specs.declared.UpdateAnswer.{UpdateAnswer}
 use Rattle.updates.specs.declared.UpdateAnswer.the-variants.{Update, Refused}
 
--- an UPDATE as document 01 has it: the rows and the verdict of its withdrawn section, and of its announced one
+-- an UPDATE as documents 01 and 02 have it: the rows and the verdict of its withdrawn section, and of its announced one; then the rows of each that have a
+-- host bit
 abbrev pub updateMeaning : UpdateAnswer → Answer
-updateMeaning (Update withdrawn announced) = given (rowsIn withdrawn ∷ verdictIn withdrawn ∷ rowsIn announced ∷ verdictIn announced ∷ [])
+updateMeaning (Update withdrawn announced) =
+    given (rowsIn withdrawn ∷ verdictIn withdrawn ∷ rowsIn announced ∷ verdictIn announced ∷ hostsIn withdrawn ∷ hostsIn announced ∷ [])
 updateMeaning (Refused n) = refusal n
 
--- each section by itself
+-- each section by itself, and how many rows it has
 abbrev pub withdrawnMeaning : UpdateAnswer → Answer
-withdrawnMeaning (Update withdrawn announced) = listMeaning withdrawn
+withdrawnMeaning (Update withdrawn announced) = listMeaning (withdrawn .list)
 withdrawnMeaning (Refused n) = refusal n
 
 abbrev pub announcedMeaning : UpdateAnswer → Answer
-announcedMeaning (Update withdrawn announced) = listMeaning announced
+announcedMeaning (Update withdrawn announced) = listMeaning (announced .list)
 announcedMeaning (Refused n) = refusal n
 
 -- a body whose sections are not all there is refused first
@@ -45,8 +47,8 @@ asUpdate (P.Sections first second) = Update first second
 asUpdate (P.Refused n) = Refused n
 
 -- counting
-abbrev pub counted : List ℕ → AddPath → ListAnswer
-counted s mode = countAnswer s (sectionOf s (maxOf Ipv4) mode)
+abbrev pub counted : List ℕ → AddPath → RoutesAnswer
+counted s mode = countSection (upTo (maxOf Ipv4)) s mode
 
 unfoldable pub countUpdate : List ℕ → AddPath → UpdateAnswer
 countUpdate b mode = ifParts (partsOf b) (Update (counted (withdrawnOf b) mode) (counted (announcedOf b) mode))

@@ -13,7 +13,7 @@ use families::AddPath;
 use families::Afi;
 use families::octets;
 use route_reader::PairAnswer;
-use routes::ListAnswer;
+use routes::RoutesAnswer;
 use wire::refusal;
 
 // The bytes of a section's length.
@@ -29,11 +29,12 @@ pub enum PartsAnswer {
     Refused(u8),
 }
 
-// The routes of both sections, each with its rows or its own refusal number; or a refusal of the UPDATE.
+// The routes of both sections, each with its rows, and those that have a bit set past their length, or its own refusal number; or a refusal of the
+// UPDATE.
 pub enum UpdateAnswer {
     Update {
-        withdrawn: ListAnswer,
-        announced: ListAnswer,
+        withdrawn: RoutesAnswer,
+        announced: RoutesAnswer,
     },
     Refused(u8),
 }
@@ -115,7 +116,7 @@ pub fn announced_part(body: &[u8]) -> &[u8]
     }
 }
 
-// How many routes both sections have: IPv4 ones, as the body of an UPDATE has them.
+// How many routes both sections have, and how many of them have a bit set past their length: IPv4 ones, as the body of an UPDATE has them.
 pub fn count_bgp_update_message(body: &[u8], mode: AddPath) -> UpdateAnswer
     ensures { λ r. ⌜ r ≡ countUpdate (now (body .entry)) mode ⌝ }
 {

@@ -1,7 +1,6 @@
-use mathlib.Core.Path.{ap, ap₂, sym, _∙_}
+use mathlib.Core.Path.{ap₂, sym, _∙_}
 use Rattle.families.specs.declared.Afi.the-variants.{Ipv4}
-use Rattle.routes.specs.Promises.{countAnswer}
-use Rattle.routes.proofs.TableLaws.{section-family}
+use Rattle.routes.proofs.TableLaws.{count-section-family}
 use Rattle.updates.specs.declared.UpdateAnswer.the-variants.{Update}
 use Rattle.updates.specs.Update.{countUpdate}
 use Rattle.updates.proofs.BodyLaws.{holds-withdrawn, holds-announced}
@@ -51,8 +50,8 @@ returns c =
     let a = holds-announced (g .body) _ (second .ensures) in
     rw (sym (k .before .before .update-parts .ensures) ∙ k .enum-told .given .1, ← w, ← a)
     (ap₂ Update
-    (c .before .counted .ensures ∙ c .before .before .before .before .before .count-section-by .ensures ∙ ap (countAnswer (first .result .now)) (section-family _ Ipv4 table (first .result .now) (g .mode)))
-    (c .counted2 .ensures ∙ c .before .before .count-section-by2 .ensures ∙ ap (countAnswer (second .result .now)) (section-family _ Ipv4 table (second .result .now) (g .mode))))
+    (c .before .counted .ensures ∙ c .before .before .before .before .before .count-section-by .ensures ∙ count-section-family _ Ipv4 table (first .result .now) (g .mode))
+    (c .counted2 .ensures ∙ c .before .before .count-section-by2 .ensures ∙ count-section-family _ Ipv4 table (second .result .now) (g .mode)))
 
 returns-2 : tie.Need-returns-2
 unfolding countUpdate
