@@ -23,14 +23,18 @@
  * as they were sent; what is past that octet is 0. A row takes a byte at least, and one with a path id five. So a list has at most 65,535
  * rows, or 13,107 where each has an id; a body has at most DOORBRAMBLE_BODY_ROWS, in one section or both together, or 13,102.
  *
+ * Host bits. A row has host bits where a bit past its length is set, as 10.255.0.0/9 has, which is sent as `09 0A FF` where 10.128.0.0/9 is
+ * meant. All of them stand in the last octet of the prefix, so a row whose length is a multiple of 8 has none. Answers count the rows that
+ * have host bits, and not the bits.
+ *
  * Rows to write. Refusal 14 is given exactly where
  *   - the length of a store of rows is not a multiple of DOORBRAMBLE_ROW_WORDS;
  *   - the first word of a row is not a length up to 32 for IPv4 or 128 for IPv6, plus DOORBRAMBLE_ROW_HAS_ID where add_path is set;
  *   - the id is not 0, and add_path is not set;
  *   - an octet of the address words past those of the prefix, its length rounded up to whole octets, is not 0: for IPv4 any octet of the
  *     last three words.
- * Bits past the length in the last octet are written as they are. Rows that were read with DOORBRAMBLE_GUESS may have ids in some and none
- * in others: 14 for such a list, whatever add_path is.
+ * Host bits are written as they are. Rows that were read with DOORBRAMBLE_GUESS may have ids in some and none in others: 14 for such a list,
+ * whatever add_path is.
  *
  * The machine. x86-64, by the calling convention of Linux. No call uses more stack than DOORBRAMBLE_STACK_LIMIT; none is recursive, calls
  * anything outside the library, or keeps data. They use the red zone, the 128 bytes below the stack pointer, and SSE registers, with no
@@ -48,10 +52,10 @@ extern "C" {
 
 /* ---- version */
 
-/* of this header: the major number rises when a caller that was compiled before would break, the minor one when calls are added.
- * doorbramble_version() is that of the library. */
+/* of this header: the major number rises when a caller that was compiled before would break, the minor one when calls or fields are
+ * added. doorbramble_version() is that of the library. */
 #define DOORBRAMBLE_VERSION_MAJOR 1
-#define DOORBRAMBLE_VERSION_MINOR 4
+#define DOORBRAMBLE_VERSION_MINOR 5
 
 /* ---- refusal numbers */
 
@@ -197,6 +201,11 @@ uint64_t doorbramble_count_bgp_update_message(const uint8_t *body, size_t body_l
 uint64_t doorbramble_parse_bgp_update_message(const uint8_t *body, size_t body_len, uint8_t settings, uint32_t *withdrawn,
                                               size_t withdrawn_len, uint32_t *announced, size_t announced_len);
 
+/* How many rows of each section have host bits: a call of its own, since the answer of the two above has no field left. It counts both sections
+ * anew and takes as long as doorbramble_count_bgp_update_message does. It is lent no store, so it also tells of a body that the reading call
+ * refuses with 11. A malformed section has no rows, and 0 here. Answer: withdrawn_hosts, announced_hosts. Refusals: 1, 2. */
+uint64_t doorbramble_count_update_hosts(const uint8_t *body, size_t body_len, uint8_t settings);
+
 /* A body of rows to withdraw, attribute bytes and rows to announce, all IPv4, both lists with path ids or both without, at the front of out.
  * Answer: bytes. Refusals: 14 of either list, 1, then 11. */
 uint64_t doorbramble_encode_bgp_update_message(const uint32_t *withdrawn, size_t withdrawn_len, const uint8_t *attributes,
@@ -235,7 +244,7 @@ uint64_t doorbramble_find_attribute(const uint8_t *section, size_t section_len, 
 
 /* ---- route lists */
 
-/* How many routes a list has. Answer: rows. Refusals: 1, then 2 and 7 in byte order. */
+/* How many routes a list has, and how many of these have host bits. Answer: rows, hosts. Refusals: 1, then 2 and 7 in byte order. */
 uint64_t doorbramble_count_nlri_list(const uint8_t *s, size_t s_len, uint8_t ipv6, uint8_t settings);
 
 /* The same, with the rows at the front of store. Refusals: as above, then 11. */
@@ -361,8 +370,13 @@ static inline unsigned doorbramble_announced_rows(uint64_t answer) { return door
 static inline unsigned doorbramble_withdrawn_verdict(uint64_t answer) { return doorbramble_field_c_low(answer); }
 static inline unsigned doorbramble_announced_verdict(uint64_t answer) { return doorbramble_field_c_high(answer); }
 
-/* of a list */
+/* of doorbramble_count_update_hosts alone: the rows of each section that have host bits */
+static inline unsigned doorbramble_withdrawn_hosts(uint64_t answer) { return doorbramble_field_a(answer); }
+static inline unsigned doorbramble_announced_hosts(uint64_t answer) { return doorbramble_field_b(answer); }
+
+/* of a list: its rows, and how many of them have host bits */
 static inline unsigned doorbramble_rows(uint64_t answer) { return doorbramble_field_a(answer); }
+static inline unsigned doorbramble_hosts(uint64_t answer) { return doorbramble_field_b(answer); }
 
 /* of an AS_PATH, read or merged */
 static inline unsigned doorbramble_segments(uint64_t answer) { return doorbramble_field_a(answer); }
