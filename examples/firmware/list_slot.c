@@ -1,4 +1,5 @@
-/* Reads the slot records of a file and prints the routes of each UPDATE in them, and the types of its attributes.
+/* Reads the slot records of a file and prints the routes of each UPDATE in them, marked where they have host bits, and the types of its
+ * attributes.
  *
  * usage: list_slot FILE     `-` is standard input
  *
@@ -50,13 +51,20 @@ static const char *reason(unsigned refusal) {
     }
 }
 
+/* Whether a row of IPv4 has a bit set past its length. All octets past those of the prefix are 0, so one mask finds every such bit. */
+static int has_host_bits(const uint32_t *row) {
+    uint32_t length = row[0] % DOORBRAMBLE_ROW_HAS_ID;
+    uint32_t past_length = length < 32 ? UINT32_MAX >> length : 0;
+    return (row[2] & past_length) != 0;
+}
+
 static void print_route(const char *what, const uint32_t *row) {
     uint32_t a = row[2];
     printf("%s %u.%u.%u.%u/%u", what, (unsigned)(a >> 24), (unsigned)(a >> 16 & 0xFF), (unsigned)(a >> 8 & 0xFF), (unsigned)(a & 0xFF),
            (unsigned)(row[0] % DOORBRAMBLE_ROW_HAS_ID));
     if (row[0] >= DOORBRAMBLE_ROW_HAS_ID)
         printf(" id %u", (unsigned)row[1]);
-    printf("\n");
+    printf("%s\n", has_host_bits(row) ? " host bits" : "");
 }
 
 /* The routes of a section, or why it has none. Answers whether it is good. */
@@ -85,6 +93,13 @@ static int print_attributes(const uint8_t *section, unsigned size) {
     return refusal == 0;
 }
 
+/* How many routes of each section have host bits, where any has. */
+static void print_hosts(const uint8_t *body, size_t size, uint8_t settings) {
+    uint64_t found = doorbramble_count_update_hosts(body, size, settings);
+    if (doorbramble_withdrawn_hosts(found) != 0 || doorbramble_announced_hosts(found) != 0)
+        printf("host bits: %u withdrawn, %u announced\n", doorbramble_withdrawn_hosts(found), doorbramble_announced_hosts(found));
+}
+
 static int print_update(const uint8_t *body, size_t size, uint8_t settings) {
     uint64_t found = doorbramble_parse_bgp_update_message(body, size, settings, withdrawn, sizeof withdrawn / sizeof withdrawn[0],
                                                           announced, sizeof announced / sizeof announced[0]);
@@ -97,7 +112,9 @@ static int print_update(const uint8_t *body, size_t size, uint8_t settings) {
     }
     good = print_section("withdrawn", doorbramble_withdrawn_rows(found), doorbramble_withdrawn_verdict(found), withdrawn);
     good = print_attributes(body + doorbramble_offset(attributes), doorbramble_length(attributes)) && good;
-    return print_section("announced", doorbramble_announced_rows(found), doorbramble_announced_verdict(found), announced) && good;
+    good = print_section("announced", doorbramble_announced_rows(found), doorbramble_announced_verdict(found), announced) && good;
+    print_hosts(body, size, settings);
+    return good;
 }
 
 /* What a slot keeps. Answers whether all of it could be read. */

@@ -356,7 +356,7 @@ static void lists(void) {
 
     answer = doorbramble_count_nlri_list(tagged, 6, 0, DOORBRAMBLE_ADD_PATH);
     check_answer("count_nlri_list: Add-Path", answer, accepted(1, 0, 0));
-    expect("the field of a list", doorbramble_rows(answer) == 1);
+    expect("the fields of a list", doorbramble_rows(answer) == 1 && doorbramble_hosts(answer) == 0);
     check_answer("count_nlri_list: both settings are Add-Path", doorbramble_count_nlri_list(tagged, 6, 0, 3), accepted(1, 0, 0));
     check_answer("count_nlri_list: 2 without Add-Path", doorbramble_count_nlri_list(tagged, 6, 0, 0), refused(DOORBRAMBLE_TRUNCATED));
     check_answer("count_nlri_list: no other bit is read", doorbramble_count_nlri_list(tagged, 6, 0, 0xFC), refused(DOORBRAMBLE_TRUNCATED));
@@ -379,6 +379,138 @@ static void lists(void) {
     check_answer("encode_nlri_prefixes: 14", doorbramble_encode_nlri_prefixes(seven, 6, 0, 0, out, PLACES),
                  refused(DOORBRAMBLE_NOT_WRITABLE));
     check_answer("encode_nlri_prefixes: 11", doorbramble_encode_nlri_prefixes(six, 6, 1, 0, out, 8), refused(DOORBRAMBLE_NO_ROOM));
+}
+
+/* lists with host bits and without: the rows, and how many have them; 0 with every refusal */
+static void list_hosts(void) {
+    static const uint8_t nine[] = {9, 10, 0xFF}, meant[] = {9, 10, 0x80};
+    /* 10.255.0.0/9, 255.0.0.0/8, 0.0.0.0/0, 10.0.0.129/25, 255.255.255.255/32, and then a length of 33 */
+    static const uint8_t several[] = {9, 10, 0xFF, 8, 0xFF, 0, 25, 10, 0, 0, 0x81, 32, 0xFF, 0xFF, 0xFF, 0xFF, 33};
+    static const uint8_t wide[] = {65, 0x20, 0x01, 0x0D, 0xB8, 0, 0, 0, 1, 0x40, 64, 0x20, 0x01, 0x0D, 0xB8, 0, 0, 0, 0xFF};
+    static const uint8_t tagged[] = {0, 0, 0, 7, 9, 10, 0xFF, 0xFF, 0xFF, 0xFF, 0xFF, 8, 0xFF};
+    static const uint8_t guess[] = {0, 0, 0, 7, 9, 10, 0xFF, 9, 10, 0xFF};
+    static const uint32_t row[] = {9, 0, 0x0AFF0000, 0, 0, 0};
+    uint64_t answer = doorbramble_count_nlri_list(nine, 3, 0, 0);
+
+    check_answer("count_nlri_list: host bits", answer, accepted(1, 1, 0));
+    expect("the fields of a list with host bits", doorbramble_rows(answer) == 1 && doorbramble_hosts(answer) == 1);
+    check_answer("count_nlri_list: no host bits", doorbramble_count_nlri_list(meant, 3, 0, 0), accepted(1, 0, 0));
+    check_answer("count_nlri_list: host bits of some", doorbramble_count_nlri_list(several, 16, 0, 0), accepted(5, 2, 0));
+    check_answer("count_nlri_list: host bits, IPv6", doorbramble_count_nlri_list(wide, 19, 1, 0), accepted(2, 1, 0));
+    check_answer("count_nlri_list: host bits, Add-Path", doorbramble_count_nlri_list(tagged, 13, 0, DOORBRAMBLE_ADD_PATH),
+                 accepted(2, 1, 0));
+    check_answer("count_nlri_list: host bits, the guess", doorbramble_count_nlri_list(guess, 10, 0, DOORBRAMBLE_GUESS), accepted(2, 2, 0));
+    check_store("parse_nlri_list: host bits", doorbramble_parse_nlri_list(nine, 3, 0, 0, one, PLACES), accepted(1, 1, 0), row, 6);
+
+    answer = doorbramble_count_nlri_list(several, 17, 0, 0);
+    check_answer("count_nlri_list: 7 after host bits", answer, refused(DOORBRAMBLE_PREFIX_LENGTH));
+    expect("the fields of a refused list", doorbramble_rows(answer) == 0 && doorbramble_hosts(answer) == 0);
+    check_answer("count_nlri_list: 2 after host bits", doorbramble_count_nlri_list(several, 15, 0, 0), refused(DOORBRAMBLE_TRUNCATED));
+    check_answer("parse_nlri_list: 7 after host bits", doorbramble_parse_nlri_list(several, 17, 0, 0, one, PLACES),
+                 refused(DOORBRAMBLE_PREFIX_LENGTH));
+    check_answer("parse_nlri_list: 2 after host bits", doorbramble_parse_nlri_list(several, 15, 0, 0, one, PLACES),
+                 refused(DOORBRAMBLE_TRUNCATED));
+    check_answer("parse_nlri_list: 11 with host bits", doorbramble_parse_nlri_list(nine, 3, 0, 0, one, 5), refused(DOORBRAMBLE_NO_ROOM));
+}
+
+/* an item of this length, whose last octet is given and whose other octets and id, if it has one, are all FF; answers its size */
+static size_t item_of(unsigned length, uint8_t last, size_t id_size, uint8_t *item) {
+    const size_t octets = (length + 7) / 8;
+    memset(item, 0xFF, id_size + octets);
+    item[id_size + octets] = last;
+    item[id_size] = (uint8_t)length;
+    return id_size + 1 + octets;
+}
+
+/* how many of the lengths up to the most, each with every last octet, are not answered as one row that has host bits exactly where a bit
+ * past the length is set */
+static unsigned wrong_hosts(unsigned most, uint8_t ipv6, uint8_t settings) {
+    uint8_t item[PLACES];
+    unsigned wrong = 0, length, last;
+    for (length = 0; length <= most; length++)
+        for (last = 0; last < 256; last++) {
+            const size_t size = item_of(length, (uint8_t)last, settings == DOORBRAMBLE_ADD_PATH ? 4 : 0, item);
+            const unsigned past_length = length % 8 == 0 ? 0 : last & 0xFFu >> length % 8;
+            const uint64_t wanted = accepted(1, past_length != 0, 0);
+            wrong += doorbramble_count_nlri_list(item, size, ipv6, settings) != wanted;
+            wrong += doorbramble_parse_nlri_list(item, size, ipv6, settings, one, PLACES) != wanted;
+        }
+    clear();
+    return wrong;
+}
+
+static void host_lengths(void) {
+    expect("host bits: every length of IPv4", wrong_hosts(32, 0, 0) == 0);
+    expect("host bits: every length of IPv4, Add-Path", wrong_hosts(32, 0, DOORBRAMBLE_ADD_PATH) == 0);
+    expect("host bits: every length of IPv4, the guess", wrong_hosts(32, 0, DOORBRAMBLE_GUESS) == 0);
+    expect("host bits: every length of IPv6", wrong_hosts(128, 1, 0) == 0);
+    expect("host bits: every length of IPv6, Add-Path", wrong_hosts(128, 1, DOORBRAMBLE_ADD_PATH) == 0);
+    expect("host bits: every length of IPv6, the guess", wrong_hosts(128, 1, DOORBRAMBLE_GUESS) == 0);
+}
+
+/* withdraws 10.255.0.0/9 and 10.0.0.0/8; announces 10.255.0.0/9, 10.1.8.0/24 and 172.31.255.0/20 */
+static const uint8_t host_body[] = {0, 5, 9, 10, 0xFF, 8, 10, 0, 2, 0xAA, 0xBB, 9, 10, 0xFF, 24, 10, 1, 8, 20, 172, 31, 0xFF};
+
+static void update_hosts(void) {
+    static const uint8_t good[] = {0, 2, 8, 10, 0, 2, 0xAA, 0xBB, 24, 10, 1, 8};
+    static const uint8_t tagged[] = {0, 7, 0, 0, 0, 7, 9, 10, 0xFF, 0, 0, 0, 0, 0, 8, 8, 10, 0, 0, 0, 9, 9, 10, 0xFF};
+    static const uint32_t withdrawn[] = {9, 0, 0x0AFF0000, 0, 0, 0, 8, 0, 0x0A000000, 0, 0, 0};
+    static const uint32_t announced[] = {9, 0, 0x0AFF0000, 0, 0, 0, 24, 0, 0x0A010800, 0, 0, 0, 20, 0, 0xAC1FFF00, 0, 0, 0};
+    uint64_t answer = doorbramble_count_update_hosts(host_body, 22, 0);
+
+    check_answer("count_update_hosts", answer, accepted(1, 2, 0));
+    expect("the fields of an UPDATE's host bits", doorbramble_withdrawn_hosts(answer) == 1 && doorbramble_announced_hosts(answer) == 2);
+    check_answer("count_bgp_update_message: host bits", doorbramble_count_bgp_update_message(host_body, 22, 0), accepted(2, 3, 0));
+    check("parse_bgp_update_message: host bits", doorbramble_parse_bgp_update_message(host_body, 22, 0, one, PLACES, two, PLACES),
+          accepted(2, 3, 0), withdrawn, 12, announced, 18, NULL, 0);
+    check_answer("parse_bgp_update_message: 11 with host bits",
+                 doorbramble_parse_bgp_update_message(host_body, 22, 0, one, PLACES, two, 17), refused(DOORBRAMBLE_NO_ROOM));
+    check_answer("count_update_hosts: none", doorbramble_count_update_hosts(good, 12, 0), accepted(0, 0, 0));
+    check_answer("count_update_hosts: withdrawn alone", doorbramble_count_update_hosts(host_body, 11, 0), accepted(1, 0, 0));
+    check_answer("count_update_hosts: Add-Path", doorbramble_count_update_hosts(tagged, 24, DOORBRAMBLE_ADD_PATH), accepted(1, 1, 0));
+    check_answer("count_update_hosts: both settings are Add-Path", doorbramble_count_update_hosts(tagged, 24, 3), accepted(1, 1, 0));
+    check_answer("count_update_hosts: the guess", doorbramble_count_update_hosts(tagged, 24, DOORBRAMBLE_GUESS), accepted(1, 1, 0));
+    check_answer("count_update_hosts: ids without Add-Path", doorbramble_count_update_hosts(tagged, 24, 0), accepted(0, 0, 0));
+    check_answer("count_update_hosts: no other bit is read", doorbramble_count_update_hosts(tagged, 24, 0xFC), accepted(0, 0, 0));
+}
+
+/* a malformed section counts 0, and the other as it would; a body that is refused has 0 in both */
+static void malformed_hosts(void) {
+    static const uint8_t first_bad[] = {0, 4, 9, 10, 0xFF, 33, 0, 0, 9, 10, 0xFF};
+    static const uint8_t second_bad[] = {0, 3, 9, 10, 0xFF, 0, 0, 9, 10, 0xFF, 33};
+    static const uint8_t bytes[] = {0, 1, 7, 0, 0, 7};
+    unsigned apart = 0;
+    size_t size;
+
+    check_answer("count_update_hosts: 7 withdrawn", doorbramble_count_update_hosts(first_bad, 11, 0), accepted(0, 1, 0));
+    check_answer("count_update_hosts: 7 announced", doorbramble_count_update_hosts(second_bad, 11, 0), accepted(1, 0, 0));
+    check_answer("count_update_hosts: 2 announced", doorbramble_count_update_hosts(host_body, 21, 0), accepted(1, 0, 0));
+    check_answer("count_update_hosts: 8 and 8", doorbramble_count_update_hosts(bytes, 6, 0), accepted(0, 0, 0));
+    check_answer("count_update_hosts: 2", doorbramble_count_update_hosts(host_body, 6, 0), refused(DOORBRAMBLE_TRUNCATED));
+    check_answer("count_update_hosts: 2, attributes", doorbramble_count_update_hosts(host_body, 10, 0), refused(DOORBRAMBLE_TRUNCATED));
+    check_answer("count_update_hosts: 2, of nothing", doorbramble_count_update_hosts(NULL, 0, 0), refused(DOORBRAMBLE_TRUNCATED));
+    for (size = 0; size <= sizeof host_body; size++)
+        apart += doorbramble_refusal(doorbramble_count_update_hosts(host_body, size, 0)) !=
+                 doorbramble_refusal(doorbramble_count_bgp_update_message(host_body, size, 0));
+    expect("count_update_hosts: refuses what count_bgp_update_message does", apart == 0);
+}
+
+/* the most rows with host bits, each of two bytes, of a list and of either section; and one byte more */
+static void host_limits(void) {
+    static uint8_t list[65536], body[65517] = {DOORBRAMBLE_BODY_ROWS >> 8, DOORBRAMBLE_BODY_ROWS & 0xFF};
+    size_t i;
+    for (i = 0; i < sizeof list; i++)
+        list[i] = i % 2 == 0 ? 7 : 0xFF;
+    list[65534] = 0;
+    memcpy(body + 2, list, DOORBRAMBLE_BODY_ROWS);
+    check_answer("count_nlri_list: 32,767 rows with host bits", doorbramble_count_nlri_list(list, 65535, 0, 0), accepted(32768, 32767, 0));
+    check_answer("count_nlri_list: 1 with host bits", doorbramble_count_nlri_list(list, 65536, 0, 0), refused(DOORBRAMBLE_TOO_LONG));
+    check_answer("count_update_hosts: the most withdrawn", doorbramble_count_update_hosts(body, 65516, 0), accepted(32756, 0, 0));
+    check_answer("count_update_hosts: 1", doorbramble_count_update_hosts(body, 65517, 0), refused(DOORBRAMBLE_TOO_LONG));
+    memset(body, 0, 4);
+    memcpy(body + 4, list, DOORBRAMBLE_BODY_ROWS);
+    check_answer("count_update_hosts: the most announced", doorbramble_count_update_hosts(body, 65516, 0), accepted(0, 32756, 0));
+    check_answer("count_update_hosts: 1 announced", doorbramble_count_update_hosts(body, 65517, 0), refused(DOORBRAMBLE_TOO_LONG));
 }
 
 /* a sequence of two numbers of four bytes, and what it is read to */
@@ -740,7 +872,7 @@ static void rows(void) {
     const uint64_t not_writable = refused(DOORBRAMBLE_NOT_WRITABLE);
 
     check_out("rows: host bits are written", doorbramble_encode_nlri_prefixes(host_bits, 6, 0, 0, out, 2), accepted(2, 0, 0), four_bits, 2);
-    check_store("rows: host bits are read", doorbramble_parse_nlri_list(four_bits, 2, 0, 0, one, 6), accepted(1, 0, 0), host_bits, 6);
+    check_store("rows: host bits are read", doorbramble_parse_nlri_list(four_bits, 2, 0, 0, one, 6), accepted(1, 1, 0), host_bits, 6);
     check_answer("rows: 14, a part of a row", doorbramble_encode_nlri_prefixes(host_bits, 5, 0, 0, out, PLACES), not_writable);
     check_answer("rows: 14, past the octets", doorbramble_encode_nlri_prefixes(past_octets, 6, 0, 0, out, PLACES), not_writable);
     check_answer("rows: 14, a second word", doorbramble_encode_nlri_prefixes(second_word, 6, 0, 0, out, PLACES), not_writable);
@@ -799,7 +931,7 @@ static void slots(void) {
 
 static void version(void) {
     uint64_t answer = doorbramble_version();
-    check_answer("version", answer, accepted(1, 4, 0));
+    check_answer("version", answer, accepted(1, 5, 0));
     expect("the version of the header", doorbramble_version_major(answer) == DOORBRAMBLE_VERSION_MAJOR &&
                                             doorbramble_version_minor(answer) == DOORBRAMBLE_VERSION_MINOR);
 }
@@ -866,6 +998,11 @@ int main(void) {
     flags_and_types();
     searches();
     lists();
+    list_hosts();
+    host_lengths();
+    update_hosts();
+    malformed_hosts();
+    host_limits();
     rows();
     paths();
     strict_paths();
