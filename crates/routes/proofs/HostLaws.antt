@@ -79,6 +79,12 @@ pub weight-few : (host : Bool) → (1 ≤ weightOf host) × (weightOf host ≤ 1
 weight-few true = (omega arith, omega arith)
 weight-few false = (omega arith, omega arith)
 
+pub tally-flags : (l : List Bool) → tally flag l ≤ length l
+unfolding tally
+tally-flags [] = omega arith
+tally-flags (true ∷ l) = omega (arith, tally-flags l)
+tally-flags (false ∷ l) = omega (arith, tally-flags l)
+
 pub tally-weights : (l : List Bool) → tally weightOf l ≡ length l + hostUnit * tally flag l
 unfolding tally
 tally-weights [] = refl

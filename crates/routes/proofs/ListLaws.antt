@@ -22,9 +22,9 @@ use Rattle.wire.proofs.WalkLaws.{Sound, tally-one, flat-length, all-blind, note
 use Rattle.routes.specs.Prefix.{itemRow, words, hostBits}
 use Rattle.routes.proofs.PrefixLaws.{Took, prefix-took, prefix-names}
 use Rattle.routes.specs.List.{Reader, upTo, asStep, inForm, plainHere, tried, guessForm, formBy, fixed, stepBy, stepOf, listBy, hostsBy, strange, sectionBy}
-use Rattle.routes.specs.Promises.{sized, listMeaning, countAnswer, hasRoom, readAnswer, storeAfter, withHosts, countList, rowsIn, verdictIn, hostUnit, inOne}
+use Rattle.routes.specs.Promises.{sized, listMeaning, countAnswer, hasRoom, readAnswer, storeAfter, withHosts, countList, rowsIn, hostsIn, verdictIn, hostUnit, inOne}
 use Rattle.routes.specs.Private.{sizeOf, kept, weightOf}
-use Rattle.routes.proofs.HostLaws.{weight-few, tally-weights}
+use Rattle.routes.proofs.HostLaws.{weight-few, tally-flags, tally-weights}
 use Rattle.families.specs.declared.Form.{Form}
 use Rattle.families.specs.declared.Form.the-variants.{Plain, Tagged}
 use Rattle.families.specs.declared.AddPath.{AddPath}
@@ -256,8 +256,11 @@ beside-verdict (L.Refused n) hosts = refl
 pub told-list : (a : ListAnswer) (hosts : ℕ) (z : RoutesAnswer) → z ≡ withHosts a hosts → z .list ≡ a
 told-list a hosts z e = ap (λ (x : RoutesAnswer). x .list) e ∙ beside-list a hosts
 
+pub beside : (hosts : ℕ) (a b : ListAnswer) → a ≡ b → withHosts a hosts ≡ withHosts b hosts
+beside hosts a b e = ap (λ (x : ListAnswer). withHosts x hosts) e
+
 pub told-alone : (a : ListAnswer) (hosts : ℕ) (z : RoutesAnswer) (x : ListAnswer) → z ≡ withHosts a hosts → z .list ≡ x → z ≡ withHosts x hosts
-told-alone a hosts z x e f = e ∙ ap (λ (y : ListAnswer). withHosts y hosts) (sym (told-list a hosts z e) ∙ f)
+told-alone a hosts z x e f = e ∙ beside hosts a x (sym (told-list a hosts z e) ∙ f)
 
 module _ (s : List ℕ) (r : Reading Row) where
   pub count-long : listLimit < length s → countAnswer s r ≡ L.Refused tooLong
@@ -313,23 +316,19 @@ module _ (s : List ℕ) (r : Reading Row) where
   read-places places (L.Refused n) fields c e = let z : _≡_ {A = ℕ} 0 1 = cc in absurd (zero-ne-one z)
 
   -- the answer and the store that a reading leaves, by what the count says
-  module _ (hosts : ℕ) (d : List ℕ) where
-    leave : (a : ListAnswer) → a ≡ readAnswer s r (length d)
-        → (withHosts a hosts ≡ withHosts (readAnswer s r (length d)) hosts) × (filled (listMeaning a) (flat words (r .rows)) d ≡ storeAfter s r d)
-    leave a e = (ap (λ (x : ListAnswer). withHosts x hosts) e, sym (store-by d a (sym e)))
+  module _ (d : List ℕ) where
+    leave : (a : ListAnswer) → a ≡ readAnswer s r (length d) → (a ≡ readAnswer s r (length d)) × (filled (listMeaning a) (flat words (r .rows)) d ≡ storeAfter s r d)
+    leave a e = (e, sym (store-by d a (sym e)))
 
-    pub leave-refused : (n : ℕ) → countAnswer s r ≡ L.Refused n
-        → (withHosts (L.Refused n) hosts ≡ withHosts (readAnswer s r (length d)) hosts) × (d ≡ storeAfter s r d)
+    pub leave-refused : (n : ℕ) → countAnswer s r ≡ L.Refused n → (L.Refused n ≡ readAnswer s r (length d)) × (d ≡ storeAfter s r d)
     unfolding readAnswer
     leave-refused n e = leave (L.Refused n) (rw e)
 
-    pub leave-full : (n : ℕ) → countAnswer s r ≡ L.Rows n → length d / 6 < n
-        → (withHosts (L.Refused noRoom) hosts ≡ withHosts (readAnswer s r (length d)) hosts) × (d ≡ storeAfter s r d)
+    pub leave-full : (n : ℕ) → countAnswer s r ≡ L.Rows n → length d / 6 < n → (L.Refused noRoom ≡ readAnswer s r (length d)) × (d ≡ storeAfter s r d)
     unfolding readAnswer
     leave-full n e lt = leave (L.Refused noRoom) (rw (e, lt-leb n (length d / 6) lt))
 
-    pub leave-rows : (n : ℕ) → countAnswer s r ≡ L.Rows n → n ≤ length d / 6
-        → (withHosts (L.Rows n) hosts ≡ withHosts (readAnswer s r (length d)) hosts) × (laid d 0 (flat words (r .rows)) ≡ storeAfter s r d)
+    pub leave-rows : (n : ℕ) → countAnswer s r ≡ L.Rows n → n ≤ length d / 6 → (L.Rows n ≡ readAnswer s r (length d)) × (laid d 0 (flat words (r .rows)) ≡ storeAfter s r d)
     unfolding readAnswer
     leave-rows n e le = leave (L.Rows n) (rw (e, le-leb n (length d / 6) le))
 
@@ -398,7 +397,7 @@ module _ (read : Reader) (fair : Fair read) (mode : AddPath) (st₀ : Form) (s :
           let named = fair .names (drop at s) (formBy read mode st (drop at s)) n (step-stop read mode st (drop at s) n e) in
           let verdict = count-stop by-host (host-sound read fair mode) weightOf (1 + hostUnit) (host-light read fair mode) st₀ s st at (count - pastAll) (h .counted) n lt (ap (noted hostBits (drop at s)) e) in
           one-refused n (named .1)
-          ∙ sym (ap (λ (a : ListAnswer). withHosts a (tally flag (notes hostBits (stepBy read mode) st₀ s))) (count-bad s (readAll (stepBy read mode) st₀ s) n small (sym (alike .0) ∙ verdict) (named .0)))
+          ∙ sym (beside (tally flag (notes hostBits (stepBy read mode) st₀ s)) _ _ (count-bad s (readAll (stepBy read mode) st₀ s) n small (sym (alike .0) ∙ verdict) (named .0)))
 
       pub packed-done : length s ≤ at → Tells read mode st₀ s count
       unfolding notes
@@ -412,7 +411,32 @@ module _ (read : Reader) (fair : Fair read) (mode : AddPath) (st₀ : Form) (s :
           let hosts : (count - pastAll) / hostUnit ≡ tally flag said = omega (arith, sum, few, tally-one (r .rows), small) in
           one-count count (h .past)
           ∙ ap₂ (λ (n m : ℕ). record { list = L.Rows n; hosts = m }) rows hosts
-          ∙ sym (ap (λ (a : ListAnswer). withHosts a (tally flag said)) (count-good s r (length (r .rows)) small (sym (alike .0) ∙ done .0, tally-one (r .rows))))
+          ∙ sym (beside (tally flag said) _ _ (count-good s r (length (r .rows)) small (sym (alike .0) ∙ done .0, tally-one (r .rows))))
+
+-- ---- how many rows have a host bit
+
+module _ (read : Reader) (fair : Fair read) (s : List ℕ) (mode : AddPath) where
+  -- no more than there are rows, and these no more than bytes
+  pub hosts-few : (hostsBy read s mode ≤ length (listBy read s mode .rows)) × (length (listBy read s mode .rows) ≤ length s)
+  unfolding hostsBy listBy
+  hosts-few =
+      let said : List Bool = notes hostBits (stepBy read mode) Plain s in
+      let alike = noted-alike hostBits (stepBy read mode) (sound-by read fair mode) Plain s in (
+        omega (arith, tally-flags said, alike .1),
+        omega (arith, tally-one (readAll (stepBy read mode) Plain s .rows), tally-few (stepBy read mode) (sound-by read fair mode) (λ _. 1) (light-by read fair mode) Plain s),
+      )
+
+  -- and, where it is counted, no more than a list has bytes
+  pub counted-hosts : (r : Reading Row) → hostsIn (withHosts (countAnswer s r) (hostsBy read s mode)) ≤ listLimit
+  unfolding countAnswer
+  counted-hosts r =
+      pick-leb (λ (a : ListAnswer). hostsIn (withHosts a (hostsBy read s mode)) ≤ listLimit) (length s) listLimit _ _
+      (λ short. by (r .verdict) (omega (arith, hosts-few, short)))
+      (λ _. omega arith)
+    where
+      by : (v : ℕ) → hostsBy read s mode ≤ listLimit → hostsIn (withHosts (answerBy v (L.Rows (length (r .rows))) L.Refused) (hostsBy read s mode)) ≤ listLimit
+      by zero few = few
+      by (suc v) few = omega arith
 
 -- ---- a section
 

@@ -14,7 +14,7 @@ use Rattle.wire.specs.Choice.{pick}
 use Rattle.wire.specs.Store.{laid}
 use Rattle.wire.proofs.ChoiceLaws.{pick-any}
 use Rattle.wire.proofs.StoreLaws.{drop-laid-past}
-use Rattle.routes.specs.declared.ListAnswer.{ListAnswer}
+use Rattle.routes.specs.declared.RoutesAnswer.{RoutesAnswer}
 use Rattle.routes.specs.Promises.{rowsIn, verdictIn}
 use Rattle.slot_table.specs.Line.{space, slash, stateText, digits, number, fieldsText, sectionText, headingText, lineRoom, putCount, putOut}
 use Rattle.slot_table.specs.Private.{numberRoom, stateRoom, fieldsRoom, sectionRoom, Grown}
@@ -79,9 +79,9 @@ unfolding fieldsText
 fields-few kind claimed kept state =
     simp length-append (omega (arith, number-few kind space, number-few claimed space, number-few kept space, state-few state))
 
-pub section-few : (a : ListAnswer) (end : ℕ) → length (sectionText a end) ≤ sectionRoom
+pub section-few : (a : RoutesAnswer) → length (sectionText a) ≤ sectionRoom
 unfolding sectionText
-section-few a end = simp length-append (omega (arith, number-few (rowsIn a) slash, number-few (verdictIn a) end))
+section-few a = simp length-append (omega (arith, number-few (rowsIn a) slash, number-few (verdictIn a) space))
 
 -- the heading is no longer than the room that an output must have
 pub heading-few : length headingText ≤ lineRoom

@@ -8,12 +8,12 @@ use Rattle.wire.specs.Choice.{pick}
 use Rattle.wire.specs.Extent.{within}
 use Rattle.wire.specs.Store.{laid}
 use Rattle.families.specs.declared.AddPath.{AddPath}
-use Rattle.routes.specs.declared.ListAnswer.{ListAnswer}
+use Rattle.routes.specs.declared.RoutesAnswer.{RoutesAnswer}
 use Rattle.messages.specs.Header.{updateKind, messageOf, bodyAt}
 use Rattle.messages.specs.declared.MessageAnswer.{MessageAnswer}
 use Rattle.messages.specs.declared.MessageAnswer.the-variants as M
 use Rattle.updates.specs.Update.{countUpdate}
-use Rattle.routes.specs.Promises.{rowsIn, verdictIn}
+use Rattle.routes.specs.Promises.{rowsIn, hostsIn, verdictIn}
 use Rattle.updates.specs.declared.UpdateAnswer.{UpdateAnswer}
 use Rattle.updates.specs.declared.UpdateAnswer.the-variants as U
 use Rattle.slot_table.specs.declared.State.{State}
@@ -28,7 +28,7 @@ stateOf cut trailing = pick cut Cut (pick trailing Trailing Whole)
 
 -- an UPDATE whose body is refused says no more than that
 abbrev pub updateEntry : UpdateAnswer → ℕ → State → Entry
-updateEntry (U.Update withdrawn announced) claimed state = Update claimed state withdrawn announced
+updateEntry (U.Update withdrawn announced) claimed state = Update claimed state withdrawn announced (hostsIn withdrawn + hostsIn announced)
 updateEntry (U.Refused n) claimed state = Refused n
 
 -- of a message that the crate's reading found in s
@@ -61,9 +61,9 @@ stateText Whole = 119 ∷ 104 ∷ 111 ∷ 108 ∷ 101 ∷ 32 ∷ []
 stateText Cut = 99 ∷ 117 ∷ 116 ∷ 32 ∷ []
 stateText Trailing = 116 ∷ 114 ∷ 97 ∷ 105 ∷ 108 ∷ 105 ∷ 110 ∷ 103 ∷ 32 ∷ []
 
--- "- -", and the end of the line
+-- "- - -", and the end of the line
 abbrev pub noSections : List ℕ
-noSections = 45 ∷ 32 ∷ 45 ∷ 10 ∷ []
+noSections = 45 ∷ 32 ∷ 45 ∷ 32 ∷ 45 ∷ 10 ∷ []
 
 -- the digits of n before acc, made from the last one on; f is the most there are, and 48 is the digit 0
 unfoldable pub digits : ℕ → ℕ → List ℕ → List ℕ
@@ -85,15 +85,15 @@ fieldsText kind claimed kept state =
     number kind (space ∷ []) ++ (number claimed (space ∷ []) ++ (number kept (space ∷ []) ++ stateText state))
 
 -- rows/verdict of a section
-unfoldable pub sectionText : ListAnswer → ℕ → List ℕ
-sectionText a end = number (rowsIn a) (slash ∷ []) ++ number (verdictIn a) (end ∷ [])
+unfoldable pub sectionText : RoutesAnswer → List ℕ
+sectionText a = number (rowsIn a) (slash ∷ []) ++ number (verdictIn a) (space ∷ [])
 
--- after the record's number
+-- after the record's number; of an UPDATE the last field is how many rows of both sections have a host bit (document 02, K6)
 unfoldable pub entryText : ℕ → Entry → List ℕ
 entryText kept (Refused n) = refusedText ++ number n (lineEnd ∷ [])
 entryText kept (Other kind claimed state) = fieldsText kind claimed kept state ++ noSections
-entryText kept (Update claimed state withdrawn announced) =
-    fieldsText updateKind claimed kept state ++ (sectionText withdrawn space ++ sectionText announced lineEnd)
+entryText kept (Update claimed state withdrawn announced host) =
+    fieldsText updateKind claimed kept state ++ (sectionText withdrawn ++ (sectionText announced ++ number host (lineEnd ∷ [])))
 
 -- the line of a record with those kept bytes
 unfoldable pub lineOf : ℕ → List ℕ → AddPath → List ℕ
@@ -103,16 +103,16 @@ lineOf nth s mode = number nth (space ∷ []) ++ entryText (length s) (entryOf s
 unfoldable pub stopText : ℕ → List ℕ
 stopText nth = (115 ∷ 116 ∷ 111 ∷ 112 ∷ 32 ∷ []) ++ number nth (lineEnd ∷ [])
 
--- "no type claimed kept state withdrawn announced"
+-- "no type claimed kept state withdrawn announced host"
 unfoldable pub headingText : List ℕ
 headingText =
-    110 ∷ 111 ∷ 32 ∷ 116 ∷ 121 ∷ 112 ∷ 101 ∷ 32 ∷ 99 ∷ 108 ∷ 97 ∷ 105 ∷ 109 ∷ 101 ∷ 100 ∷ 32 ∷ 107 ∷ 101 ∷ 112 ∷ 116 ∷ 32 ∷ 115 ∷ 116 ∷ 97 ∷ 116 ∷ 101 ∷ 32 ∷ 119 ∷ 105 ∷ 116 ∷ 104 ∷ 100 ∷ 114 ∷ 97 ∷ 119 ∷ 110 ∷ 32 ∷ 97 ∷ 110 ∷ 110 ∷ 111 ∷ 117 ∷ 110 ∷ 99 ∷ 101 ∷ 100 ∷ 10 ∷ []
+    110 ∷ 111 ∷ 32 ∷ 116 ∷ 121 ∷ 112 ∷ 101 ∷ 32 ∷ 99 ∷ 108 ∷ 97 ∷ 105 ∷ 109 ∷ 101 ∷ 100 ∷ 32 ∷ 107 ∷ 101 ∷ 112 ∷ 116 ∷ 32 ∷ 115 ∷ 116 ∷ 97 ∷ 116 ∷ 101 ∷ 32 ∷ 119 ∷ 105 ∷ 116 ∷ 104 ∷ 100 ∷ 114 ∷ 97 ∷ 119 ∷ 110 ∷ 32 ∷ 97 ∷ 110 ∷ 110 ∷ 111 ∷ 117 ∷ 110 ∷ 99 ∷ 101 ∷ 100 ∷ 32 ∷ 104 ∷ 111 ∷ 115 ∷ 116 ∷ 10 ∷ []
 
 -- ---- a line put at the front of an output
 
 -- the places that an output must have
 abbrev pub lineRoom : ℕ
-lineRoom = 192
+lineRoom = 224
 
 -- the bytes put, and the output: where it has too few places, nothing is put
 unfoldable pub putCount : List ℕ → ℕ → ℕ

@@ -18,8 +18,11 @@ fieldsRoom = 72
 abbrev pub sectionRoom : ℕ
 sectionRoom = 42
 
+abbrev pub sectionsRoom : ℕ
+sectionsRoom = 105
+
 abbrev pub entryRoom : ℕ
-entryRoom = 156
+entryRoom = 177
 
 -- d with vs from `at` on is d′, and `to` is the place after them
 pub record Grown (d : List ℕ) (at : ℕ) (vs : List ℕ) (d′ : List ℕ) (to : ℕ) : Type 0 where

@@ -6,17 +6,17 @@ ghost use Prim.Native.Nat.{_+_, _≤_};
 ghost use lib.ListN.{length, drop};
 ghost use Rattle.wire.specs.Store.{laid};
 ghost use Rattle.updates.specs.Update.{countUpdate};
-ghost use Rattle.slot_table.specs.Line.{number, stateOf, space, lineEnd, refusedText, stateText, fieldsText, sectionText, updateEntry, entryOf, entryText, lineOf, headingText, stopText, lineRoom, putCount, putOut};
-ghost use Rattle.slot_table.specs.Private.{numberRoom, stateRoom, fieldsRoom, sectionRoom, entryRoom, Grown};
+ghost use Rattle.slot_table.specs.Line.{number, stateOf, lineEnd, refusedText, stateText, fieldsText, sectionText, updateEntry, entryOf, entryText, lineOf, headingText, stopText, lineRoom, putCount, putOut};
+ghost use Rattle.slot_table.specs.Private.{numberRoom, stateRoom, fieldsRoom, sectionRoom, sectionsRoom, entryRoom, Grown};
 ghost use Rattle.slot_table.specs.Table.{listing, listedOf, endingText};
 use families::AddPath;
 use messages::MessageAnswer;
-use routes::ListAnswer;
+use routes::RoutesAnswer;
 use slots::SlotAnswer;
 use updates::UpdateAnswer;
 
 // The most bytes of a line: an output to put one into has this many places.
-pub const LINE_ROOM: usize = 192;
+pub const LINE_ROOM: usize = 224;
 
 // The most bytes of a number of 64 bits and the byte after it.
 const NUMBER_ROOM: usize = 21;
@@ -34,7 +34,8 @@ enum State {
     Trailing,
 }
 
-// What a line says of a slot: a refusal number; an UPDATE with its two sections; or a message of another type.
+// What a line says of a slot: a refusal number; an UPDATE with its two sections, and how many of their rows have a bit set past their length; or a message
+// of another type.
 enum Entry {
     Refused(u8),
     Other {
@@ -45,8 +46,9 @@ enum Entry {
     Update {
         claimed: usize,
         state: State,
-        withdrawn: ListAnswer,
-        announced: ListAnswer,
+        withdrawn: RoutesAnswer,
+        announced: RoutesAnswer,
+        host: usize,
     },
 }
 
@@ -141,13 +143,13 @@ fn put_fields(
     put_state(out, c, state)
 }
 
-// Rows and verdict of a section, and the byte after them.
-fn put_section(out: &mut [u8], at: usize, a: ListAnswer, end: u8) -> usize
+// Rows and verdict of a section, and the space after them.
+fn put_section(out: &mut [u8], at: usize, a: RoutesAnswer) -> usize
     requires { ⌜ at + sectionRoom ≤ length (now out) ⌝ }
-    ensures { λ r. ⌜ Grown (now (out .entry)) at (sectionText a end) (now (out .exit)) r ⌝ }
+    ensures { λ r. ⌜ Grown (now (out .entry)) at (sectionText a) (now (out .exit)) r ⌝ }
 {
     let verdict = put_number(out, at, routes::rows_in(a) as u64, SLASH);
-    put_number(out, verdict, routes::verdict_in(a) as u64, end)
+    put_number(out, verdict, routes::verdict_in(a) as u64, SPACE)
 }
 
 fn state_of(cut: bool, trailing: bool) -> State
@@ -175,6 +177,7 @@ fn update_entry(body: &[u8], mode: AddPath, claimed: usize, state: State) -> Ent
             state,
             withdrawn,
             announced,
+            host: routes::hosts_in(withdrawn) + routes::hosts_in(announced),
         },
         UpdateAnswer::Refused(n) => Entry::Refused(n),
     }
@@ -215,12 +218,20 @@ fn put_refused(out: &mut [u8], at: usize, n: u8) -> usize
     put_number(out, to, n as u64, LINE_END)
 }
 
-fn put_sections(out: &mut [u8], at: usize, withdrawn: ListAnswer, announced: ListAnswer) -> usize
-    requires { ⌜ at + (sectionRoom + sectionRoom) ≤ length (now out) ⌝ }
-    ensures { λ r. ⌜ Grown (now (out .entry)) at (sectionText withdrawn space ++ sectionText announced lineEnd) (now (out .exit)) r ⌝ }
+// Both sections of an UPDATE, and how many of their rows have a bit set past their length.
+fn put_sections(
+    out: &mut [u8],
+    at: usize,
+    withdrawn: RoutesAnswer,
+    announced: RoutesAnswer,
+    host: usize,
+) -> usize
+    requires { ⌜ at + sectionsRoom ≤ length (now out) ⌝ }
+    ensures { λ r. ⌜ Grown (now (out .entry)) at (sectionText withdrawn ++ (sectionText announced ++ number host (lineEnd ∷ []))) (now (out .exit)) r ⌝ }
 {
-    let to = put_section(out, at, withdrawn, SPACE);
-    put_section(out, to, announced, LINE_END)
+    let second = put_section(out, at, withdrawn);
+    let last = put_section(out, second, announced);
+    put_number(out, last, host as u64, LINE_END)
 }
 
 // A line after its record's number.
@@ -236,16 +247,17 @@ fn put_entry(out: &mut [u8], at: usize, kept: usize, entry: Entry) -> usize
             state,
         } => {
             let to = put_fields(out, at, kind, claimed, kept, state);
-            put_text(out, to, b"- -\n")
+            put_text(out, to, b"- - -\n")
         }
         Entry::Update {
             claimed,
             state,
             withdrawn,
             announced,
+            host,
         } => {
             let to = put_fields(out, at, messages::kind::UPDATE, claimed, kept, state);
-            put_sections(out, to, withdrawn, announced)
+            put_sections(out, to, withdrawn, announced, host)
         }
     }
 }
@@ -275,7 +287,7 @@ pub fn put_heading(out: &mut [u8]) -> usize
     if out.len() < LINE_ROOM {
         return 0;
     }
-    put_text(out, 0, b"no type claimed kept state withdrawn announced\n")
+    put_text(out, 0, b"no type claimed kept state withdrawn announced host\n")
 }
 
 // The word that tells how a table ended, likewise.

@@ -19,12 +19,13 @@ use Rattle.families.specs.declared.Form.{Form}
 use Rattle.families.specs.declared.Form.the-variants.{Plain}
 use Rattle.routes.specs.Prefix.{itemRow, words}
 use Rattle.routes.specs.WellFormed.{WellFormed}
-use Rattle.routes.specs.List.{upTo, fixed, stepOf, listBy, sectionOf}
-use Rattle.routes.specs.Promises.{countAnswer}
-use Rattle.routes.proofs.ListLaws.{words-length, count-good, section-list}
+use Rattle.routes.specs.List.{upTo, fixed, stepOf, listBy, hostsOf, sectionOf}
+use Rattle.routes.specs.Promises.{countAnswer, withHosts}
+use Rattle.routes.proofs.ListLaws.{words-length, count-good, beside, section-list}
 use Rattle.routes.proofs.CuttingLaws.{decides, cut-not-strange}
 use Rattle.routes.specs.declared.Row.{Row}
 use Rattle.routes.specs.declared.ListAnswer.the-variants.{Rows}
+use Rattle.routes.specs.declared.RoutesAnswer.{RoutesAnswer}
 use Rattle.route_reader.specs.Pair.{readPairBy, readPair}
 use Rattle.route_bytes.specs.Encode.{rowBytes, writing, bytesOf}
 use Rattle.route_bytes.proofs.RowLaws.{GoodRow, stands, store-rows}
@@ -198,23 +199,26 @@ module _ (withdrawn attributes announced : List ℕ) (form : Form) (places n : �
   abbrev body : List ℕ
   body = bodyBytes withdrawn attributes announced form
 
-  -- what is written is counted as so many rows, each a sixth of its store
-  abbrev counts : UpdateAnswer
-  counts = Update (Rows (length withdrawn / 6)) (Rows (length announced / 6))
+  -- what is written is counted as so many rows, each a sixth of its store, with the host rows of its bytes
+  abbrev again : List ℕ → RoutesAnswer
+  again ws = withHosts (Rows (length ws / 6)) (hostsOf (bytesOf ws (maxOf Ipv4) form) (maxOf Ipv4) (fixed form))
 
-  pub first-again : counted (withdrawnOf body) (fixed form) ≡ Rows (length withdrawn / 6)
+  abbrev counts : UpdateAnswer
+  counts = Update (again withdrawn) (again announced)
+
+  pub first-again : counted (withdrawnOf body) (fixed form) ≡ again withdrawn
   first-again =
       let fit = written-fit withdrawn attributes announced form places n wrote in
       let good = measured-bytes withdrawn (maxOf Ipv4) form _ (fit .first) .0 in
       ap (λ (s : List ℕ). counted s (fixed form)) (written-read withdrawn attributes announced form places n wrote .withdrawn)
-      ∙ counted-again (maxOf Ipv4) (max-small Ipv4) form withdrawn wide good (fit .sizes .low)
+      ∙ beside _ _ _ (counted-again (maxOf Ipv4) (max-small Ipv4) form withdrawn wide good (fit .sizes .low))
 
-  pub last-again : counted (announcedOf body) (fixed form) ≡ Rows (length announced / 6)
+  pub last-again : counted (announcedOf body) (fixed form) ≡ again announced
   last-again =
       let fit = written-fit withdrawn attributes announced form places n wrote in
       let good = measured-bytes announced (maxOf Ipv4) form _ (fit .last) .0 in
       ap (λ (s : List ℕ). counted s (fixed form)) (written-read withdrawn attributes announced form places n wrote .announced)
-      ∙ counted-again (maxOf Ipv4) (max-small Ipv4) form announced wide′ good (omega (arith, fit .sizes .whole))
+      ∙ beside _ _ _ (counted-again (maxOf Ipv4) (max-small Ipv4) form announced wide′ good (omega (arith, fit .sizes .whole)))
 
   pub update-counted : countUpdate body (fixed form) ≡ counts
   unfolding countUpdate

@@ -16,9 +16,9 @@ use Rattle.families.specs.Family.{maxOf}
 use Rattle.routes.specs.Prefix.{prefixOf}
 use Rattle.routes.proofs.PrefixLaws.{prefix-cases}
 use Rattle.routes.specs.List.{upTo, asStep, inForm, formBy, stepBy, stepOf, listBy, listOf, hostsOf, strange, sectionBy, sectionOf}
-use Rattle.routes.proofs.ListLaws.{sound, beside-verdict}
+use Rattle.routes.proofs.ListLaws.{fair, sound, beside-verdict, counted-hosts}
 use Rattle.wire.specs.Answer.{numberIn, answerBy}
-use Rattle.routes.specs.Promises.{listMeaning, verdictIn, countAnswer, hasRoom}
+use Rattle.routes.specs.Promises.{listMeaning, hostsIn, verdictIn, countAnswer, hasRoom}
 use Rattle.routes.specs.declared.ListAnswer.the-variants as L
 use Rattle.route_reader.specs.Pair.{readPairBy, readPair}
 use Rattle.route_reader.specs.declared.PairAnswer.{PairAnswer}
@@ -162,6 +162,13 @@ counted-sections b mode first second = by-parts (partsOf b)
         → (counted (withdrawnOf b) mode ≡ first) × (counted (announcedOf b) mode ≡ second)
     by-parts (Parts w a n) e = (cc, cc)
     by-parts (Refused m) e = never (let z : _≡_ {A = ℕ} 0 1 = cc in z)
+
+-- no section has more host rows than a list has bytes
+pub update-hosts : (b : List ℕ) (mode : AddPath) (first second : RoutesAnswer) → countUpdate b mode ≡ Update first second → (hostsIn first ≤ listLimit) × (hostsIn second ≤ listLimit)
+update-hosts b mode first second e =
+    let each : (s : List ℕ) → hostsIn (counted s mode) ≤ listLimit = λ s. counted-hosts (upTo (maxOf Ipv4)) (fair (maxOf Ipv4)) s mode (sectionOf s (maxOf Ipv4) mode) in
+    let both = counted-sections b mode first second e in
+    (subst (λ (x : RoutesAnswer). hostsIn x ≤ listLimit) (both .0) (each (withdrawnOf b)), subst (λ (x : RoutesAnswer). hostsIn x ≤ listLimit) (both .1) (each (announcedOf b)))
 
 -- an UPDATE that is read into stores is answered as it is counted
 pub read-is-count : (b : List ℕ) (mode : AddPath) (places places′ : ℕ) (first second : RoutesAnswer) → readUpdate b mode places places′ ≡ Update first second

@@ -4,7 +4,7 @@ use Rattle.families.specs.Family.{maxOf}
 use Rattle.routes.specs.List.{upTo, listOf, hostsOf}
 use Rattle.routes.specs.Promises.{countAnswer, withHosts, countList}
 use Rattle.routes.specs.declared.ListAnswer.{ListAnswer}
-use Rattle.routes.proofs.ListLaws.{words-length, count-rows, told-list, told-alone, leave-full, leave-rows, leave-refused}
+use Rattle.routes.proofs.ListLaws.{words-length, count-rows, beside, told-list, told-alone, leave-full, leave-rows, leave-refused}
 use Rattle.routes.proofs.TableLaws.{count-list-family}
 use borrow.Author.Needs.{needs}
 use Rattle.route_reader.proofs.parse_nlri_list.Statement.{statement}
@@ -45,8 +45,8 @@ returns : tie.Need-returns
 returns c =
     let k = c .before .before .before .before .before in
     let a = k .before .before .before .before .before .before .args in
-    let l = leave-full (a .s .now) (listOf (a .s .now) (maxOf (a .afi)) (a .mode)) (hostsOf (a .s .now) (maxOf (a .afi)) (a .mode)) (a .store .now) _ (told k _ (c .before .before .before .list .given .1) .0) (c .before .if1 .taken) in
-    (c .refused .ensures ∙ l .0, l .1)
+    let l = leave-full (a .s .now) (listOf (a .s .now) (maxOf (a .afi)) (a .mode)) (a .store .now) _ (told k _ (c .before .before .before .list .given .1) .0) (c .before .if1 .taken) in
+    (c .refused .ensures ∙ beside (hostsOf (a .s .now) (maxOf (a .afi)) (a .mode)) _ _ (l .0), l .1)
 
 fill-rows-requires : tie.Need-fill-rows-requires
 fill-rows-requires c κs =
@@ -66,16 +66,16 @@ returns-2 c =
     let k = c .before .before .before .before .before .before .before .before .before in
     let a = k .before .before .before .before .before .before .args in
     let t = told k _ (c .before .before .before .before .before .before .before .list .given .1) in
-    let l = leave-rows (a .s .now) (listOf (a .s .now) (maxOf (a .afi)) (a .mode)) (hostsOf (a .s .now) (maxOf (a .afi)) (a .mode)) (a .store .now) _ (t .0) (c .before .before .before .before .before .if1 .left) in
-    (t .1 ∙ l .0, c .before .before .fill-rows .ensures ∙ l .1)
+    let l = leave-rows (a .s .now) (listOf (a .s .now) (maxOf (a .afi)) (a .mode)) (a .store .now) _ (t .0) (c .before .before .before .before .before .if1 .left) in
+    (t .1 ∙ beside (hostsOf (a .s .now) (maxOf (a .afi)) (a .mode)) _ _ (l .0), c .before .before .fill-rows .ensures ∙ l .1)
 
 returns-3 : tie.Need-returns-3
 returns-3 c =
     let k = c .before .before in
     let a = k .before .before .before .before .before .before .args in
     let t = told k _ (c .enum-told .given .1) in
-    let l = leave-refused (a .s .now) (listOf (a .s .now) (maxOf (a .afi)) (a .mode)) (hostsOf (a .s .now) (maxOf (a .afi)) (a .mode)) (a .store .now) _ (t .0) in
-    (t .1 ∙ l .0, l .1)
+    let l = leave-refused (a .s .now) (listOf (a .s .now) (maxOf (a .afi)) (a .mode)) (a .store .now) _ (t .0) in
+    (t .1 ∙ beside (hostsOf (a .s .now) (maxOf (a .afi)) (a .mode)) _ _ (l .0), l .1)
 
 pub parse-nlri-list-spec : {M : Type 1} → statement M
 parse-nlri-list-spec =

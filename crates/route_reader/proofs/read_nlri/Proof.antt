@@ -1,7 +1,7 @@
 use mathlib.Core.Path.{sym, _∙_}
 use Rattle.families.specs.Family.{maxOf}
 use Rattle.routes.specs.List.{upTo, hostsOf, sectionOf}
-use Rattle.routes.proofs.ListLaws.{section-strange, section-list, leave-refused}
+use Rattle.routes.proofs.ListLaws.{beside, section-strange, section-list, leave-refused}
 use borrow.Author.Needs.{needs}
 use Rattle.route_reader.proofs.read_nlri.Statement.{statement}
 use Rattle.route_reader.proofs.read_nlri.Tie as tie
@@ -16,8 +16,8 @@ returns : tie.Need-returns
 returns c =
     let a = c .before .before .before .before .before .args in
     let strange = sym (c .before .before .is-strange .ensures) ∙ c .before .if1 .taken in
-    let l = leave-refused (a .s .now) (sectionOf (a .s .now) (maxOf (a .afi)) (a .mode)) (hostsOf (a .s .now) (maxOf (a .afi)) (a .mode)) (a .store .now) _ (section-strange (upTo (maxOf (a .afi))) (a .s .now) (a .mode) strange) in
-    (c .refused .ensures ∙ l .0, l .1)
+    let l = leave-refused (a .s .now) (sectionOf (a .s .now) (maxOf (a .afi)) (a .mode)) (a .store .now) _ (section-strange (upTo (maxOf (a .afi))) (a .s .now) (a .mode) strange) in
+    (c .refused .ensures ∙ beside (hostsOf (a .s .now) (maxOf (a .afi)) (a .mode)) _ _ (l .0), l .1)
 
 parse-nlri-list-requires : tie.Need-parse-nlri-list-requires
 parse-nlri-list-requires c κs = search needs

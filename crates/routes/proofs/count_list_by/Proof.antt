@@ -1,11 +1,9 @@
-use mathlib.Core.Path.{sym, ap, _∙_}
+use mathlib.Core.Path.{sym, _∙_}
 use native.Mathlib.Omega.{arith}
 use Rattle.wire.specs.Refusal.{tooLong}
 use Rattle.routes.specs.List.{listBy, hostsBy}
 use Rattle.routes.specs.ByTable.{byTable}
-use Rattle.routes.specs.Promises.{withHosts}
-use Rattle.routes.specs.declared.ListAnswer.{ListAnswer}
-use Rattle.routes.proofs.ListLaws.{one-refused, count-long}
+use Rattle.routes.proofs.ListLaws.{one-refused, beside, count-long}
 use borrow.Author.Needs.{needs}
 use Rattle.routes.proofs.count_list_by.Statement.{statement}
 use Rattle.routes.proofs.count_list_by.Tie as tie
@@ -17,7 +15,7 @@ returns : tie.Need-returns
 returns c =
     let a = c .before .before .args in
     one-refused tooLong (omega arith)
-    ∙ sym (ap (λ (x : ListAnswer). withHosts x (hostsBy (byTable (a .counts .now)) (a .s .now) (a .mode))) (count-long (a .s .now) (listBy (byTable (a .counts .now)) (a .s .now) (a .mode)) (c .if1 .taken)))
+    ∙ sym (beside (hostsBy (byTable (a .counts .now)) (a .s .now) (a .mode)) _ _ (count-long (a .s .now) (listBy (byTable (a .counts .now)) (a .s .now) (a .mode)) (c .if1 .taken)))
 
 enum-told : tie.Need-enum-told
 enum-told c = search needs

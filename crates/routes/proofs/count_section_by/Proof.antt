@@ -6,8 +6,7 @@ use Rattle.routes.specs.ByTable.{byTable}
 use Rattle.routes.specs.List.{hostsBy}
 use Rattle.routes.specs.Promises.{countAnswer, withHosts}
 use Rattle.routes.specs.declared.Row.{Row}
-use Rattle.routes.specs.declared.ListAnswer.{ListAnswer}
-use Rattle.routes.proofs.ListLaws.{one-refused, section-strange, section-list}
+use Rattle.routes.proofs.ListLaws.{one-refused, beside, section-strange, section-list}
 use borrow.Author.Needs.{needs}
 use Rattle.routes.proofs.count_section_by.Statement.{statement}
 use Rattle.routes.proofs.count_section_by.Tie as tie
@@ -22,7 +21,7 @@ returns : tie.Need-returns
 returns c =
     let a = c .before .before .before .args in
     one-refused oneByteSection (omega arith)
-    ∙ sym (ap (λ (x : ListAnswer). withHosts x (hostsBy (byTable (a .counts .now)) (a .s .now) (a .mode)))
+    ∙ sym (beside (hostsBy (byTable (a .counts .now)) (a .s .now) (a .mode)) _ _
     (section-strange (byTable (a .counts .now)) (a .s .now) (a .mode) (sym (c .before .is-strange .ensures) ∙ c .if1 .taken)))
 
 count-list-by-requires : tie.Need-count-list-by-requires
