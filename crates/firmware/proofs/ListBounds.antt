@@ -5,7 +5,7 @@ use mathlib.Core.Path.{_≡_}
 use mathlib.Core.List.{List}
 use native.Mathlib.Omega.{arith}
 use lib.ListN.{length}
-use Rattle.wire.specs.Answer.{answerBy, writeMeaning}
+use Rattle.wire.specs.Answer.{numberIn, valueIn, answerBy, writeMeaning}
 use Rattle.wire.specs.declared.WriteAnswer.{WriteAnswer}
 use Rattle.wire.specs.declared.WriteAnswer.the-variants as W
 use Rattle.wire.proofs.ChoiceLaws.{pick-any, pick-leb}
@@ -15,20 +15,20 @@ use Rattle.wire.specs.Walk as Walk
 use Rattle.wire.specs.Walk.{stop, Reading, readAll}
 use Rattle.wire.proofs.WalkLaws.{all-ind, tally-one}
 use Rattle.routes.proofs.PrefixLaws.{prefix-cases}
-use Rattle.routes.specs.List.{upTo, asStep, inForm, formBy, stepBy, stepOf, listBy, listOf, sectionBy, sectionOf, strange}
-use Rattle.routes.proofs.ListLaws.{sound, light}
-use Rattle.routes.specs.Promises as routes
+use Rattle.routes.specs.List.{upTo, asStep, inForm, formBy, stepBy, stepOf, listBy, listOf, hostsOf, sectionBy, sectionOf, strange}
+use Rattle.routes.proofs.ListLaws.{fair, sound, light, beside-rows, beside-verdict, counted-hosts}
 use Rattle.families.specs.declared.Form.{Form}
 use Rattle.families.specs.declared.Form.the-variants.{Plain}
 use Rattle.families.specs.declared.AddPath.{AddPath}
 use Rattle.routes.specs.declared.Row.{Row}
 use Rattle.routes.specs.declared.ListAnswer.{ListAnswer}
 use Rattle.routes.specs.declared.ListAnswer.the-variants as L
-use Rattle.routes.specs.Promises.{listMeaning, rowsIn, verdictIn}
+use Rattle.routes.specs.declared.RoutesAnswer.{RoutesAnswer}
+use Rattle.routes.specs.Promises.{listMeaning, countAnswer, hasRoom, readAnswer, withHosts, countList, readList, rowsMeaning, routesMeaning, rowsIn, hostsIn, verdictIn}
 use Rattle.route_bytes.specs.Encode.{writing}
 use Rattle.route_writer.specs.Promises as routeWriter
 use Rattle.words.specs.Word.{inFields, Narrow}
-use Rattle.words.proofs.WordLaws.{refused-narrow, number-narrow}
+use Rattle.words.proofs.WordLaws.{refused-narrow}
 use Rattle.firmware.proofs.Bounds.{answer-any, limited-narrow}
 
 -- an item is refused with 2 or 7
@@ -62,35 +62,49 @@ unfolding sectionBy
 section-modest s max mode =
     pick-any (Modest s) (strange s) (Walk.refused oneByteSection) (listOf s max mode) (record { few = omega arith; low = omega arith }) (list-modest s max mode)
 
--- an answer of so few rows, or of a refusal number that is a byte
-pub record Small (a : ListAnswer) : Type 0 where
+-- an answer of so few rows and host rows, or of a refusal number that is a byte
+pub record Small (a : RoutesAnswer) : Type 0 where
   pub rows : rowsIn a ≤ listLimit
+  pub hosts : hostsIn a ≤ listLimit
   pub verdict : verdictIn a < 256
 
-pub count-small : (s : List ℕ) (r : Reading Row) → Modest s r → Small (routes.countAnswer s r)
-unfolding routes.countAnswer
-count-small s r h =
-    pick-leb Small (length s) listLimit _ (L.Refused tooLong)
+count-few : (s : List ℕ) (r : Reading Row) → Modest s r → (valueIn 0 (listMeaning (countAnswer s r)) ≤ listLimit) × (numberIn (listMeaning (countAnswer s r)) < 256)
+unfolding countAnswer
+count-few s r h =
+    pick-leb (λ (a : ListAnswer). (valueIn 0 (listMeaning a) ≤ listLimit) × (numberIn (listMeaning a) < 256)) (length s) listLimit _ (L.Refused tooLong)
     (λ short. by (r .verdict) (h .low) (omega (arith, h .few)))
-    (λ _. record { rows = omega arith; verdict = omega arith })
+    (λ _. (omega arith, omega arith))
   where
-    by : (v : ℕ) → v < 256 → length (r .rows) ≤ listLimit → Small (answerBy v (L.Rows (length (r .rows))) L.Refused)
-    by zero low few = record { rows = few; verdict = low }
-    by (suc n) low few = record { rows = omega arith; verdict = low }
+    by : (v : ℕ) → v < 256 → length (r .rows) ≤ listLimit
+        → (valueIn 0 (listMeaning (answerBy v (L.Rows (length (r .rows))) L.Refused)) ≤ listLimit) × (numberIn (listMeaning (answerBy v (L.Rows (length (r .rows))) L.Refused)) < 256)
+    by zero low many = (many, low)
+    by (suc n) low many = (omega arith, low)
 
-small-narrow : (a : ListAnswer) → Small a → Narrow (inFields (listMeaning a))
-small-narrow (L.Rows n) h = number-narrow n (h .rows)
-small-narrow (L.Refused n) h = refused-narrow n
+pub count-small : (s : List ℕ) (r : Reading Row) (max : ℕ) (mode : AddPath) → Modest s r → Small (withHosts (countAnswer s r) (hostsOf s max mode))
+count-small s r max mode h =
+    let few = count-few s r h in
+    record {
+      rows = rw (beside-rows (countAnswer s r) (hostsOf s max mode)) (few .0);
+      hosts = counted-hosts (upTo max) (fair max) s mode r;
+      verdict = rw (beside-verdict (countAnswer s r) (hostsOf s max mode)) (few .1);
+    }
+
+small-narrow : (a : RoutesAnswer) → Small a → Narrow (inFields (routesMeaning a))
+small-narrow a h = record { a = omega (arith, h .rows); b = omega (arith, h .hosts); c = third (a .list) }
+  where
+    third : (x : ListAnswer) → valueIn 2 (rowsMeaning x (a .hosts)) < 65536
+    third (L.Rows n) = omega arith
+    third (L.Refused n) = omega arith
 
 module _ (s : List ℕ) (max : ℕ) (mode : AddPath) where
-  pub count-list-narrow : Narrow (inFields (listMeaning (routes.countAnswer s (listOf s max mode))))
-  count-list-narrow = small-narrow (routes.countAnswer s (listOf s max mode)) (count-small s (listOf s max mode) (list-modest s max mode))
+  pub count-list-narrow : Narrow (inFields (routesMeaning (countList (upTo max) s mode)))
+  count-list-narrow = small-narrow (countList (upTo max) s mode) (count-small s (listOf s max mode) max mode (list-modest s max mode))
 
-  pub read-list-narrow : (places : ℕ) → Narrow (inFields (listMeaning (routes.readAnswer s (listOf s max mode) places)))
-  unfolding routes.readAnswer
+  pub read-list-narrow : (places : ℕ) → Narrow (inFields (routesMeaning (readList (upTo max) s mode places)))
+  unfolding readAnswer
   read-list-narrow places =
-      let counted : ListAnswer = routes.countAnswer s (listOf s max mode) in
-      pick-any (λ (a : ListAnswer). Narrow (inFields (listMeaning a))) (routes.hasRoom counted places) counted (L.Refused noRoom) count-list-narrow (refused-narrow noRoom)
+      let counted : ListAnswer = countAnswer s (listOf s max mode) in
+      pick-any (λ (a : ListAnswer). Narrow (inFields (routesMeaning (withHosts a (hostsOf s max mode))))) (hasRoom counted places) counted (L.Refused noRoom) count-list-narrow (refused-narrow noRoom)
 
 -- ---- what is written
 

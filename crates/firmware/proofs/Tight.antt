@@ -9,6 +9,7 @@ use Rattle.firmware.proofs.update.doorbramble_withdrawn_part.Reads as w
 use Rattle.firmware.proofs.update.doorbramble_attribute_part.Reads as attribute_part
 use Rattle.firmware.proofs.update.doorbramble_announced_part.Reads as announced_part
 use Rattle.firmware.proofs.update.doorbramble_count_bgp_update_message.Reads as count_bgp_update_message
+use Rattle.firmware.proofs.update.doorbramble_count_update_hosts.Reads as count_update_hosts
 use Rattle.firmware.proofs.update.doorbramble_parse_bgp_update_message.Reads as parse_bgp_update_message
 use Rattle.firmware.proofs.update.doorbramble_encode_bgp_update_message.Reads as encode_bgp_update_message
 use Rattle.firmware.proofs.attribute.doorbramble_attribute_at.Reads as attribute_at
@@ -53,6 +54,9 @@ tight-announced-part κs a z z′ e e′ p q = p ∙ sym q
 
 pub tight-count-bgp-update-message : (κs : _) (a : _) (z z′ : _) (e e′ : _) → count_bgp_update_message.Learnt κs a z e → count_bgp_update_message.Learnt κs a z′ e′ → z ≡ z′
 tight-count-bgp-update-message κs a z z′ e e′ p q = p ∙ sym q
+
+pub tight-count-update-hosts : (κs : _) (a : _) (z z′ : _) (e e′ : _) → count_update_hosts.Learnt κs a z e → count_update_hosts.Learnt κs a z′ e′ → z ≡ z′
+tight-count-update-hosts κs a z z′ e e′ p q = p ∙ sym q
 
 pub tight-parse-bgp-update-message : (κs : _) (a : _) (z z′ : _) (e e′ : _) → parse_bgp_update_message.Learnt κs a z e → parse_bgp_update_message.Learnt κs a z′ e′ → (z ≡ z′) × (now (e .1 .1 .0) ≡ now (e′ .1 .1 .0)) × (now (e .1 .1 .1 .0) ≡ now (e′ .1 .1 .1 .0))
 tight-parse-bgp-update-message κs a z z′ e e′ p q = (p .0 ∙ sym (q .0), p .1 .0 ∙ sym (q .1 .0), p .1 .1 ∙ sym (q .1 .1))

@@ -6,7 +6,7 @@ use mathlib.Core.List.{List}
 use native.Mathlib.Omega.{arith}
 use lib.ListN.{length}
 use lib.Dec.{leb}
-use Rattle.wire.specs.Answer.{filled, writeMeaning}
+use Rattle.wire.specs.Answer.{valueIn, filled, writeMeaning}
 use Rattle.wire.specs.Extent.{Extent}
 use Rattle.wire.specs.Refusal.{tooLong, noRoom, listLimit}
 use Rattle.wire.specs.Walk.{Reading}
@@ -17,11 +17,13 @@ use Rattle.route_reader.specs.Pair.{readPairBy, readPair}
 use Rattle.families.specs.declared.AddPath.{AddPath}
 use Rattle.families.specs.declared.Form.{Form}
 use Rattle.families.specs.declared.Afi.the-variants.{Ipv4}
-use Rattle.routes.specs.List.{sectionOf}
-use Rattle.routes.specs.Promises.{rowsIn, hasRoom, countAnswer}
+use Rattle.routes.specs.List.{hostsOf, sectionOf}
+use Rattle.routes.specs.Promises.{listMeaning, rowsIn, hasRoom, countAnswer}
+use Rattle.routes.proofs.ListLaws.{beside-rows}
 use Rattle.routes.specs.declared.Row.{Row}
 use Rattle.routes.specs.declared.ListAnswer.{ListAnswer}
 use Rattle.routes.specs.declared.ListAnswer.the-variants as L
+use Rattle.routes.specs.declared.RoutesAnswer.{RoutesAnswer}
 use Rattle.route_reader.specs.declared.PairAnswer.{PairAnswer}
 use Rattle.route_reader.specs.declared.PairAnswer.the-variants as Q
 use Rattle.updates.specs.Body.{partsOf, withdrawnOf, announcedOf}
@@ -36,7 +38,7 @@ use Rattle.update_writer.specs.Body.{bodyBytes, bodyAnswer}
 use Rattle.update_writer.proofs.RoundTrip.{body-cases}
 use Rattle.words.specs.Word.{inFields, wordOf, Narrow}
 use Rattle.words.proofs.WordLaws.{refused-narrow, number-narrow}
-use Rattle.firmware.specs.Fields.{partFields, updateFields, bodyRows}
+use Rattle.firmware.specs.Fields.{partFields, updateFields, hostFields, bodyRows}
 use Rattle.firmware.proofs.Bounds.{answer-any}
 use Rattle.firmware.proofs.ListBounds.{section-modest, Small, count-small}
 
@@ -52,15 +54,15 @@ part-narrow section b told w a n inside e f =
 
 -- ---- their routes
 
-update-narrow : (a b : ListAnswer) → Small a → Small b → Narrow (updateFields (U.Update a b))
+update-narrow : (a b : RoutesAnswer) → Small a → Small b → Narrow (updateFields (U.Update a b))
 update-narrow a b h k = record { a = omega (arith, h .rows); b = omega (arith, k .rows); c = omega (arith, h .verdict, k .verdict) }
 
-pair-narrow : (a b : ListAnswer) (places places′ : ℕ) → Small a → Small b → Narrow (updateFields (asUpdate (readPairBy a b places places′)))
+pair-narrow : (a b : RoutesAnswer) (places places′ : ℕ) → Small a → Small b → Narrow (updateFields (asUpdate (readPairBy a b places places′)))
 unfolding readPairBy
 pair-narrow a b places places′ h k =
     let Fine : PairAnswer → Type 0 = λ p. Narrow (updateFields (asUpdate p)) in
-    pick-any Fine (hasRoom a places) _ (Q.Refused noRoom)
-    (pick-any Fine (hasRoom b places′) (Q.Sections a b) (Q.Refused noRoom) (update-narrow a b h k) (refused-narrow noRoom))
+    pick-any Fine (hasRoom (a .list) places) _ (Q.Refused noRoom)
+    (pick-any Fine (hasRoom (b .list) places′) (Q.Sections a b) (Q.Refused noRoom) (update-narrow a b h k) (refused-narrow noRoom))
     (refused-narrow noRoom)
 
 if-narrow : (p : PartsAnswer) (u : UpdateAnswer) → Narrow (updateFields u) → Narrow (updateFields (ifParts p u))
@@ -70,13 +72,21 @@ if-narrow (S.Refused m) u h = refused-narrow m
 module _ (b : List ℕ) (mode : AddPath) where
   both-small : Small (counted (withdrawnOf b) mode) × Small (counted (announcedOf b) mode)
   both-small = (
-    count-small (withdrawnOf b) _ (section-modest (withdrawnOf b) (maxOf Ipv4) mode),
-    count-small (announcedOf b) _ (section-modest (announcedOf b) (maxOf Ipv4) mode),
+    count-small (withdrawnOf b) _ (maxOf Ipv4) mode (section-modest (withdrawnOf b) (maxOf Ipv4) mode),
+    count-small (announcedOf b) _ (maxOf Ipv4) mode (section-modest (announcedOf b) (maxOf Ipv4) mode),
   )
 
   pub count-update-narrow : Narrow (updateFields (countUpdate b mode))
   unfolding countUpdate
   count-update-narrow = if-narrow (partsOf b) _ (update-narrow _ _ (both-small .0) (both-small .1))
+
+  pub count-hosts-narrow : Narrow (hostFields (countUpdate b mode))
+  unfolding countUpdate
+  count-hosts-narrow = by (partsOf b)
+    where
+      by : (p : PartsAnswer) → Narrow (hostFields (ifParts p (U.Update (counted (withdrawnOf b) mode) (counted (announcedOf b) mode))))
+      by (S.Parts w a n) = record { a = omega (arith, both-small .0 .hosts); b = omega (arith, both-small .1 .hosts); c = omega arith }
+      by (S.Refused m) = refused-narrow m
 
   pub read-update-narrow : (places places′ : ℕ) → Narrow (updateFields (readUpdate b mode places places′))
   unfolding readUpdate readPair
@@ -87,14 +97,15 @@ module _ (b : List ℕ) (mode : AddPath) where
 rows-few : (s : List ℕ) (mode : AddPath) → rowsIn (counted s mode) ≤ length s
 unfolding countAnswer
 rows-few s mode =
-    let Few : ListAnswer → Type 0 = λ a. rowsIn a ≤ length s in
+    let Few : ListAnswer → Type 0 = λ a. valueIn 0 (listMeaning a) ≤ length s in
     let r : Reading Row = sectionOf s (maxOf Ipv4) mode in
-    pick-any Few (leb (length s) listLimit) _ (L.Refused tooLong)
+    rw (beside-rows (countAnswer s r) (hostsOf s (maxOf Ipv4) mode))
+    (pick-any Few (leb (length s) listLimit) _ (L.Refused tooLong)
     (answer-any Few (r .verdict) (L.Rows (length (r .rows))) L.Refused (section-modest s (maxOf Ipv4) mode .few) (λ n. omega arith))
-    (omega arith)
+    (omega arith))
 
 -- no more in both sections together than the bytes between its lengths
-pub update-few : (b : List ℕ) (mode : AddPath) (first second : ListAnswer) → countUpdate b mode ≡ U.Update first second → rowsIn first + rowsIn second ≤ bodyRows
+pub update-few : (b : List ℕ) (mode : AddPath) (first second : RoutesAnswer) → countUpdate b mode ≡ U.Update first second → rowsIn first + rowsIn second ≤ bodyRows
 unfolding countUpdate
 update-few b mode first second = by (partsOf b) refl
   where

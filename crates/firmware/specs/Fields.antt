@@ -1,4 +1,4 @@
--- The fields of the answers whose fields are not their values in order. The others go by `inFields` of words: a list has its rows, an
+-- The fields of the answers whose fields are not their values in order. The others go by `inFields` of words: a list has its rows and its host rows, an
 -- AS_PATH its segments and numbers, a writer its bytes.
 use Prim.Native.Nat.{ℕ, _+_, _*_}
 use mathlib.Core.List.{List, [], _∷_}
@@ -42,6 +42,10 @@ abbrev pub updateFields : UpdateAnswer → Fields
 updateFields a =
     fields (valueIn 0 (updateMeaning a)) (valueIn 2 (updateMeaning a))
     (valueIn 1 (updateMeaning a) + 256 * valueIn 3 (updateMeaning a)) (numberIn (updateMeaning a))
+
+-- the rows of both sections that have a host bit, for which that word has no field
+abbrev pub hostFields : UpdateAnswer → Fields
+hostFields a = fields (valueIn 4 (updateMeaning a)) (valueIn 5 (updateMeaning a)) 0 (numberIn (updateMeaning a))
 
 -- ---- attributes
 
@@ -116,7 +120,7 @@ abbrev pub versionMajor : ℕ
 versionMajor = 1
 
 abbrev pub versionMinor : ℕ
-versionMinor = 4
+versionMinor = 5
 
 abbrev pub versionFields : Fields
 versionFields = fields versionMajor versionMinor 0 0

@@ -3,7 +3,7 @@ ghost use mathlib.Core.Path.{_≡_};
 ghost use lib.ListN.{length};
 ghost use Rattle.wire.specs.Answer.{writeMeaning};
 ghost use Rattle.families.specs.Family.{maxOf, modeOf};
-ghost use Rattle.routes.specs.List.{listOf};
+ghost use Rattle.routes.specs.List.{upTo, listOf};
 ghost use Rattle.routes.specs.Promises as Routes;
 ghost use Rattle.route_writer.specs.Promises as RouteWriter;
 ghost use Rattle.words.specs.Settings.{familyOf, formOf};
@@ -11,25 +11,27 @@ ghost use Rattle.words.specs.Word.{inFields, wordOf, Narrow};
 use super::write_word;
 use families::mode_of;
 use routes::ListAnswer;
+use routes::RoutesAnswer;
 use words::family_of;
 use words::form_of;
 use words::word;
 
-// A list as a word: its rows.
-fn list_word(a: ListAnswer) -> u64
-    requires { ⌜ Narrow (inFields (Routes.listMeaning a)) ⌝ }
-    ensures { λ r. ⌜ r ≡ wordOf (inFields (Routes.listMeaning a)) ⌝ }
+// A list as a word: its rows, and those that have a bit set past their length.
+fn list_word(a: RoutesAnswer) -> u64
+    requires { ⌜ Narrow (inFields (Routes.routesMeaning a)) ⌝ }
+    ensures { λ r. ⌜ r ≡ wordOf (inFields (Routes.routesMeaning a)) ⌝ }
 {
-    match a {
-        ListAnswer::Rows(n) => word(n as u16, 0, 0, 0),
+    let list = a.list;
+    match list {
+        ListAnswer::Rows(n) => word(n as u16, a.hosts as u16, 0, 0),
         ListAnswer::Refused(n) => word(0, 0, 0, n),
     }
 }
 
-// How many routes a list has.
+// How many routes a list has, and how many of them have a bit set past their length.
 #[no_mangle]
 pub extern "C" fn doorbramble_count_nlri_list(s: &[u8], ipv6: u8, settings: u8) -> u64
-    ensures { λ r. ⌜ r ≡ wordOf (inFields (Routes.listMeaning (Routes.countAnswer (now (s .entry)) (listOf (now (s .entry)) (maxOf (familyOf ipv6)) (modeOf settings))))) ⌝ }
+    ensures { λ r. ⌜ r ≡ wordOf (inFields (Routes.routesMeaning (Routes.countList (upTo (maxOf (familyOf ipv6))) (now (s .entry)) (modeOf settings)))) ⌝ }
 {
     list_word(routes::count_nlri_list(s, family_of(ipv6), mode_of(settings)))
 }
@@ -42,7 +44,7 @@ pub extern "C" fn doorbramble_parse_nlri_list(
     settings: u8,
     store: &mut [u32],
 ) -> u64
-    ensures answer { λ r. ⌜ r ≡ wordOf (inFields (Routes.listMeaning (Routes.readAnswer (now (s .entry)) (listOf (now (s .entry)) (maxOf (familyOf ipv6)) (modeOf settings)) (length (now (store .entry)))))) ⌝ }
+    ensures answer { λ r. ⌜ r ≡ wordOf (inFields (Routes.routesMeaning (Routes.readList (upTo (maxOf (familyOf ipv6))) (now (s .entry)) (modeOf settings) (length (now (store .entry)))))) ⌝ }
     ensures store { λ _. ⌜ now (store .exit) ≡ Routes.storeAfter (now (s .entry)) (listOf (now (s .entry)) (maxOf (familyOf ipv6)) (modeOf settings)) (now (store .entry)) ⌝ }
 {
     list_word(route_reader::parse_nlri_list(s, family_of(ipv6), mode_of(settings), store))

@@ -8,9 +8,10 @@ ghost use Rattle.updates.specs.Update.{countUpdate, readUpdate, withdrawnAfter,
 ghost use Rattle.update_writer.specs.Body.{bodyBytes, bodyAnswer};
 ghost use Rattle.words.specs.Settings.{formOf};
 ghost use Rattle.words.specs.Word.{inFields, wordOf, Narrow};
-ghost use Rattle.firmware.specs.Fields.{partFields, updateFields};
+ghost use Rattle.firmware.specs.Fields.{partFields, updateFields, hostFields};
 use super::write_word;
 use families::mode_of;
+use routes::hosts_in;
 use routes::rows_in;
 use routes::verdict_in;
 use updates::LENGTH_SIZE;
@@ -99,6 +100,33 @@ pub extern "C" fn doorbramble_count_bgp_update_message(body: &[u8], settings: u8
     ensures { λ r. ⌜ r ≡ wordOf (updateFields (countUpdate (now (body .entry)) (modeOf settings))) ⌝ }
 {
     update_word(updates::count_bgp_update_message(body, mode_of(settings)))
+}
+
+// The rows of both sections that have a bit set past their length, as a word.
+fn host_word(a: UpdateAnswer) -> u64
+    requires { ⌜ Narrow (hostFields a) ⌝ }
+    ensures { λ r. ⌜ r ≡ wordOf (hostFields a) ⌝ }
+{
+    match a {
+        UpdateAnswer::Update {
+            withdrawn,
+            announced,
+        } => word(
+            hosts_in(withdrawn) as u16,
+            hosts_in(announced) as u16,
+            0,
+            0,
+        ),
+        UpdateAnswer::Refused(n) => word(0, 0, 0, n),
+    }
+}
+
+// How many routes of each section of an UPDATE body have a bit set past their length, for which the word of an UPDATE has no field left.
+#[no_mangle]
+pub extern "C" fn doorbramble_count_update_hosts(body: &[u8], settings: u8) -> u64
+    ensures { λ r. ⌜ r ≡ wordOf (hostFields (countUpdate (now (body .entry)) (modeOf settings))) ⌝ }
+{
+    host_word(updates::count_bgp_update_message(body, mode_of(settings)))
 }
 
 // The routes of an UPDATE body, into a lent store for each section.

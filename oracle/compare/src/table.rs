@@ -4,6 +4,7 @@
 use crate::buffers::crossed;
 use crate::inputs::captures::Capture;
 use crate::inputs::examples::{hex, on_bytes};
+use crate::inputs::pieces;
 use crate::rng::Rng;
 use crate::sample::{answers, Making};
 use records::ending::about;
@@ -23,7 +24,7 @@ const MARK: [u8; 2] = [0xC5, 0x3A];
 const UPDATE: u64 = 2;
 const HEADER: usize = 19;
 
-const HEADING: &str = "no type claimed kept state withdrawn announced\n";
+const HEADING: &str = "no type claimed kept state withdrawn announced host\n";
 
 /// A slot: its settings byte and its kept bytes.
 struct Slot {
@@ -73,8 +74,26 @@ const PLAIN: &[&str] = &[
     "00 22 02 00 06 21 0A 00 00 00 00 00 00 20 0A 00 00 01",
 ];
 
+/// 10.255.0.0/9 and other routes with a host bit, likewise: in one section, in the other and in both; before a refusal in either; in a message
+/// that trails, in two that are cut, and in a body that is refused.
+const HOSTS: &[&str] = &[
+    "00 1A 02 00 00 00 00 09 0A FF",
+    "00 1A 02 00 03 09 0A FF 00 00",
+    "00 23 02 00 06 09 0A FF 09 0B FF 00 00 09 0A FF 09 0A 80",
+    "00 1E 02 00 04 09 0A FF 21 00 00 09 0A FF",
+    "00 1E 02 00 03 09 0A FF 00 00 09 0A FF 09",
+    "00 1A 02 00 00 00 00 09 0A FF 09 0A FF",
+    "00 1D 02 00 00 00 00 09 0A FF",
+    "00 1D 02 00 00 00 00 09 0A FF 09",
+    "00 18 02 00 05 09 0A FF",
+];
+
 /// Lists that each setting reads otherwise, likewise, but under every settings byte.
-const SET: &[&str] = &["00 1D 02 00 00 00 00 00 00 00 07 08 0A", "00 20 02 00 09 00 18 0A 01 08 18 C8 02 00 00 00"];
+const SET: &[&str] = &[
+    "00 1D 02 00 00 00 00 00 00 00 07 08 0A",
+    "00 20 02 00 09 00 18 0A 01 08 18 C8 02 00 00 00",
+    "00 21 02 00 07 00 00 00 07 09 0A FF 00 00 09 0A FF",
+];
 
 fn after_marker(settings: u8, text: &str) -> Slot {
     Slot::new(settings, [vec![0xFF; 16], hex(text)].concat())
@@ -87,7 +106,7 @@ fn three() -> impl Iterator<Item = Slot> {
 /// The records made by hand.
 fn examples() -> Vec<Slot> {
     let mut slots: Vec<Slot> = three().collect();
-    slots.extend(PLAIN.iter().map(|text| after_marker(0, text)));
+    slots.extend(PLAIN.iter().chain(HOSTS).map(|text| after_marker(0, text)));
     slots.extend(SET.iter().flat_map(|text| (0..4).map(|settings| after_marker(settings, text))));
     slots.push(Slot::new(0, vec![]));
     slots.push(Slot::new(0, [vec![0; 16], hex(THREE[0])].concat()));
@@ -99,6 +118,13 @@ fn longest(kept: usize) -> Slot {
     let mut message = vec![0xFF; 16];
     message.extend([0xFF, 0xFF, 2]);
     message.resize(kept, 0);
+    Slot::new(0, message)
+}
+
+/// An UPDATE of 65,535 bytes with as many host bits as it can hold, in both sections.
+fn longest_hosts() -> Slot {
+    let section = [1, 0x7F].repeat(16_378);
+    let message = [&[0xFF; 18][..], &[2], &pieces::body(&section, &[], &section)].concat();
     Slot::new(0, message)
 }
 
@@ -131,6 +157,7 @@ fn slots(seed: u64, captures: &[Capture]) -> Vec<Slot> {
         slots.push(longest(kept));
         slots.extend(three());
     }
+    slots.push(longest_hosts());
     slots
 }
 
@@ -182,9 +209,9 @@ fn sections(slot: &Slot, header: &[u64]) -> Option<Request> {
 /// The line of a slot after its number, by the answers on its header and on its body.
 fn entry(slot: &Slot, header: &[u64], body: Option<&[u64]>) -> String {
     let said = match (fields(slot.kept.len(), header), body) {
-        (Ok(fields), None) => Ok(format!("{fields} - -")),
-        (Ok(fields), Some([_, 0, withdrawn, verdict, announced, other])) => {
-            Ok(format!("{fields} {withdrawn}/{verdict} {announced}/{other}"))
+        (Ok(fields), None) => Ok(format!("{fields} - - -")),
+        (Ok(fields), Some([_, 0, withdrawn, verdict, announced, other, first, second])) => {
+            Ok(format!("{fields} {withdrawn}/{verdict} {announced}/{other} {}", first + second))
         }
         (Ok(_), Some(body)) => Err(body[1]),
         (Err(refusal), _) => Err(refusal),

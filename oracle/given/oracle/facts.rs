@@ -9,6 +9,7 @@ use crate::parser::bgp::attributes::parse_attributes;
 use crate::parser::bgp::messages::{parse_bgp_message, parse_bgp_update_message};
 use crate::parser::utils::{encode_nlri_prefixes, parse_nlri_list, ReadUtils};
 use bytes::{Buf, Bytes, BytesMut};
+use std::collections::HashSet;
 use std::net::IpAddr;
 use std::str::FromStr;
 use std::sync::Once;
@@ -24,6 +25,9 @@ pub const ALL: &[(&str, fn())] = &[
     ("a_refused_path_leaves_its_output_half_written", a_refused_path_leaves_its_output_half_written),
     ("rows_of_both_forms_and_families_are_written_together", rows_of_both_forms_and_families_are_written_together),
     ("octets_past_the_length_are_dropped_when_written", octets_past_the_length_are_dropped_when_written),
+    ("host_bits_are_kept_without_a_warning", host_bits_are_kept_without_a_warning),
+    ("host_bits_are_written_back", host_bits_are_written_back),
+    ("routes_that_differ_in_host_bits_alone_are_not_equal", routes_that_differ_in_host_bits_alone_are_not_equal),
     ("an_open_over_4096_is_written_and_then_refused", an_open_over_4096_is_written_and_then_refused),
     ("an_update_body_has_no_limit_of_its_own", an_update_body_has_no_limit_of_its_own),
     ("an_unfinished_long_attribute_refuses_the_update", an_unfinished_long_attribute_refuses_the_update),
@@ -144,6 +148,44 @@ fn octets_past_the_length_are_dropped_when_written() {
     assert_eq!(prefix.encode()[..], [8, 10]);
     let host_bits = NetworkPrefix::from_str("10.255.0.0/9").unwrap();
     assert_eq!(host_bits.encode()[..], [9, 10, 255], "but bits in the last octet are kept");
+}
+
+/// In the prefix's address, in either section. What is logged and what the UPDATE is warned of are those of 10.128.0.0/9.
+fn host_bits_are_kept_without_a_warning() {
+    RECORDER.call_once(warnings::record_from_now_on);
+    let read = |octet| {
+        let body = Bytes::from(vec![0, 3, 9, 10, octet, 0, 0, 9, 10, octet]);
+        let (update, warned) = warnings::during(|| parse_bgp_update_message(body, false, &AsnLength::Bits32));
+        (update.unwrap(), warned)
+    };
+    let ((sent, logged), (meant, logged_of_meant)) = (read(255), read(128));
+    for route in [sent.withdrawn_prefixes[0], sent.announced_prefixes[0]] {
+        assert_eq!([route.prefix.addr(), route.prefix.network()], [[10, 255, 0, 0], [10, 128, 0, 0]].map(IpAddr::from));
+    }
+    assert_eq!(sent.attributes.validation_warnings(), meant.attributes.validation_warnings());
+    assert_eq!(logged, logged_of_meant);
+}
+
+/// In both families, and with an id.
+fn host_bits_are_written_back() {
+    for (afi, add_path, bytes) in [
+        (Afi::Ipv4, false, &[9, 10, 255][..]),
+        (Afi::Ipv4, true, &[0, 0, 0, 7, 9, 10, 255]),
+        (Afi::Ipv6, false, &[33, 0x20, 1, 0x0D, 0xB8, 0x40]),
+    ] {
+        let prefixes = parse_nlri_list(Bytes::from(bytes), add_path, &afi).unwrap();
+        assert_eq!(encode_nlri_prefixes(&prefixes)[..], *bytes);
+    }
+}
+
+/// Nor are they one in a set, and each is shown as it came; ipnet's own call for the network makes one of them.
+fn routes_that_differ_in_host_bits_alone_are_not_equal() {
+    let list = parse_nlri_list(Bytes::from_static(&[9, 10, 255, 9, 10, 128]), false, &Afi::Ipv4).unwrap();
+    let (sent, meant) = (list[0], list[1]);
+    assert_ne!(sent, meant);
+    assert_eq!(HashSet::from([sent, meant]).len(), 2);
+    assert_eq!([sent.to_string(), meant.to_string()], ["10.255.0.0/9", "10.128.0.0/9"]);
+    assert_eq!(sent.prefix.trunc(), meant.prefix);
 }
 
 fn an_open_over_4096_is_written_and_then_refused() {

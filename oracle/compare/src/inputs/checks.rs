@@ -37,6 +37,7 @@ fn settings() -> Vec<Request> {
         (9, "FF FF FF FF FF FF FF FF FF FF FF FF FF FF FF FE 00 13 04"),
         (9, "FF FF FF FF FF FF FF FF FF FF FF FF FF FF FF FF 10 01 02"),
         (10, "00 00 00 00 00 18 0A 01 08 18 C8 02 00"),
+        (11, "00 07 00 00 00 07 09 0A FF 00 00 09 0A FF"),
     ];
     let read = inputs.map(|(op, text)| on_bytes(op, 0, (24, 24), &hex(text)));
     let written = [(14, vec![2, 1, 1, 0], vec![7]), (15, vec![7, 0x0A00_0001], vec![])]

@@ -1,9 +1,10 @@
-//! All short inputs: every byte string of at most two bytes, longer ones over the bytes where something changes,
-//! and all combinations of boundary values for headers, rows and written messages.
+//! All short inputs: every byte string of at most two bytes, longer ones over the bytes where something changes, every
+//! host bit, and all combinations of boundary values for headers, rows and written messages.
 
 use super::as4::{self, joined};
 use super::attributes::{search, walk};
 use super::examples::{self, on_bytes, request, words, PATH_SETTINGS};
+use super::hosts;
 use records::{Request, ADD_PATH, FOUR_BYTE_AS, GUESS, IPV6};
 
 /// Requests in a fixed order, made one at a time.
@@ -16,6 +17,7 @@ impl Short {
                 .chain(written_messages())
                 .chain(written_rows())
                 .chain(aggregators())
+                .chain(hosts::every_way())
                 .chain(malformed_pairs())
                 .chain(headers())
                 .chain(attributes())

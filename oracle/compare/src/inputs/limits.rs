@@ -10,6 +10,7 @@ use records::{Request, ADD_PATH, EXTENDED, FOUR_BYTE_AS, GUESS, IPV6, STRICT};
 pub fn all() -> Vec<Request> {
     [
         lists(),
+        host_lists(),
         paths(),
         strict_paths(),
         messages(),
@@ -46,6 +47,19 @@ fn lists() -> Vec<Request> {
         zeros(5, GUESS, 0, 65_536),
         // a single item has no limit
         on_bytes(1, 0, (0, 0), &vec![0; 65_536]),
+    ]
+}
+
+/// As many rows with a host bit as there can be, 32,767 in a list and 32,756 in either section of a body; over the limit there is one more.
+fn host_lists() -> Vec<Request> {
+    let hosts = |size: usize| [1, 0x7F].repeat(size / 2);
+    let longest = [hosts(65_534), vec![0]].concat();
+    vec![
+        on_bytes(3, GUESS, (0, 0), &longest),
+        on_bytes(2, GUESS, (6 * 32_768, 0), &longest),
+        on_bytes(5, GUESS, (0, 0), &hosts(65_536)),
+        on_bytes(11, GUESS, (0, 0), &pieces::body(&hosts(65_512), &[], &[])),
+        on_bytes(11, GUESS, (0, 0), &pieces::body(&[], &[], &hosts(65_512))),
     ]
 }
 

@@ -1,4 +1,4 @@
-//! The inputs: examples of document 01, every least length, limit and order of two checks, captured messages, all short
+//! The inputs: examples of document 01, every least length, limit and order of two checks, every host bit, captured messages, all short
 //! inputs, random ones around every boundary, damaged copies of good ones, and a few of the largest sizes.
 
 pub mod as4;
@@ -8,6 +8,7 @@ pub mod captures;
 pub mod checks;
 pub mod examples;
 pub mod exhaustive;
+pub mod hosts;
 pub mod limits;
 pub mod pieces;
 pub mod random;
@@ -18,7 +19,7 @@ use records::Request;
 
 /// Document 01's examples, and the numbers and orders of checks of it and of the requests: these stand in the sample too.
 pub fn numbers() -> Vec<Request> {
-    [examples::all(), checks::all(), attributes::all(), as4::all(), limits::all()].concat()
+    [examples::all(), checks::all(), attributes::all(), as4::all(), hosts::all(), limits::all()].concat()
 }
 
 /// An endless source of requests, the same for the same seed and captures.

@@ -32,9 +32,23 @@ pub fn item(rng: &mut Rng, with_id: bool, ipv6: bool) -> Vec<u8> {
     }
     let bits = length(rng, ipv6);
     bytes.push(bits);
-    let octets = (usize::from(bits) + 7) / 8;
-    bytes.extend((0..octets.min(16)).map(|_| if rng.one_in(4) { 0 } else { rng.byte() }));
+    bytes.extend(octets(rng, bits));
     bytes
+}
+
+/// The octets of a length, 16 at most: with any bits past the length, with none, or with one.
+pub fn octets(rng: &mut Rng, bits: u8) -> Vec<u8> {
+    let count = usize::from(bits).div_ceil(8).min(16);
+    let mut octets: Vec<u8> = (0..count).map(|_| if rng.one_in(4) { 0 } else { rng.byte() }).collect();
+    let past = (8 - usize::from(bits) % 8) % 8;
+    let way = rng.under(3);
+    if let (Some(last), 1..) = (octets.last_mut(), way) {
+        *last &= 0xFF << past;
+        if way == 2 && past > 0 {
+            *last |= 1 << rng.under(past);
+        }
+    }
+    octets
 }
 
 /// A list of items, mostly of the form asked for; with `mixed` the forms change at random.

@@ -465,15 +465,14 @@ fn large_section(rng: &mut Rng, size: usize) -> Vec<u8> {
 /// Items of one form up to exactly `size` bytes as far as they go; the last may be cut.
 fn large_list(rng: &mut Rng, size: usize, with_id: bool, ipv6: bool) -> Vec<u8> {
     let bits = rng.pick(if ipv6 { pieces::IPV6_LENGTHS } else { pieces::IPV4_LENGTHS });
-    let octets = (usize::from(bits) + 7) / 8;
     let mut bytes = vec![];
-    let step = 1 + octets + if with_id { 4 } else { 0 };
+    let step = 1 + usize::from(bits).div_ceil(8) + if with_id { 4 } else { 0 };
     while bytes.len() + step <= size {
         if with_id {
             bytes.extend(rng.word().to_be_bytes());
         }
         bytes.push(bits);
-        bytes.extend(rng.bytes(octets));
+        bytes.extend(pieces::octets(rng, bits));
     }
     let form = if with_id { [vec![0; 4], vec![0]].concat() } else { vec![0] };
     while bytes.len() + form.len() <= size {

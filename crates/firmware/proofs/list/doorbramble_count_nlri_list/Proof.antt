@@ -1,5 +1,5 @@
 use Rattle.words.proofs.WordLaws.{told-in}
-use Rattle.routes.specs.Promises.{listMeaning}
+use Rattle.routes.specs.Promises.{routesMeaning}
 use Rattle.firmware.proofs.ListBounds.{count-list-narrow}
 use borrow.Author.Needs.{needs}
 use Rattle.firmware.proofs.list.doorbramble_count_nlri_list.Statement.{statement}
@@ -20,7 +20,7 @@ list-word-requires c κs = rw (c .count-nlri-list .ensures) (count-list-narrow _
 returns : tie.Need-returns
 returns c =
     let e = rw (c .before .before .before .family-of .ensures, c .before .before .mode-of .ensures) at (c .before .count-nlri-list .ensures) in
-    told-in listMeaning (c .list-word .ensures) e
+    told-in routesMeaning (c .list-word .ensures) e
 
 pub doorbramble-count-nlri-list-spec : {M : Type 1} → statement M
 doorbramble-count-nlri-list-spec =

@@ -1,5 +1,5 @@
 use Rattle.words.proofs.WordLaws.{told-in}
-use Rattle.routes.specs.Promises.{listMeaning}
+use Rattle.routes.specs.Promises.{routesMeaning}
 use Rattle.firmware.proofs.ListBounds.{read-list-narrow}
 use borrow.Author.Needs.{needs}
 use Rattle.firmware.proofs.list.doorbramble_parse_nlri_list.Statement.{statement}
@@ -23,7 +23,7 @@ same-length c = search needs
 returns : tie.Need-returns
 returns c =
     let e = rw (c .before .before .before .before .before .before .family-of .ensures, c .before .before .before .before .before .mode-of .ensures) at (c .before .before .before .parse-nlri-list .ensures) in
-    (told-in listMeaning (c .list-word .ensures) (e .0), e .1)
+    (told-in routesMeaning (c .list-word .ensures) (e .0), e .1)
 
 pub doorbramble-parse-nlri-list-spec : {M : Type 1} → statement M
 doorbramble-parse-nlri-list-spec =
