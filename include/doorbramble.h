@@ -137,7 +137,7 @@ extern "C" {
 #define DOORBRAMBLE_PAIR_WORDS 2
 #define DOORBRAMBLE_AGGREGATOR_WORDS 2
 
-/* the most bytes of stack that a call uses, its return address included; tools/stack-use measures 472 in the library of the kit that README.md
+/* the most bytes of stack that a call uses, its return address included; tools/stack-use measures 488 in the library of the kit that README.md
  * names */
 #define DOORBRAMBLE_STACK_LIMIT 512
 
