@@ -183,7 +183,7 @@ fn sections(slot: &Slot, header: &[u64]) -> Option<Request> {
 fn entry(slot: &Slot, header: &[u64], body: Option<&[u64]>) -> String {
     let said = match (fields(slot.kept.len(), header), body) {
         (Ok(fields), None) => Ok(format!("{fields} - -")),
-        (Ok(fields), Some([_, 0, withdrawn, verdict, announced, other])) => {
+        (Ok(fields), Some([_, 0, withdrawn, verdict, announced, other, ..])) => {
             Ok(format!("{fields} {withdrawn}/{verdict} {announced}/{other}"))
         }
         (Ok(_), Some(body)) => Err(body[1]),

@@ -1,6 +1,6 @@
 //! The message header and the UPDATE body: parse_bgp_message, parse_bgp_update_message and the two encoders.
 
-use super::routes::{prefixes, rows, ReadUpdate};
+use super::routes::{host_rows, prefixes, rows, ReadUpdate};
 use super::{crate_reads_so, reader_refusal, warnings, width, writer_refusal, written, Contents, Outcome};
 use super::{MOST_BODY, MOST_BYTES};
 use crate::error::{EncodingError, ParserError};
@@ -104,17 +104,17 @@ pub fn update(request: &Request) -> Outcome {
         Ok(update) => update,
         Err(outcome) => return outcome,
     };
-    let mut numbers = vec![];
-    let mut stores = vec![];
+    let (mut counts, mut hosts, mut stores) = (vec![], vec![], vec![]);
     for list in [update.withdrawn(), update.announced()] {
         let (routes, verdict) = match list {
-            Ok(routes) => (rows(&routes), 0),
+            Ok(routes) => (routes, 0),
             Err(verdict) => (vec![], verdict),
         };
-        numbers.extend([routes.len() as u64, u64::from(verdict)]);
-        stores.push(Contents::Rows(routes));
+        counts.extend([routes.len() as u64, u64::from(verdict)]);
+        hosts.push(host_rows(&routes));
+        stores.push(Contents::Rows(rows(&routes)));
     }
-    Outcome::Done(numbers, if request.op == 10 { stores } else { vec![] })
+    Outcome::Done([counts, hosts].concat(), if request.op == 10 { stores } else { vec![] })
 }
 
 /// Op 12. The crate hands back no parts, but it keeps a malformed section's bytes and writes a good one's routes

@@ -37,13 +37,23 @@ pub fn rows(prefixes: &[NetworkPrefix]) -> Vec<[u32; 6]> {
     prefixes.iter().map(row).collect()
 }
 
+/// Whether a bit past the length is set: the crate keeps it in its address, and the network's address has none.
+fn has_host_bit(prefix: &NetworkPrefix) -> bool {
+    prefix.prefix.addr() != prefix.prefix.network()
+}
+
+pub fn host_rows(prefixes: &[NetworkPrefix]) -> u64 {
+    prefixes.iter().filter(|prefix| has_host_bit(prefix)).count() as u64
+}
+
 pub fn one_route(request: &Request) -> Outcome {
     let mut bytes = Bytes::copy_from_slice(&request.parts[0]);
     let given = bytes.remaining();
     match bytes.read_nlri_prefix(&family(request), request.has(ADD_PATH)) {
         Ok(prefix) => {
             let mut numbers = vec![(given - bytes.remaining()) as u64];
-            numbers.extend(row(&prefix).iter().map(|word| u64::from(*word)));
+            numbers.extend(row(&prefix).map(u64::from));
+            numbers.push(u64::from(has_host_bit(&prefix)));
             Outcome::Done(numbers, vec![])
         }
         Err(error) => Outcome::Refused(reader_refusal(&error)),
@@ -61,7 +71,7 @@ pub fn list_or_section(request: &Request) -> Outcome {
     match read {
         Ok(prefixes) => {
             let stores = if request.op % 2 == 0 { vec![Contents::Rows(rows(&prefixes))] } else { vec![] };
-            Outcome::Done(vec![prefixes.len() as u64], stores)
+            Outcome::Done(vec![prefixes.len() as u64, host_rows(&prefixes)], stores)
         }
         Err(refusal) => Outcome::Refused(refusal),
     }

@@ -32,9 +32,9 @@ fn call(request: &Request) -> Done {
     match request.op {
         1 => one_route(request, bytes),
         2 => stored_rows(request, routes::list(bytes, reading(request), family(request))?),
-        3 => counted(routes::list(bytes, reading(request), family(request))?.len()),
+        3 => Ok((counts(&routes::list(bytes, reading(request), family(request))?), vec![])),
         4 => stored_rows(request, routes::section(bytes, reading(request))?),
-        5 => counted(routes::section(bytes, reading(request))?.len()),
+        5 => Ok((counts(&routes::section(bytes, reading(request))?), vec![])),
         6 => stored_path(request, paths::read(bytes, width(request), rule(request))?),
         7 => path_counts(&paths::read(bytes, width(request), rule(request))?),
         8 => aggregator(request, bytes),
@@ -111,22 +111,24 @@ fn edition(request: &Request) -> headers::Edition {
 fn one_route(request: &Request, bytes: &[u8]) -> Done {
     let (used, row) = routes::item(bytes, request.has(ADD_PATH), family(request))?;
     let mut numbers = vec![used as u64];
-    numbers.extend(row.iter().map(|word| u64::from(*word)));
+    numbers.extend(row.words.map(u64::from));
+    numbers.push(u64::from(row.has_host_bit));
     Ok((numbers, vec![]))
 }
 
-fn counted(count: usize) -> Done {
-    Ok((vec![count as u64], vec![]))
+/// How many rows, and how many of them have a host bit.
+fn counts(rows: &[routes::ReadRow]) -> Vec<u64> {
+    vec![rows.len() as u64, routes::host_rows(rows)]
 }
 
 /// Rows into the first store, six places each.
-fn stored_rows(request: &Request, rows: Vec<routes::Row>) -> Done {
+fn stored_rows(request: &Request, rows: Vec<routes::ReadRow>) -> Done {
     let mut lent = lent_of(request);
     if request.room_a / 6 < rows.len() {
         return Err(11);
     }
-    lent[0].put_numbers(&rows.concat());
-    Ok((vec![rows.len() as u64], lent))
+    lent[0].put_numbers(&routes::words(&rows));
+    Ok((counts(&rows), lent))
 }
 
 fn path_counts(path: &[paths::Segment]) -> Done {
@@ -186,7 +188,7 @@ fn stored_update(request: &Request, bytes: &[u8]) -> Done {
     }
     for ((list, _), store) in lists.iter().zip(&mut lent) {
         if let Ok(rows) = list {
-            store.put_numbers(&rows.concat());
+            store.put_numbers(&routes::words(rows));
         }
     }
     Ok((numbers, lent))

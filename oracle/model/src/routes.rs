@@ -31,6 +31,23 @@ pub type Row = [u32; 6];
 
 const HAS_ID: u32 = 256;
 
+/// A row that was read, and whether a bit of the item's octets past its length is set.
+#[derive(Debug, Clone, Copy, PartialEq, Eq)]
+pub struct ReadRow {
+    pub words: Row,
+    pub has_host_bit: bool,
+}
+
+/// The words of rows, back to back.
+pub fn words(rows: &[ReadRow]) -> Vec<u32> {
+    rows.iter().flat_map(|row| row.words).collect()
+}
+
+/// How many rows have a host bit.
+pub fn host_rows(rows: &[ReadRow]) -> u64 {
+    rows.iter().filter(|row| row.has_host_bit).count() as u64
+}
+
 /// Bits rounded up to whole octets.
 fn octets(bits: u32) -> usize {
     (bits as usize + 7) / 8
@@ -45,8 +62,14 @@ fn address_words(address: &[u8]) -> [u32; 4] {
     words
 }
 
+/// Whether a bit of the octets after the first `length` bits is set. Bit 0 is the greatest of the first octet.
+fn has_host_bit(octets: &[u8], length: u32) -> bool {
+    let is_set = |bit: usize| octets[bit / 8] >> (7 - bit % 8) & 1 == 1;
+    (length as usize..8 * octets.len()).any(is_set)
+}
+
 /// One item: how many bytes it used, and its row.
-pub fn item(bytes: &[u8], with_id: bool, family: Family) -> Result<(usize, Row), Refusal> {
+pub fn item(bytes: &[u8], with_id: bool, family: Family) -> Result<(usize, ReadRow), Refusal> {
     let mut used = 0;
     let mut id = 0;
     if with_id {
@@ -69,11 +92,12 @@ pub fn item(bytes: &[u8], with_id: bool, family: Family) -> Result<(usize, Row),
     }
     let words = address_words(&bytes[used..end]);
     let first = length + if with_id { HAS_ID } else { 0 };
-    Ok((end, [first, id, words[0], words[1], words[2], words[3]]))
+    let words = [first, id, words[0], words[1], words[2], words[3]];
+    Ok((end, ReadRow { words, has_host_bit: has_host_bit(&bytes[used..end], length) }))
 }
 
 /// Items of one form until the bytes end.
-fn items(mut bytes: &[u8], with_id: bool, family: Family) -> Result<Vec<Row>, Refusal> {
+fn items(mut bytes: &[u8], with_id: bool, family: Family) -> Result<Vec<ReadRow>, Refusal> {
     let mut rows = vec![];
     while !bytes.is_empty() {
         let (used, row) = item(bytes, with_id, family)?;
@@ -89,7 +113,7 @@ enum State {
 }
 
 /// The walk of the guess.
-fn guessed_items(mut bytes: &[u8], family: Family) -> Result<Vec<Row>, Refusal> {
+fn guessed_items(mut bytes: &[u8], family: Family) -> Result<Vec<ReadRow>, Refusal> {
     let mut rows = vec![];
     let mut state = State::Plain;
     while !bytes.is_empty() {
@@ -114,7 +138,7 @@ fn guessed_items(mut bytes: &[u8], family: Family) -> Result<Vec<Row>, Refusal> 
 }
 
 /// A route list.
-pub fn list(bytes: &[u8], reading: Reading, family: Family) -> Result<Vec<Row>, Refusal> {
+pub fn list(bytes: &[u8], reading: Reading, family: Family) -> Result<Vec<ReadRow>, Refusal> {
     if bytes.len() > MOST_BYTES {
         return Err(1);
     }
@@ -126,7 +150,7 @@ pub fn list(bytes: &[u8], reading: Reading, family: Family) -> Result<Vec<Row>, 
 }
 
 /// A section of an UPDATE: an IPv4 list, except that a single nonzero byte is 8.
-pub fn section(bytes: &[u8], reading: Reading) -> Result<Vec<Row>, Refusal> {
+pub fn section(bytes: &[u8], reading: Reading) -> Result<Vec<ReadRow>, Refusal> {
     match bytes {
         [byte] if *byte != 0 => Err(8),
         _ => list(bytes, reading, Family::Ipv4),

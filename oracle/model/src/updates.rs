@@ -1,6 +1,6 @@
 //! "The UPDATE body".
 
-use crate::routes::{self, Family, Reading, Row};
+use crate::routes::{self, Family, ReadRow, Reading};
 use crate::Refusal;
 
 /// The most bytes of an UPDATE body: a message of 65,535 less its header.
@@ -40,20 +40,20 @@ pub fn parts(body: &[u8]) -> Result<Parts<'_>, Refusal> {
 
 /// The two lists of an UPDATE, each with its own verdict.
 pub struct Update {
-    pub withdrawn: Result<Vec<Row>, Refusal>,
-    pub announced: Result<Vec<Row>, Refusal>,
+    pub withdrawn: Result<Vec<ReadRow>, Refusal>,
+    pub announced: Result<Vec<ReadRow>, Refusal>,
 }
 
 impl Update {
-    /// Withdrawn count, its verdict, announced count, its verdict.
+    /// Withdrawn count, its verdict, announced count, its verdict; then the rows with a host bit of each.
     pub fn numbers(&self) -> Vec<u64> {
-        [&self.withdrawn, &self.announced]
-            .into_iter()
-            .flat_map(|list| match list {
-                Ok(rows) => [rows.len() as u64, 0],
-                Err(verdict) => [0, u64::from(*verdict)],
-            })
-            .collect()
+        let lists = [&self.withdrawn, &self.announced];
+        let counts = lists.iter().flat_map(|list| match list {
+            Ok(rows) => [rows.len() as u64, 0],
+            Err(verdict) => [0, u64::from(*verdict)],
+        });
+        let hosts = lists.iter().map(|list| list.as_ref().map_or(0, |rows| routes::host_rows(rows)));
+        counts.chain(hosts).collect()
     }
 }
 

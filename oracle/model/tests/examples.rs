@@ -77,6 +77,72 @@ fn lists() {
     assert_eq!(rows(2, IPV6, "81"), Err(7));
 }
 
+/// A length, octets of zeros as many as it needs, and one of their bits set.
+fn item_with_bit(length: usize, bit: usize) -> Vec<u8> {
+    let mut octets = vec![0; length.div_ceil(8)];
+    octets[bit / 8] |= 0x80 >> (bit % 8);
+    [vec![length as u8], octets].concat()
+}
+
+#[test]
+fn host_bits_of_one_route() {
+    for (family, most) in [(0, 32), (IPV6, 128)] {
+        for length in 0..=most {
+            for bit in 0..8 * usize::div_ceil(length, 8) {
+                let last = told(1, family, item_with_bit(length, bit)).chars().last();
+                assert_eq!(last == Some('1'), bit >= length, "bit {bit} of a length of {length}");
+            }
+        }
+    }
+    assert_eq!(told(1, 0, hex("09 0A FF")), "0 3 9 0 184483840 0 0 0 1");
+    assert_eq!(told(1, 0, hex("09 0A 80")), "0 3 9 0 176160768 0 0 0 0");
+    assert_eq!(told(1, 0, hex("08 0A FF")), "0 2 8 0 167772160 0 0 0 0", "the octet after the item is not its own");
+    assert_eq!(told(1, ADD_PATH, hex("00 00 00 07 09 0A FF")), "0 7 265 7 184483840 0 0 0 1");
+    assert_eq!(told(1, 0, hex("09 0A")), "2 0 0 0 0 0 0 0 0");
+}
+
+#[test]
+fn host_bits_of_lists() {
+    for op in [3, 5] {
+        assert_eq!(told(op, 0, hex("")), "0 0 0");
+        assert_eq!(told(op, 0, hex("09 0A FF 09 0A 80 08 FF 1F FF FF FF FF 00")), "0 5 2");
+        assert_eq!(told(op, ADD_PATH, hex("00 00 00 07 09 0A FF FF FF FF FF 08 0A")), "0 2 1");
+        assert_eq!(told(op, GUESS, hex("00 00 00 07 09 0A FF")), "0 1 1", "the length is the one after the id");
+        assert_eq!(told(op, GUESS, hex("00 09 0A FF")), "0 2 1", "or the first byte, where there is no id");
+        assert_eq!(told(op, 0, hex("09 0A FF 21")), "7 0 0");
+        assert_eq!(told(op, 0, hex("09 0A FF 09 0A")), "2 0 0");
+    }
+    let stored = |op, room_a| {
+        let parts = [hex("09 0A FF 08 0A"), vec![], vec![]];
+        let answer = model::answer(&Request { op, room_a, parts, ..Request::default() });
+        (answer.refusal, answer.numbers)
+    };
+    for op in [2, 4] {
+        assert_eq!(stored(op, 12), (0, vec![2, 1]));
+        assert_eq!(stored(op, 11), (11, vec![0, 0]), "a refused list has none");
+    }
+}
+
+#[test]
+fn host_bits_of_updates() {
+    let body = |withdrawn: &str, announced: &str| {
+        let withdrawn = hex(withdrawn);
+        [vec![0, withdrawn.len() as u8], withdrawn, vec![0, 0], hex(announced)].concat()
+    };
+    assert_eq!(told(11, 0, body("09 0A FF 09 0B FF", "09 0A FF 08 0A")), "0 2 0 2 0 2 1");
+    assert_eq!(told(11, 0, body("08 0A", "09 0A FF")), "0 1 0 1 0 0 1");
+    assert_eq!(told(11, 0, body("09 0A FF 21", "09 0A FF")), "0 0 7 1 0 0 1", "a malformed section has none");
+    assert_eq!(told(11, 0, body("09 0A FF", "09 0A FF 08")), "0 1 0 0 2 1 0");
+    assert_eq!(told(11, 0, hex("00 03 09 0A FF 00")), "2 0 0 0 0 0 0");
+    let rooms = |room_a, room_b| {
+        let parts = [body("09 0A FF", "09 0A FF"), vec![], vec![]];
+        let answer = model::answer(&Request { op: 10, room_a, room_b, parts, ..Request::default() });
+        (answer.refusal, answer.numbers)
+    };
+    assert_eq!(rooms(6, 6), (0, vec![1, 0, 1, 0, 1, 1]));
+    assert_eq!(rooms(6, 5), (11, vec![0; 6]));
+}
+
 #[test]
 fn paths_and_aggregators() {
     let sequence = hex("02 02 00 00 FD E9 00 00 FD EA");
@@ -356,5 +422,5 @@ fn orders_side_by_side() {
 #[test]
 fn the_format_page() {
     let request = Request { op: 3, parts: [hex("20 0A 00 00 01"), vec![], vec![]], ..Request::default() };
-    assert_eq!(model::answer(&request).line(1, 3), "1 3 0 1");
+    assert_eq!(model::answer(&request).line(1, 3), "1 3 0 1 0");
 }

@@ -196,12 +196,10 @@ pub struct Answer {
 /// How many numbers come after the refusal of an op.
 pub fn numbers_of(op: u8) -> usize {
     match op {
-        1 => 7,
-        6 | 7 => 2,
+        1 | 9 => 8,
+        2..=7 => 2,
         8 | 20 | 21 => 3,
-        9 => 8,
-        10 | 11 => 4,
-        12 => 6,
+        10..=12 => 6,
         18 => 7,
         19 => 5,
         _ => 1,

@@ -34,8 +34,8 @@ struct Found {
 fn is_tidy(answer: &Answer) -> bool {
     let records::Lent::Numbers(store) = &answer.lent[0] else { return false };
     let rows: Vec<&[u32]> = store.chunks_exact(6).take(answer.numbers[0] as usize).collect();
-    let clean = rows.iter().all(|row| row[0] == 32 || row[2] << row[0] == 0);
-    clean && (1..rows.len()).all(|at| !rows[..at].contains(&rows[at]))
+    let host_rows = answer.numbers[1];
+    host_rows == 0 && (1..rows.len()).all(|at| !rows[..at].contains(&rows[at]))
 }
 
 impl Found {
