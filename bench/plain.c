@@ -37,6 +37,10 @@ INLINE uint64_t refused(uint64_t number) { return number << 48; }
 
 INLINE uint64_t refusal_of(uint64_t answered) { return answered >> 48; }
 
+// Of a counted list, whose refusal has neither.
+INLINE uint64_t rows_of(uint64_t counted) { return counted & 0xFFFF; }
+INLINE uint64_t hosts_of(uint64_t counted) { return counted >> 16 & 0xFFFF; }
+
 // ---- Numbers in network order ----
 
 INLINE uint32_t read2(const uint8_t *from) {
@@ -90,7 +94,16 @@ static const uint8_t ipv6_octets[256] = {
     [129 ... 255] = REFUSED_LENGTH,
 };
 
-INLINE uint32_t octets_after(uint8_t bits, bool ipv6) { return ipv6 ? ipv6_octets[bits] : ipv4_octets[bits]; }
+INLINE uint32_t octets_after(size_t bits, bool ipv6) { return ipv6 ? ipv6_octets[bits] : ipv4_octets[bits]; }
+
+// By length, the bits of the last octet past it: a multiple of 8 has none.
+#define EIGHT_LENGTHS 0, 0x7F, 0x3F, 0x1F, 0x0F, 0x07, 0x03, 0x01
+#define MANY_LENGTHS EIGHT_LENGTHS, EIGHT_LENGTHS, EIGHT_LENGTHS, EIGHT_LENGTHS
+static const uint8_t host_bits[129] = {MANY_LENGTHS, MANY_LENGTHS, MANY_LENGTHS, MANY_LENGTHS, 0};
+
+// Whether an item whose octets stand at `s` has a host bit. Before them stands the length byte, which is 0 where there
+// is no last octet.
+INLINE bool has_host(const uint8_t *s, size_t octets, size_t bits) { return s[octets - 1] & host_bits[bits]; }
 
 // The bytes of an id, if there is one.
 INLINE uint32_t head_of(bool id) { return id ? 4 : 0; }
@@ -119,43 +132,56 @@ INLINE bool item_with_id(const uint8_t *s, size_t n, size_t at, bool ipv6) {
     return octets != REFUSED_LENGTH && n - at >= 5 + octets;
 }
 
-// The rows of a list whose items have `head` bytes before the length, or the refusal. `s` goes on from the octets of the
-// item before, so that the next length byte waits for the table alone. An item that is not all there is the last.
+// Whether so many bytes from `s` on end at the end or past it, where no pointer may point.
+INLINE bool reach(const uint8_t *s, size_t bytes, const uint8_t *end) { return (uintptr_t)s + bytes >= (uintptr_t)end; }
+
+// The rows of a list whose items have `head` bytes before the length, and those with a host bit; or the refusal. `s` goes
+// on from the octets of the item before, so that the next length byte waits for the table alone. An item that is not all
+// there is the last: octets are looked at where something follows them, or after the loop.
 INLINE uint64_t count_items(const uint8_t *s, size_t n, bool ipv6, uint32_t head) {
-    size_t octets = 0, rows = 0;
-    while (octets + head < n) {
-        size_t next = octets_after(s[octets + head], ipv6);
-        if (next == REFUSED_LENGTH) return refused(BAD_PREFIX_LENGTH);
+    if (n <= head) return n ? refused(TOO_SHORT) : 0;
+    const uint8_t *end = s + n;
+    size_t octets = 0, rows = 0, hosts = 0;
+    for (;;) {
+        size_t bits = s[octets + head];
         s += octets + head + 1;
-        n -= octets + head + 1;
-        octets = next;
+        octets = octets_after(bits, ipv6);
+        if (octets == REFUSED_LENGTH) return refused(BAD_PREFIX_LENGTH);
         rows++;
+        if (reach(s, octets + head, end)) break;
+        hosts += has_host(s, octets, bits);
     }
-    return octets == n ? rows : refused(TOO_SHORT);
+    if (octets != (size_t)(end - s)) return refused(TOO_SHORT);
+    return answer(rows, hosts + has_host(s, octets, s[-1]), 0);
 }
 
+// The same with the guess: a zero byte where an item without id would begin starts the items with one.
 INLINE uint64_t count_guessed(const uint8_t *s, size_t n, bool ipv6) {
-    size_t octets = 0, rows = 0;
-    bool tagged = false;
-    while (octets < n) {
-        const uint8_t *item = s + octets;
-        size_t left = n - octets;
-        tagged |= item[0] == 0;
-        if (tagged && item_with_id(item, left, 0, ipv6)) {
-            octets = octets_after(item[4], ipv6);
-            s = item + 5;
-            n = left - 5;
-        } else {
-            tagged = false;
-            octets = octets_after(item[0], ipv6);
-            if (octets == REFUSED_LENGTH) return refused(BAD_PREFIX_LENGTH);
-            s = item + 1;
-            n = left - 1;
-            if (octets > n) return refused(TOO_SHORT);
+    if (n == 0) return 0;
+    const uint8_t *end = s + n;
+    size_t octets = 0, rows = 0, hosts = 0;
+    for (;;) {
+        size_t bits = s[octets];
+        if (bits == 0 && item_with_id(s, end - s, octets, ipv6)) {
+            do {
+                bits = s[octets + 4];
+                s += octets + 5;
+                octets = octets_after(bits, ipv6);
+                rows++;
+                hosts += has_host(s, octets, bits);
+            } while (item_with_id(s, end - s, octets, ipv6));
+            if (s + octets == end) return answer(rows, hosts, 0);
+            bits = s[octets];
         }
+        s += octets + 1;
+        octets = octets_after(bits, ipv6);
+        if (octets == REFUSED_LENGTH) return refused(BAD_PREFIX_LENGTH);
         rows++;
+        if (reach(s, octets, end)) break;
+        hosts += has_host(s, octets, bits);
     }
-    return rows;
+    if (octets != (size_t)(end - s)) return refused(TOO_SHORT);
+    return answer(rows, hosts + has_host(s, octets, s[-1]), 0);
 }
 
 INLINE uint64_t count_list(const uint8_t *s, size_t n, bool ipv6, form form) {
@@ -248,7 +274,7 @@ uint64_t plain_parse_nlri_list(const uint8_t *s, size_t n, uint8_t ipv6, uint8_t
                                size_t places) {
     uint64_t counted = plain_count_nlri_list(s, n, ipv6, settings);
     if (refusal_of(counted)) return counted;
-    if (counted > places / ROW) return refused(NO_ROOM);
+    if (rows_of(counted) > places / ROW) return refused(NO_ROOM);
     fill_in_form(s, n, ipv6, form_of(settings), store);
     return counted;
 }
@@ -300,28 +326,39 @@ INLINE uint64_t count_section(const uint8_t *s, size_t n, form form) {
     return count_in_form(s, n, false, form);
 }
 
+// The three sections, and what is counted in two of them; a refusal or 0.
+INLINE uint64_t count_body(const uint8_t *body, size_t n, form form, parts *parts, uint64_t *withdrawn,
+                           uint64_t *announced) {
+    uint64_t refusal = split_body(body, n, parts);
+    if (refusal) return refusal;
+    *withdrawn = count_section(parts->withdrawn, parts->withdrawn_length, form);
+    *announced = count_section(parts->announced, parts->announced_length, form);
+    return 0;
+}
+
 INLINE uint64_t update_answer(uint64_t withdrawn, uint64_t announced) {
-    return answer(withdrawn & 0xFFFF, announced & 0xFFFF, refusal_of(withdrawn) | refusal_of(announced) << 8);
+    return answer(rows_of(withdrawn), rows_of(announced), refusal_of(withdrawn) | refusal_of(announced) << 8);
 }
 
 uint64_t plain_count_bgp_update_message(const uint8_t *body, size_t n, uint8_t settings) {
     parts parts;
-    uint64_t refusal = split_body(body, n, &parts);
-    if (refusal) return refusal;
-    return update_answer(count_section(parts.withdrawn, parts.withdrawn_length, form_of(settings)),
-                         count_section(parts.announced, parts.announced_length, form_of(settings)));
+    uint64_t first, second, refusal = count_body(body, n, form_of(settings), &parts, &first, &second);
+    return refusal ? refusal : update_answer(first, second);
+}
+
+uint64_t plain_count_update_hosts(const uint8_t *body, size_t n, uint8_t settings) {
+    parts parts;
+    uint64_t first, second, refusal = count_body(body, n, form_of(settings), &parts, &first, &second);
+    return refusal ? refusal : answer(hosts_of(first), hosts_of(second), 0);
 }
 
 uint64_t plain_parse_bgp_update_message(const uint8_t *body, size_t n, uint8_t settings, uint32_t *withdrawn,
                                         size_t withdrawn_places, uint32_t *announced, size_t announced_places) {
     parts parts;
-    uint64_t refusal = split_body(body, n, &parts);
-    if (refusal) return refusal;
     form form = form_of(settings);
-    uint64_t first = count_section(parts.withdrawn, parts.withdrawn_length, form);
-    uint64_t second = count_section(parts.announced, parts.announced_length, form);
-    if (!refusal_of(first) && first > withdrawn_places / ROW) return refused(NO_ROOM);
-    if (!refusal_of(second) && second > announced_places / ROW) return refused(NO_ROOM);
+    uint64_t first, second, refusal = count_body(body, n, form, &parts, &first, &second);
+    if (refusal) return refusal;
+    if (rows_of(first) > withdrawn_places / ROW || rows_of(second) > announced_places / ROW) return refused(NO_ROOM);
     if (!refusal_of(first)) fill_in_form(parts.withdrawn, parts.withdrawn_length, false, form, withdrawn);
     if (!refusal_of(second)) fill_in_form(parts.announced, parts.announced_length, false, form, announced);
     return update_answer(first, second);

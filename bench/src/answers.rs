@@ -44,6 +44,7 @@ pub fn answer<L: Library>(request: &Request) -> Answer {
     let (word, numbers) = match request.op {
         8 => aggregator::<L>(request),
         9 => header::<L>(request),
+        10 | 11 => update::<L>(request, &mut lent),
         12 => parts::<L>(request),
         13..=17 => written::<L>(request, &mut lent),
         18 | 19 => attribute::<L>(request),
@@ -83,17 +84,24 @@ fn read<L: Library>(request: &Request, lent: &mut [Lent]) -> (u64, Vec<u64>) {
         (6, [pairs, numbers]) => L::parse_as_path(s, four, store(pairs), store(numbers)),
         (7, _) if strict => L::count_as_path_strict(s, four),
         (7, _) => L::count_as_path(s, four),
-        (10, [withdrawn, announced]) => L::parse_bgp_update_message(s, settings, store(withdrawn), store(announced)),
-        (11, _) => L::count_bgp_update_message(s, settings),
         (op, _) => panic!("no reader for op {op}"),
     };
-    let [a, b, c, _] = fields(word);
-    let numbers = match request.op {
-        2 | 3 => vec![a],
-        6 | 7 => vec![a, b],
-        _ => vec![a, c & 0xFF, b, c >> 8],
+    let [a, b, ..] = fields(word);
+    (word, vec![a, b])
+}
+
+/// The rows with a host bit have a call of their own, which refuses as the others do but for the room.
+fn update<L: Library>(request: &Request, lent: &mut [Lent]) -> (u64, Vec<u64>) {
+    let (body, settings) = (request.parts[0].as_slice(), list_settings(request));
+    let word = match lent {
+        [withdrawn, announced] => L::parse_bgp_update_message(body, settings, store(withdrawn), store(announced)),
+        _ => L::count_bgp_update_message(body, settings),
     };
-    (word, numbers)
+    let hosts = L::count_update_hosts(body, settings);
+    let ([a, b, c, refusal], [withdrawn_hosts, announced_hosts, ..]) = (fields(word), fields(hosts));
+    let refused_alike = if matches!(refusal, 0 | NO_ROOM) { hosts >> 32 == 0 } else { hosts == word };
+    assert!(refused_alike, "rows with a host bit are counted where rows are");
+    (word, vec![a, c & 0xFF, b, c >> 8, withdrawn_hosts, announced_hosts])
 }
 
 /// The words are lent here: a request has no store for them.

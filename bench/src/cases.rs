@@ -92,9 +92,12 @@ pub fn compare(name: &str, asked: &Request, of_crate: &Request) -> io::Result<bo
 /// Compares a request to be timed. The crate has one reading without Add-Path, that with the guess: it is what is
 /// timed, so it must come to the same here. Whether the crate answered.
 fn compare_timed(name: &str, asked: &Request) -> io::Result<bool> {
-    if asked.op == inputs::COUNT_MERGED {
-        return compare_timed(name, &Request { op: 21, ..asked.clone() });
-    }
+    let compared_as = match asked.op {
+        inputs::COUNT_MERGED => 21,
+        inputs::COUNT_HOSTS => 11,
+        op => op,
+    };
+    let asked = &Request { op: compared_as, ..asked.clone() };
     let list = matches!(asked.op, 2 | 3 | 10 | 11) && !asked.has(ADD_PATH);
     let settings = asked.settings | if list { GUESS } else { 0 };
     compare(name, asked, &Request { settings, ..asked.clone() })
@@ -105,6 +108,7 @@ impl<'a> Cases<'a> {
         let mut made = Cases { wanted, captures, cases: vec![], growths: vec![] };
         made.lists()?;
         made.ten()?;
+        made.host_lists()?;
         made.captured_lists()?;
         made.updates()?;
         made.attributes()?;
@@ -232,6 +236,14 @@ impl<'a> Cases<'a> {
         Ok(())
     }
 
+    /// Lists in which it cannot be guessed whether an item has a host bit.
+    fn host_lists(&mut self) -> io::Result<()> {
+        let mut rng = Rng::new(500);
+        let tenths: Vec<Vec<u8>> = (0..10).map(|_| Lengths::Hosts4.tenth(&mut rng, false)).collect();
+        let [large, _] = both_sizes(&tenths, |list| inputs::read_list(list, 0));
+        self.read_and_count("list: mixed lengths, one in eight with host bits, 64 KB", Kind::Read, &large)
+    }
+
     fn captured_lists(&mut self) -> io::Result<()> {
         let reads = inputs::captured(self.captures, 2);
         self.read_and_count("list: IPv6 of the captures", Kind::Read, &reads)
@@ -247,6 +259,7 @@ impl<'a> Cases<'a> {
     fn updates(&mut self) -> io::Result<()> {
         let whole = inputs::captured(self.captures, 10);
         let withdrawals: Vec<Request> = whole.iter().map(inputs::as_withdrawal).collect();
+        let hosts: Vec<Request> = whole.iter().map(inputs::counting_hosts).collect();
         let mut rng = Rng::new(200);
         let ten = ten_lists(&mut rng, Lengths::Table4, false);
         let body = |body: Vec<u8>| on_bytes(10, GUESS | FOUR_BYTE_AS, (60, 60), &body);
@@ -264,7 +277,7 @@ impl<'a> Cases<'a> {
             let writes: Vec<Request> = writes.into_iter().filter(crate_writes_so).collect();
             self.add(&format!("write {what}"), Kind::Write, &writes)?;
         }
-        Ok(())
+        self.add("count UPDATE hosts: captures", Kind::Count, &hosts)
     }
 
     /// A walk is timed as a whole, from its first place on. The types that are searched stand in most of the sections, in

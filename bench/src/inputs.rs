@@ -10,6 +10,9 @@ use records::{Lent, Request, ADD_PATH, EXTENDED, FOUR_BYTE_AS, GUESS, IPV6, STRI
 /// Counting a merged path, which the records have no op for: the same request as op 21 otherwise, and compared as that.
 pub const COUNT_MERGED: u8 = 121;
 
+/// Counting an UPDATE's rows with a host bit, the same as op 11 otherwise, and compared as that.
+pub const COUNT_HOSTS: u8 = 111;
+
 /// The AS number of two bytes that stands for one of four.
 const AS_TRANS: u16 = 23_456;
 
@@ -32,6 +35,8 @@ pub enum Lengths {
     Defaults4,
     /// About as often as in the routing table of IPv6, with /64 and /128.
     Table6,
+    /// The same as `Table4`, about one in eight with a host bit: a third of those whose last octet has room for one.
+    Hosts4,
 }
 
 /// A length and how often it comes.
@@ -74,13 +79,13 @@ impl Lengths {
     fn length(self, rng: &mut Rng) -> u8 {
         match self {
             Lengths::All24 => 24,
-            Lengths::Table4 | Lengths::Defaults4 => share(rng, TABLE4),
+            Lengths::Table4 | Lengths::Defaults4 | Lengths::Hosts4 => share(rng, TABLE4),
             Lengths::Alike4 => 1 + rng.under(32) as u8,
             Lengths::Table6 => share(rng, TABLE6),
         }
     }
 
-    /// One item, its bits past the length 0; a small id before it if asked.
+    /// One item, its bits past the length 0 but for some of `Hosts4`; a small id before it if asked.
     pub fn item(self, rng: &mut Rng, with_id: bool) -> Vec<u8> {
         let mut item = vec![];
         if with_id {
@@ -93,7 +98,12 @@ impl Lengths {
         item.push(length);
         item.extend(rng.bytes(usize::from(length).div_ceil(8)));
         if length % 8 != 0 {
-            *item.last_mut().expect("an octet") &= 0xFF << (8 - length % 8);
+            let last = item.last_mut().expect("an octet");
+            if matches!(self, Lengths::Hosts4) && rng.one_in(3) {
+                *last |= 1;
+            } else {
+                *last &= 0xFF << (8 - length % 8);
+            }
         }
         item
     }
@@ -310,6 +320,11 @@ pub fn long_messages() -> Vec<Request> {
 /// The same request by the strict rule.
 pub fn strict(asked: &Request) -> Request {
     Request { settings: asked.settings | STRICT, ..asked.clone() }
+}
+
+/// The request that counts the rows with a host bit of the UPDATE that this one reads.
+pub fn counting_hosts(read: &Request) -> Request {
+    Request { op: COUNT_HOSTS, ..counting(read) }
 }
 
 /// The counting request of a reading one.

@@ -52,6 +52,9 @@ libraries! {
     fn count_bgp_update_message(body: &[u8], settings: u8) passes (
         body.as_ptr() => Bytes, body.len() => usize, settings => u8
     );
+    fn count_update_hosts(body: &[u8], settings: u8) passes (
+        body.as_ptr() => Bytes, body.len() => usize, settings => u8
+    );
     fn parse_bgp_update_message(body: &[u8], settings: u8, withdrawn: &mut [u32], announced: &mut [u32]) passes (
         body.as_ptr() => Bytes, body.len() => usize, settings => u8,
         withdrawn.as_mut_ptr() => Store, withdrawn.len() => usize,

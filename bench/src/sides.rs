@@ -3,7 +3,7 @@
 //! and giving back what the crate's calls hand out.
 
 use crate::answers::{add_path, aggregators, edition, fields, four_bytes, ipv6, list_settings};
-use crate::inputs::COUNT_MERGED;
+use crate::inputs::{COUNT_HOSTS, COUNT_MERGED};
 use crate::library::Library;
 use crate::measure::{timed, Side};
 use bytes::{Bytes, BytesMut};
@@ -144,7 +144,7 @@ impl Calls {
             2 | 3 => self.lists::<L>(),
             6..=8 => self.values::<L>(),
             9 => self.headers::<L>(),
-            10 | 11 => self.updates::<L>(),
+            10 | 11 | COUNT_HOSTS => self.updates::<L>(),
             18 | 19 => self.attributes::<L>(),
             20 | 21 | COUNT_MERGED => self.side_by_side::<L>(),
             _ => self.writers::<L>(),
@@ -184,13 +184,13 @@ impl Calls {
     }
 
     fn updates<L: Library>(&self) -> Side {
-        if self.op() == 10 {
-            self.batch(|call, to| {
+        match self.op() {
+            10 => self.batch(|call, to| {
                 let (withdrawn, announced) = to.two(call);
                 L::parse_bgp_update_message(call.s(), call.settings, withdrawn, announced)
-            })
-        } else {
-            self.batch(|call, _| L::count_bgp_update_message(call.s(), call.settings))
+            }),
+            11 => self.batch(|call, _| L::count_bgp_update_message(call.s(), call.settings)),
+            _ => self.batch(|call, _| L::count_update_hosts(call.s(), call.settings)),
         }
     }
 
@@ -254,7 +254,9 @@ impl Calls {
             6 | 7 => self.owning(|bytes, call| Inside::parse_as_path(bytes, &width(call))),
             8 => self.owning(|bytes, call| Inside::parse_aggregator(bytes, &width(call))),
             9 => self.owning(|mut bytes, call| parse_bgp_message(&mut bytes, call.has(ADD_PATH), &width(call))),
-            10 | 11 => self.owning(|bytes, call| parse_bgp_update_message(bytes, call.has(ADD_PATH), &width(call))),
+            10 | 11 | COUNT_HOSTS => {
+                self.owning(|bytes, call| parse_bgp_update_message(bytes, call.has(ADD_PATH), &width(call)))
+            }
             18 | 19 => {
                 self.owning(|bytes, call| parse_attributes(bytes, &width(call), call.has(ADD_PATH), None, None, None))
             }
