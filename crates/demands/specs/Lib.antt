@@ -2,6 +2,7 @@ pub mod Refusals
 pub mod Cut
 pub mod Editions
 pub mod Routes
+pub mod HostBits
 pub mod Octets
 pub mod Paths
 pub mod As4

@@ -19,10 +19,10 @@ use Rattle.families.specs.declared.Form.{Form}
 use Rattle.families.specs.declared.Form.the-variants.{Plain, Tagged}
 use Rattle.families.specs.declared.AddPath.{AddPath}
 use Rattle.families.specs.declared.AddPath.the-variants.{On, Off, Guess}
-use Rattle.routes.specs.Prefix.{words, wordAt, rowOf, itemRow, prefixMeaning, prefixOf}
-use Rattle.routes.specs.List.{inForm, guessForm, stepBy, listBy, sectionBy, listOf, sectionOf}
+use Rattle.routes.specs.Prefix.{words, wordAt, rowOf, itemRow, prefixOf, hostBits, routeOf, routeMeaning}
+use Rattle.routes.specs.List.{upTo, inForm, guessForm, stepBy, listBy, hostsBy, sectionBy, listOf, sectionOf}
 use Rattle.routes.specs.Promises as routes
-use Rattle.routes.specs.Promises.{listMeaning}
+use Rattle.routes.specs.Promises.{listMeaning, withHosts, countList, countSection, readList, routesMeaning}
 use Rattle.route_bytes.specs.Encode.{fourWords, rowBytes, allZero, writable, frontRow, writeStep, writing, bytesOf}
 use Rattle.route_bytes.specs.Promises.{measured}
 use Rattle.route_writer.specs.Promises as routeWriter
@@ -56,7 +56,7 @@ use Rattle.slot_table.specs.Line.{digits, fieldsText, sectionText, entryOf, ent
 use Rattle.slot_table.specs.Table.{linesOf, endingText}
 use Rattle.slot_table.specs.declared.Ending.the-variants as Ending
 use Rattle.words.specs.Word.{fields, inFields, wordOf}
-use Rattle.firmware.specs.Fields.{messageFields, updateFields, slotFields, attributeFields, versionFields, aggregatorSize, rowWords, pairWords, keptLimit, bodyRows}
+use Rattle.firmware.specs.Fields.{messageFields, updateFields, hostFields, slotFields, attributeFields, versionFields, aggregatorSize, rowWords, pairWords, keptLimit, bodyRows}
 use Rattle.messages.specs.declared.Edition.{Edition}
 use Rattle.messages.specs.declared.Edition.the-variants.{Rfc4271, Rfc8654}
 use Rattle.messages.specs.declared.MessageAnswer.the-variants.{Message}
@@ -285,7 +285,7 @@ bodies =
 
 -- the refusal number of one route, of a list and of a section, and of a list into a store of so many places
 abbrev pub route : Afi → Form → List ℕ → ℕ
-route family form s = numberIn (prefixMeaning (prefixOf s (maxOf family) form))
+route family form s = numberIn (routeMeaning (routeOf s (maxOf family) form))
 
 abbrev pub list : AddPath → List ℕ → ℕ
 list setting s = numberIn (listMeaning (routes.countAnswer s (listOf s (maxOf Ipv4) setting)))
@@ -692,6 +692,77 @@ octetCounts =
     ∷ line (after Ipv6 255) 255
     ∷ []
 
+-- ---- document 02, K6: "Tell us when host bits are set"
+
+-- whether one route has a host bit
+abbrev pub host : Afi → Form → List ℕ → ℕ
+host family form s = valueIn 7 (routeMeaning (routeOf s (maxOf family) form))
+
+-- rows, 256 for each that has a host bit, and 65,536 times the refusal number: of a list and of a section, and of a list into so many places
+abbrev pub inHex : Answer → ℕ
+inHex a = valueIn 0 a + 256 * valueIn 1 a + 65536 * numberIn a
+
+abbrev pub listHosts : AddPath → List ℕ → ℕ
+listHosts setting s = inHex (routesMeaning (countList (upTo (maxOf Ipv4)) s setting))
+
+abbrev pub sectionHosts : List ℕ → ℕ
+sectionHosts s = inHex (routesMeaning (countSection (upTo (maxOf Ipv4)) s Off))
+
+abbrev pub listHostsInto : List ℕ → ℕ → ℕ
+listHostsInto s places = inHex (routesMeaning (readList (upTo (maxOf Ipv4)) s Off places))
+
+-- of both sections of a body
+abbrev pub bodyHosts : List ℕ → ℕ
+bodyHosts b = wordOf (hostFields (countUpdate b Off))
+
+abbrev pub hostRows : List Line
+hostRows =
+    -- 10.255.0.0/9 for 10.128.0.0/9; bits before the length's own octet, and what follows the route, play no part
+    line (host Ipv4 Plain (9 ∷ 10 ∷ 255 ∷ [])) 1
+    ∷ line (host Ipv4 Plain (9 ∷ 10 ∷ 128 ∷ [])) 0
+    ∷ line (host Ipv4 Plain (9 ∷ 255 ∷ 128 ∷ [])) 0
+    ∷ line (host Ipv4 Plain (9 ∷ 10 ∷ 128 ∷ 255 ∷ [])) 0
+    -- the first and the last bit past a length
+    ∷ line (host Ipv4 Plain (1 ∷ 0x80 ∷ [])) 0
+    ∷ line (host Ipv4 Plain (1 ∷ 0x40 ∷ [])) 1
+    ∷ line (host Ipv4 Plain (1 ∷ 0x01 ∷ [])) 1
+    ∷ line (host Ipv4 Plain (7 ∷ 0xFE ∷ [])) 0
+    ∷ line (host Ipv4 Plain (7 ∷ 0x01 ∷ [])) 1
+    ∷ line (host Ipv4 Plain (31 ∷ 0 ∷ 0 ∷ 0 ∷ 0xFE ∷ [])) 0
+    ∷ line (host Ipv4 Plain (31 ∷ 0 ∷ 0 ∷ 0 ∷ 0x01 ∷ [])) 1
+    -- a multiple of 8 has none past it
+    ∷ line (host Ipv4 Plain (0 ∷ [])) 0
+    ∷ line (host Ipv4 Plain (8 ∷ 255 ∷ [])) 0
+    ∷ line (host Ipv4 Plain (16 ∷ 255 ∷ 255 ∷ [])) 0
+    ∷ line (host Ipv4 Plain (24 ∷ 255 ∷ 255 ∷ 255 ∷ [])) 0
+    ∷ line (host Ipv4 Plain (32 ∷ 255 ∷ 255 ∷ 255 ∷ 255 ∷ [])) 0
+    -- with an id, whose bits play no part; IPv6; a refused route has none
+    ∷ line (host Ipv4 Tagged (0 ∷ 0 ∷ 0 ∷ 7 ∷ 9 ∷ 10 ∷ 255 ∷ [])) 1
+    ∷ line (host Ipv4 Tagged (255 ∷ 255 ∷ 255 ∷ 255 ∷ 9 ∷ 10 ∷ 128 ∷ [])) 0
+    ∷ line (host Ipv6 Plain (33 ∷ 255 ∷ 255 ∷ 255 ∷ 255 ∷ 0x80 ∷ [])) 0
+    ∷ line (host Ipv6 Plain (33 ∷ 0 ∷ 0 ∷ 0 ∷ 0 ∷ 0x40 ∷ [])) 1
+    ∷ line (host Ipv6 Plain (127 ∷ zeros 15 ++ 1 ∷ [])) 1
+    ∷ line (host Ipv6 Plain (128 ∷ zeros 15 ++ 1 ∷ [])) 0
+    ∷ line (host Ipv4 Plain (33 ∷ 255 ∷ 255 ∷ 255 ∷ 255 ∷ 255 ∷ [])) 0
+    ∷ line (host Ipv4 Plain (9 ∷ 10 ∷ [])) 0
+    -- lists: the rows that have one; none where it is refused, whatever stood before the refusal, and none where there is no room
+    ∷ line (listHosts Off (9 ∷ 10 ∷ 255 ∷ 8 ∷ 11 ∷ 9 ∷ 10 ∷ 128 ∷ 1 ∷ 1 ∷ [])) 0x204
+    ∷ line (listHosts On (0 ∷ 0 ∷ 0 ∷ 7 ∷ 9 ∷ 10 ∷ 255 ∷ [])) 0x101
+    ∷ line (listHosts Guess (0 ∷ 0 ∷ 0 ∷ 7 ∷ 9 ∷ 10 ∷ 255 ∷ 8 ∷ 11 ∷ [])) 0x102
+    ∷ line (listHosts Guess (9 ∷ 10 ∷ 255 ∷ [])) 0x101
+    ∷ line (listHosts Off (9 ∷ 10 ∷ 255 ∷ 33 ∷ [])) 0x70000
+    ∷ line (listHosts Off (9 ∷ 10 ∷ 255 ∷ 9 ∷ [])) 0x20000
+    ∷ line (sectionHosts (9 ∷ 10 ∷ 255 ∷ [])) 0x101
+    ∷ line (sectionHosts (9 ∷ [])) 0x80000
+    ∷ line (listHostsInto (9 ∷ 10 ∷ 255 ∷ []) 6) 0x101
+    ∷ line (listHostsInto (9 ∷ 10 ∷ 255 ∷ []) 5) 0xB0000
+    -- an UPDATE: each section by itself; none of one with a verdict, and none where the body is refused
+    ∷ line (bodyHosts (0 ∷ 3 ∷ 9 ∷ 10 ∷ 255 ∷ 0 ∷ 0 ∷ 9 ∷ 10 ∷ 128 ∷ [])) 0x1
+    ∷ line (bodyHosts (0 ∷ 3 ∷ 9 ∷ 10 ∷ 128 ∷ 0 ∷ 0 ∷ 9 ∷ 10 ∷ 255 ∷ 1 ∷ 1 ∷ [])) 0x20000
+    ∷ line (bodyHosts (0 ∷ 3 ∷ 9 ∷ 10 ∷ 255 ∷ 0 ∷ 0 ∷ 9 ∷ 10 ∷ 255 ∷ 33 ∷ [])) 0x1
+    ∷ line (bodyHosts (0 ∷ 3 ∷ 9 ∷ 10 ∷ 255 ∷ 0 ∷ 1 ∷ [])) 0x2000000000000
+    ∷ []
+
 -- ---- the limit of a list and of a path to write: 1 over 65,535 bytes, before 11
 
 abbrev pub limits : List Line
@@ -749,8 +820,13 @@ settings =
     ∷ line (wordOf (messageFields (Message 2 0 0 false true false))) 0x20200000000
     ∷ line (wordOf (messageFields (Message 2 0 0 false false true))) 0x40200000000
     -- an UPDATE: the rows of both sections, and the verdict of the announced one above that of the withdrawn one
-    ∷ line (wordOf (updateFields (Update (L.Rows 3) (L.Refused 7)))) 0x70000000003
-    ∷ line (wordOf (updateFields (Update (L.Refused 2) (L.Rows 3)))) 0x200030000
+    ∷ line (wordOf (updateFields (Update (withHosts (L.Rows 3) 2) (withHosts (L.Refused 7) 2)))) 0x70000000003
+    ∷ line (wordOf (updateFields (Update (withHosts (L.Refused 2) 2) (withHosts (L.Rows 3) 2)))) 0x200030000
+    -- the rows with a host bit: of a list above its rows, and of an UPDATE those of both sections by themselves
+    ∷ line (wordOf (inFields (routesMeaning (withHosts (L.Rows 3) 2)))) 0x20003
+    ∷ line (wordOf (inFields (routesMeaning (withHosts (L.Refused 7) 2)))) 0x7000000000000
+    ∷ line (wordOf (hostFields (Update (withHosts (L.Rows 3) 2) (withHosts (L.Rows 5) 4)))) 0x40002
+    ∷ line (wordOf (hostFields (Update (withHosts (L.Refused 7) 2) (withHosts (L.Rows 5) 4)))) 0x40000
     -- a slot: the kept bytes and the settings of a record, 0; more bytes are needed, 1; no record, 2; the end, 3
     ∷ line (wordOf (slotFields (Slot 65535 Off))) 0xFFFF
     ∷ line (wordOf (slotFields (Slot 3 On))) 0x10003
@@ -767,7 +843,7 @@ settings =
     ∷ line keptLimit 65535
     ∷ line bodyRows 65512
     -- the version of the calls for C
-    ∷ line (wordOf versionFields) 0x40001
+    ∷ line (wordOf versionFields) 0x50001
     -- an attribute: where its value starts, its length, its type and its flags
     ∷ line (wordOf (attributeFields (A.Attribute 0x50 2 8 3 11))) 0x500200030008
     ∷ line (wordOf (attributeFields A.Absent)) 0
@@ -796,13 +872,15 @@ threeSlots =
 -- its text, the bytes of which are read as one number
 abbrev pub lister : List Line
 lister =
-    -- "no type claimed kept state withdrawn announced"
-    line (be headingText) 0x6E6F207479706520636C61696D6564206B6570742073746174652077697468647261776E20616E6E6F756E6365640A
-    -- "1 4 19 19 whole - -", "2 2 27 27 whole 0/0 1/0", "3 2 27 26 cut 0/0 0/2"
-    ∷ line (be (linesOf 1 threeSlots)) 0x3120342031392031392077686F6C65202D202D0A3220322032372032372077686F6C6520302F3020312F300A3320322032372032362063757420302F3020302F320A
-    -- "4 refused 3", of a header that claims 18; "5 4 19 20 trailing - -", of a KEEPALIVE and a byte
+    -- "no type claimed kept state withdrawn announced host"
+    line (be headingText) 0x6E6F207479706520636C61696D6564206B6570742073746174652077697468647261776E20616E6E6F756E63656420686F73740A
+    -- "1 4 19 19 whole - - -", "2 2 27 27 whole 0/0 1/0 0", "3 2 27 26 cut 0/0 0/2 0"
+    ∷ line (be (linesOf 1 threeSlots)) 0x3120342031392031392077686F6C65202D202D202D0A3220322032372032372077686F6C6520302F3020312F3020300A3320322032372032362063757420302F3020302F3220300A
+    -- "4 refused 3", of a header that claims 18; "5 4 19 20 trailing - - -", of a KEEPALIVE and a byte
     ∷ line (be (lineOf 4 (kept (0x00 ∷ 0x12 ∷ 0x09 ∷ [])) Off)) 0x34207265667573656420330A
-    ∷ line (be (lineOf 5 (kept (0x00 ∷ 0x13 ∷ 0x04 ∷ 0xC5 ∷ [])) Off)) 0x35203420313920323020747261696C696E67202D202D0A
+    ∷ line (be (lineOf 5 (kept (0x00 ∷ 0x13 ∷ 0x04 ∷ 0xC5 ∷ [])) Off)) 0x35203420313920323020747261696C696E67202D202D202D0A
+    -- "7 2 32 32 whole 1/0 2/0 3", of three routes with host bits: one is withdrawn, two are announced
+    ∷ line (be (lineOf 7 (kept (0x00 ∷ 0x20 ∷ 0x02 ∷ 0 ∷ 3 ∷ 9 ∷ 10 ∷ 255 ∷ 0 ∷ 0 ∷ 9 ∷ 10 ∷ 255 ∷ 9 ∷ 10 ∷ 129 ∷ [])) Off)) 0x3720322033322033322077686F6C6520312F3020322F3020330A
     -- "stop 6": a wrong mark, a settings byte over 3, a short record; no byte is a plain end
     ∷ line (be (linesOf 6 (0xC5 ∷ 0x3B ∷ []))) 0x73746F7020360A
     ∷ line (be (linesOf 6 (0xC5 ∷ 0x3A ∷ 0 ∷ 0 ∷ 4 ∷ []))) 0x73746F7020360A
@@ -902,11 +980,11 @@ oldAndNew =
     ∷ []
 
 abbrev pub table : List Line
-table = refusalNumbers ++ (headers ++ (bodies ++ (lists ++ (pathsAndAggregators ++ (oldAndNew ++ (attributes ++ (emptySegments ++ (longMessages ++ (octetCounts ++ (limits ++ (settings ++ lister)))))))))))
+table = refusalNumbers ++ (headers ++ (bodies ++ (lists ++ (pathsAndAggregators ++ (oldAndNew ++ (attributes ++ (emptySegments ++ (longMessages ++ (octetCounts ++ (hostRows ++ (limits ++ (settings ++ lister))))))))))))
 
 -- every line of the table holds
 pub numbers : agree table ≡ true
-unfolding agree zeros tableOf beAt readAll walk flat modeOf wordAt rowOf itemRow prefixOf inForm guessForm stepBy listBy sectionBy routes.countAnswer routes.readAnswer fourWords rowBytes allZero writable frontRow writeStep writing bytesOf measured routeWriter.writeAnswer limited span aggregatorOf aggregatorBytes aggregatorWritten typeFault numbersOf segmentAt segmentOf pathOf paths.countAnswer paths.readAnswer segmentBytes addsUp allFit writeFault lentOf lentPath pathBytes pathWriter.lentBytes pathWriter.encodeAnswer leastLength mostLength crateLimit isOutside isUnknown allFF messageOf strictWithin messageWriter.writeMessage isExtended lengthSize headSize attributeFront attributeOf attribute.sectionOf standing attributeAt firstOf countOf verdictOf judged findAnswer partsOf withdrawnOf announcedOf countUpdate bodySized bodyAnswer wordOf familyOf formOf asnLengthOf editionOf tally found slotOf digits fieldsText sectionText entryOf entryText lineOf stopText headingText linesOf endingText sizeFault as4.standing ignored Merge.kept Merge.leading Merge.joint faultOf bothOf builtOf
+unfolding agree zeros tableOf beAt readAll walk notes flat modeOf wordAt rowOf itemRow prefixOf hostBits routeOf hostsBy inForm guessForm stepBy listBy sectionBy routes.countAnswer routes.readAnswer fourWords rowBytes allZero writable frontRow writeStep writing bytesOf measured routeWriter.writeAnswer limited span aggregatorOf aggregatorBytes aggregatorWritten typeFault numbersOf segmentAt segmentOf pathOf paths.countAnswer paths.readAnswer segmentBytes addsUp allFit writeFault lentOf lentPath pathBytes pathWriter.lentBytes pathWriter.encodeAnswer leastLength mostLength crateLimit isOutside isUnknown allFF messageOf strictWithin messageWriter.writeMessage isExtended lengthSize headSize attributeFront attributeOf attribute.sectionOf standing attributeAt firstOf countOf verdictOf judged findAnswer partsOf withdrawnOf announcedOf countUpdate bodySized bodyAnswer wordOf familyOf formOf asnLengthOf editionOf tally found slotOf digits fieldsText sectionText entryOf entryText lineOf stopText headingText linesOf endingText sizeFault as4.standing ignored Merge.kept Merge.leading Merge.joint faultOf bothOf builtOf
 numbers = refl
 
 -- the limit of a list and of a path to write is of their bytes, whatever they are

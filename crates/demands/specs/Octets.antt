@@ -13,8 +13,7 @@ use Rattle.families.proofs.FamilyLaws.{max-small}
 use Rattle.families.proofs.OctetLaws.{entry-in, entry-out}
 use Rattle.families.proofs.octets.counts.Reads as counts
 use Rattle.families.proofs.octets.after.Reads as after
-use Rattle.routes.specs.Promises.{countAnswer}
-use Rattle.routes.proofs.TableLaws.{list-family, section-family}
+use Rattle.routes.proofs.TableLaws.{count-list-family, count-section-family}
 use Rattle.routes.proofs.count_list_by.Reads as count_list_by
 use Rattle.routes.proofs.count_section_by.Reads as count_section_by
 use Rattle.routes.proofs.counted.Reads as counted
@@ -44,7 +43,7 @@ module _ (afi : Afi) (κt : _) (table : _) (exit : _) (made : counts.Learnt κt 
 
   module _ (s : _) (mode : AddPath) (κs : _) (number : _) (left : _) (κc : _) (answer : _) (kept : _) (told : counted.Learnt κc (number, tt) answer kept) (κf : _) (given : _) (after : _) where
     pub list-by-family : count_list_by.Learnt κs (s, (lent, (mode, tt))) number left → count_nlri_list.Learnt κf (s, (afi, (mode, tt))) given after → answer ≡ given
-    list-by-family call family = told ∙ call ∙ ap (countAnswer (now s)) (list-family (now lent) afi (same ∙ made) (now s) mode) ∙ sym family
+    list-by-family call family = told ∙ call ∙ count-list-family (now lent) afi (same ∙ made) (now s) mode ∙ sym family
 
     pub section-by-family : count_section_by.Learnt κs (s, (lent, (mode, tt))) number left → count_nlri.Learnt κf (s, (afi, (mode, tt))) given after → answer ≡ given
-    section-by-family call family = told ∙ call ∙ ap (countAnswer (now s)) (section-family (now lent) afi (same ∙ made) (now s) mode) ∙ sym family
+    section-by-family call family = told ∙ call ∙ count-section-family (now lent) afi (same ∙ made) (now s) mode ∙ sym family

@@ -26,12 +26,14 @@ use Rattle.families.specs.Family.{maxOf, modeOf}
 use Rattle.families.specs.declared.Afi.the-variants.{Ipv4}
 use Rattle.families.specs.declared.AddPath.{AddPath}
 use Rattle.families.specs.declared.Form.{Form}
-use Rattle.routes.specs.List.{sectionOf}
+use Rattle.routes.specs.List.{listOf, hostsOf, sectionOf}
 use Rattle.routes.specs.Prefix.{words}
-use Rattle.routes.specs.Promises.{listMeaning, rowsIn, countAnswer, readAnswer, storeAfter}
+use Rattle.routes.specs.Promises.{listMeaning, countAnswer, readAnswer, storeAfter, withHosts, rowsMeaning, routesMeaning, rowsIn}
 use Rattle.routes.specs.declared.Row.{Row}
 use Rattle.routes.specs.declared.ListAnswer.{ListAnswer}
-use Rattle.routes.proofs.ListLaws.{counted-places, read-places, store-by}
+use Rattle.routes.specs.declared.ListAnswer.the-variants as L
+use Rattle.routes.specs.declared.RoutesAnswer.{RoutesAnswer}
+use Rattle.routes.proofs.ListLaws.{counted-places, read-places, store-by, told-list}
 use Rattle.route_reader.specs.Pair.{firstMeaning, secondMeaning, readPair, readPairFirst, readPairSecond}
 use Rattle.route_reader.specs.declared.PairAnswer.{PairAnswer}
 use Rattle.route_reader.specs.declared.PairAnswer.the-variants as P
@@ -122,18 +124,36 @@ kept (refusal m) count values before after none all e = record { refused = λ n 
 -- ---- readers into one store: six places a row
 
 list-kept : (s : List ℕ) (r : Reading Row) (before after : List ℕ) (a : ListAnswer) → a ≡ readAnswer s r (length before) → after ≡ storeAfter s r before
-    → Kept (listMeaning a) (6 * rowsIn a) before after
+    → Kept (listMeaning a) (6 * valueIn 0 (listMeaning a)) before after
 list-kept s r before after a e f =
     kept (listMeaning a) (λ x. 6 * valueIn 0 x) (flat words (r .rows)) before after (λ n. refl) (λ fields g. read-places s r (length before) a fields (sym e) g)
     (f ∙ store-by s r before a (sym e))
 
-module _ (κs : _) (lent : _) (answer : _) (exit : _) where
-  pub parse-nlri-list-kept : parse_nlri_list.Learnt κs lent answer exit → Kept (listMeaning answer) (6 * rowsIn answer) (now (lent .1 .1 .1 .0)) (now (exit .1 .1 .1 .0))
-  parse-nlri-list-kept call = list-kept _ _ _ _ answer (call .0) (call .1)
+-- the same where the rows with a host bit are told too
+with-hosts-kept : (a : ListAnswer) (hosts : ℕ) (before after : List ℕ) → Kept (listMeaning a) (6 * valueIn 0 (listMeaning a)) before after
+    → Kept (rowsMeaning a hosts) (6 * valueIn 0 (rowsMeaning a hosts)) before after
+with-hosts-kept (L.Rows n) hosts before after k = record { refused = λ m f. (let z : _≡_ {A = ℕ} 0 1 = cc in absurd (omega arith)); past = k .past }
+with-hosts-kept (L.Refused n) hosts before after k = k
+
+routes-kept : (s : List ℕ) (r : Reading Row) (hosts : ℕ) (before after : List ℕ) (z : RoutesAnswer) → z ≡ withHosts (readAnswer s r (length before)) hosts → after ≡ storeAfter s r before
+    → Kept (routesMeaning z) (6 * rowsIn z) before after
+routes-kept s r hosts before after z e f = with-hosts-kept (z .list) (z .hosts) before after (list-kept s r before after (z .list) (told-list (readAnswer s r (length before)) hosts z e) f)
 
 module _ (κs : _) (lent : _) (answer : _) (exit : _) where
-  pub read-nlri-kept : read_nlri.Learnt κs lent answer exit → Kept (listMeaning answer) (6 * rowsIn answer) (now (lent .1 .1 .1 .0)) (now (exit .1 .1 .1 .0))
-  read-nlri-kept call = list-kept _ _ _ _ answer (call .0) (call .1)
+  pub parse-nlri-list-kept : parse_nlri_list.Learnt κs lent answer exit → Kept (routesMeaning answer) (6 * rowsIn answer) (now (lent .1 .1 .1 .0)) (now (exit .1 .1 .1 .0))
+  parse-nlri-list-kept call =
+      let s = now (lent .0) in
+      let max = maxOf (lent .1 .0) in
+      let mode = lent .1 .1 .0 in
+      routes-kept s (listOf s max mode) (hostsOf s max mode) _ _ answer (call .0) (call .1)
+
+module _ (κs : _) (lent : _) (answer : _) (exit : _) where
+  pub read-nlri-kept : read_nlri.Learnt κs lent answer exit → Kept (routesMeaning answer) (6 * rowsIn answer) (now (lent .1 .1 .1 .0)) (now (exit .1 .1 .1 .0))
+  read-nlri-kept call =
+      let s = now (lent .0) in
+      let max = maxOf (lent .1 .0) in
+      let mode = lent .1 .1 .0 in
+      routes-kept s (sectionOf s max mode) (hostsOf s max mode) _ _ answer (call .0) (call .1)
 
 -- ---- writers: a place a byte
 
@@ -290,7 +310,7 @@ module _ (κs : _) (lent : _) (answer : _) (exit : _) (call : read_asns.Learnt �
 
 -- a section that was counted, in a store
 section-kept : (s : List ℕ) (r : Reading Row) (a : ListAnswer) (before after : List ℕ) → countAnswer s r ≡ a → after ≡ filled (listMeaning a) (flat words (r .rows)) before
-    → Kept (listMeaning a) (6 * rowsIn a) before after
+    → Kept (listMeaning a) (6 * valueIn 0 (listMeaning a)) before after
 section-kept s r a before after e f =
     kept (listMeaning a) (λ x. 6 * valueIn 0 x) (flat words (r .rows)) before after (λ n. refl) (λ fields g. counted-places s r a fields e g) f
 
@@ -303,15 +323,15 @@ module _ (body : List ℕ) (mode : AddPath) (places places′ : ℕ) (before aft
   withdrawn-kept : (u : UpdateAnswer) → u ≡ readUpdate body mode places places′ → after ≡ withdrawnAfter u body mode before
       → Kept (withdrawnMeaning u) (6 * valueIn 0 (withdrawnMeaning u)) before after
   withdrawn-kept (U.Update first second) e f =
-      section-kept (withdrawnOf body) (sectionOf (withdrawnOf body) (maxOf Ipv4) mode) first before after
-      (counted-sections body mode first second (read-is-count body mode places places′ first second (sym e)) .0) f
+      section-kept (withdrawnOf body) (sectionOf (withdrawnOf body) (maxOf Ipv4) mode) (first .list) before after
+      (sym (told-list _ (hostsOf (withdrawnOf body) (maxOf Ipv4) mode) first (sym (counted-sections body mode first second (read-is-count body mode places places′ first second (sym e)) .0)))) f
   withdrawn-kept (U.Refused n) e f = refusal-kept n before after f
 
   announced-kept : (u : UpdateAnswer) → u ≡ readUpdate body mode places places′ → after ≡ announcedAfter u body mode before
       → Kept (announcedMeaning u) (6 * valueIn 0 (announcedMeaning u)) before after
   announced-kept (U.Update first second) e f =
-      section-kept (announcedOf body) (sectionOf (announcedOf body) (maxOf Ipv4) mode) second before after
-      (counted-sections body mode first second (read-is-count body mode places places′ first second (sym e)) .1) f
+      section-kept (announcedOf body) (sectionOf (announcedOf body) (maxOf Ipv4) mode) (second .list) before after
+      (sym (told-list _ (hostsOf (announcedOf body) (maxOf Ipv4) mode) second (sym (counted-sections body mode first second (read-is-count body mode places places′ first second (sym e)) .1)))) f
   announced-kept (U.Refused n) e f = refusal-kept n before after f
 
 -- each section by itself: a malformed one leaves its own store as it was, and a refusal of the UPDATE both
@@ -328,14 +348,14 @@ module _ (s t : List ℕ) (max : ℕ) (mode : AddPath) (places places′ : ℕ) 
       → Kept (firstMeaning p) (6 * valueIn 0 (firstMeaning p)) before after
   unfolding readPair
   first-kept (P.Sections first second) e f =
-      section-kept s (sectionOf s max mode) first before after (pair-counted _ _ places places′ first second (sym e) .0) f
+      section-kept s (sectionOf s max mode) (first .list) before after (sym (told-list _ (hostsOf s max mode) first (sym (pair-counted _ _ places places′ first second (sym e) .0)))) f
   first-kept (P.Refused n) e f = refusal-kept n before after f
 
   second-kept : (p : PairAnswer) → p ≡ readPair s t max mode places places′ → after ≡ readPairSecond p (sectionOf t max mode) before
       → Kept (secondMeaning p) (6 * valueIn 0 (secondMeaning p)) before after
   unfolding readPair
   second-kept (P.Sections first second) e f =
-      section-kept t (sectionOf t max mode) second before after (pair-counted _ _ places places′ first second (sym e) .1) f
+      section-kept t (sectionOf t max mode) (second .list) before after (sym (told-list _ (hostsOf t max mode) second (sym (pair-counted _ _ places places′ first second (sym e) .1)))) f
   second-kept (P.Refused n) e f = refusal-kept n before after f
 
 module _ (κs : _) (lent : _) (answer : _) (exit : _) (call : read_nlri_pair.Learnt κs lent answer exit) where
@@ -357,7 +377,7 @@ word-kept word a counted before after e k = record { answer = a; is = e; keeps =
 
 module _ (κs : _) (lent : _) (word : _) (exit : _) where
   pub c-parse-nlri-list-kept : c_parse_nlri_list.Learnt κs lent word exit → WordKept word (λ a. 6 * valueIn 0 a) (now (lent .1 .1 .1 .0)) (now (exit .1 .1 .1 .0))
-  c-parse-nlri-list-kept call = word-kept word _ (λ a. 6 * valueIn 0 a) _ _ (call .0) (list-kept _ _ _ _ _ refl (call .1))
+  c-parse-nlri-list-kept call = word-kept word _ (λ a. 6 * valueIn 0 a) _ _ (call .0) (routes-kept _ _ _ _ _ _ refl (call .1))
 
 module _ (κs : _) (lent : _) (word : _) (exit : _) where
   pub c-encode-nlri-prefixes-kept : c_encode_nlri_prefixes.Learnt κs lent word exit → WordKept word (valueIn 0) (now (lent .1 .1 .1 .0)) (now (exit .1 .1 .1 .0))

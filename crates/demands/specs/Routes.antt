@@ -19,10 +19,14 @@ use Rattle.families.specs.declared.Afi.{Afi}
 use Rattle.families.specs.declared.Form.{Form}
 use Rattle.families.specs.declared.Form.the-variants.{Plain}
 use Rattle.families.proofs.FamilyLaws.{max-small}
-use Rattle.routes.specs.List.{fixed, stepOf, listOf}
+use Rattle.routes.specs.List.{fixed, stepOf, listOf, hostsOf, sectionOf}
 use Rattle.routes.specs.Prefix.{itemRow, words}
 use Rattle.routes.specs.WellFormed.{WellFormed, NoZeroFirst}
+use Rattle.routes.specs.Promises.{countAnswer, readAnswer}
+use Rattle.routes.specs.declared.ListAnswer.{ListAnswer}
 use Rattle.routes.specs.declared.ListAnswer.the-variants.{Rows}
+use Rattle.routes.specs.declared.RoutesAnswer.{RoutesAnswer}
+use Rattle.routes.proofs.ListLaws.{told-list}
 use Rattle.routes.proofs.count_nlri_list.Reads as count_nlri_list
 use Rattle.routes.proofs.count_nlri.Reads as count_nlri
 use Rattle.route_reader.proofs.parse_nlri_list.Reads as parse_nlri_list
@@ -58,6 +62,10 @@ formAsked given = given .1 .1 .0
 abbrev pub output : {A B C R : Type 0} → A × (B × (C × (RefT (List ℕ) × R))) → List ℕ
 output given = now (given .1 .1 .1 .0)
 
+-- what a reading call answers: of its rows or its refusal are the statements here, and of its rows with a host bit those of HostBits
+abbrev pub told : ListAnswer → ℕ → RoutesAnswer
+told answer hosts = record { list = answer; hosts = hosts }
+
 -- a cutting of bytes into well-formed routes of a family, in a form
 abbrev pub Cut : Afi → Form → List ℕ → List (List ℕ) → Type 0
 Cut afi form = Cutting (WellFormed (maxOf afi) form)
@@ -66,46 +74,63 @@ Cut afi form = Cutting (WellFormed (maxOf afi) form)
 abbrev pub offItems : Afi → List ℕ → List (List ℕ)
 offItems afi = pieces (stepOf (maxOf afi) Off) Plain
 
+-- what each promise says of the answer
+module _ (κs : _) (given : _) (answer : _) (hosts : _) (exit : _) where
+  read-list : parse_nlri_list.Learnt κs given (told answer hosts) exit → answer ≡ readAnswer (bytes given) (listOf (bytes given) (maxOf (family given)) (setting given)) (length (store given))
+  read-list call = told-list _ (hostsOf (bytes given) (maxOf (family given)) (setting given)) (told answer hosts) (call .0)
+
+module _ (κs : _) (given : _) (answer : _) (hosts : _) (exit : _) where
+  read-section : read_nlri.Learnt κs given (told answer hosts) exit → answer ≡ readAnswer (bytes given) (sectionOf (bytes given) (maxOf (family given)) (setting given)) (length (store given))
+  read-section call = told-list _ (hostsOf (bytes given) (maxOf (family given)) (setting given)) (told answer hosts) (call .0)
+
+module _ (κs : _) (given : _) (answer : _) (hosts : _) (exit : _) where
+  count-list : count_nlri_list.Learnt κs given (told answer hosts) exit → answer ≡ countAnswer (bytes given) (listOf (bytes given) (maxOf (family given)) (setting given))
+  count-list call = told-list _ (hostsOf (bytes given) (maxOf (family given)) (setting given)) (told answer hosts) call
+
+module _ (κs : _) (given : _) (answer : _) (hosts : _) (exit : _) where
+  count-section : count_nlri.Learnt κs given (told answer hosts) exit → answer ≡ countAnswer (bytes given) (sectionOf (bytes given) (maxOf (family given)) (setting given))
+  count-section call = told-list _ (hostsOf (bytes given) (maxOf (family given)) (setting given)) (told answer hosts) call
+
 -- ---- 1. Bytes are accepted, given room, exactly if they can be cut into well-formed routes.
 -- A call that accepts has a cutting, with as many items as rows, within the limit and with room; a cutting within the limit and with room is accepted.
 
-module _ (κs : _) (given : _) (answer : _) (exit : _) (call : parse_nlri_list.Learnt κs given answer exit) (form : Form) (on : setting given ≡ fixed form) where
+module _ (κs : _) (given : _) (answer : _) (hosts : _) (exit : _) (call : parse_nlri_list.Learnt κs given (told answer hosts) exit) (form : Form) (on : setting given ≡ fixed form) where
   pub list-accepted : (n : ℕ) → answer ≡ Rows n
       → (items : List (List ℕ)) × Cut (family given) form (bytes given) items × (length items ≡ n) × (length (bytes given) ≤ listLimit) × (n ≤ length (store given) / 6)
-  list-accepted n said = Laws.accepted-cut (Laws.list-reads (maxOf (family given)) form (bytes given) (setting given) on) (store given) n (sym (call .0) ∙ said)
+  list-accepted n said = Laws.accepted-cut (Laws.list-reads (maxOf (family given)) form (bytes given) (setting given) on) (store given) n (sym (read-list κs given answer hosts exit call) ∙ said)
 
   pub list-cut : (items : List (List ℕ)) → Cut (family given) form (bytes given) items → length (bytes given) ≤ listLimit → length items ≤ length (store given) / 6
       → answer ≡ Rows (length items)
   list-cut items cut short room =
-      call .0 ∙ Laws.cut-accepted (Laws.list-reads (maxOf (family given)) form (bytes given) (setting given) on) (store given) items cut short room
+      read-list κs given answer hosts exit call ∙ Laws.cut-accepted (Laws.list-reads (maxOf (family given)) form (bytes given) (setting given) on) (store given) items cut short room
 
 -- a section of an UPDATE: the rule of one byte refuses nothing that has a cutting
-module _ (κs : _) (given : _) (answer : _) (exit : _) (call : read_nlri.Learnt κs given answer exit) (form : Form) (on : setting given ≡ fixed form) where
+module _ (κs : _) (given : _) (answer : _) (hosts : _) (exit : _) (call : read_nlri.Learnt κs given (told answer hosts) exit) (form : Form) (on : setting given ≡ fixed form) where
   pub section-accepted : (n : ℕ) → answer ≡ Rows n
       → (items : List (List ℕ)) × Cut (family given) form (bytes given) items × (length items ≡ n) × (length (bytes given) ≤ listLimit) × (n ≤ length (store given) / 6)
-  section-accepted n said = Laws.accepted-cut (Laws.section-reads (maxOf (family given)) form (bytes given) (setting given) on) (store given) n (sym (call .0) ∙ said)
+  section-accepted n said = Laws.accepted-cut (Laws.section-reads (maxOf (family given)) form (bytes given) (setting given) on) (store given) n (sym (read-section κs given answer hosts exit call) ∙ said)
 
   pub section-cut : (items : List (List ℕ)) → Cut (family given) form (bytes given) items → length (bytes given) ≤ listLimit → length items ≤ length (store given) / 6
       → answer ≡ Rows (length items)
   section-cut items cut short room =
-      call .0 ∙ Laws.cut-accepted (Laws.section-reads (maxOf (family given)) form (bytes given) (setting given) on) (store given) items cut short room
+      read-section κs given answer hosts exit call ∙ Laws.cut-accepted (Laws.section-reads (maxOf (family given)) form (bytes given) (setting given) on) (store given) items cut short room
 
 -- counting needs no room
-module _ (κs : _) (given : _) (answer : _) (exit : _) (call : count_nlri_list.Learnt κs given answer exit) (form : Form) (on : setting given ≡ fixed form) where
+module _ (κs : _) (given : _) (answer : _) (hosts : _) (exit : _) (call : count_nlri_list.Learnt κs given (told answer hosts) exit) (form : Form) (on : setting given ≡ fixed form) where
   pub list-counted : (n : ℕ) → answer ≡ Rows n
       → (items : List (List ℕ)) × Cut (family given) form (bytes given) items × (length items ≡ n) × (length (bytes given) ≤ listLimit)
-  list-counted n said = Laws.counted-cut (Laws.list-reads (maxOf (family given)) form (bytes given) (setting given) on) n (sym call ∙ said)
+  list-counted n said = Laws.counted-cut (Laws.list-reads (maxOf (family given)) form (bytes given) (setting given) on) n (sym (count-list κs given answer hosts exit call) ∙ said)
 
   pub list-cut-counted : (items : List (List ℕ)) → Cut (family given) form (bytes given) items → length (bytes given) ≤ listLimit → answer ≡ Rows (length items)
-  list-cut-counted items cut short = call ∙ Laws.cut-counted (Laws.list-reads (maxOf (family given)) form (bytes given) (setting given) on) items cut short
+  list-cut-counted items cut short = count-list κs given answer hosts exit call ∙ Laws.cut-counted (Laws.list-reads (maxOf (family given)) form (bytes given) (setting given) on) items cut short
 
-module _ (κs : _) (given : _) (answer : _) (exit : _) (call : count_nlri.Learnt κs given answer exit) (form : Form) (on : setting given ≡ fixed form) where
+module _ (κs : _) (given : _) (answer : _) (hosts : _) (exit : _) (call : count_nlri.Learnt κs given (told answer hosts) exit) (form : Form) (on : setting given ≡ fixed form) where
   pub section-counted : (n : ℕ) → answer ≡ Rows n
       → (items : List (List ℕ)) × Cut (family given) form (bytes given) items × (length items ≡ n) × (length (bytes given) ≤ listLimit)
-  section-counted n said = Laws.counted-cut (Laws.section-reads (maxOf (family given)) form (bytes given) (setting given) on) n (sym call ∙ said)
+  section-counted n said = Laws.counted-cut (Laws.section-reads (maxOf (family given)) form (bytes given) (setting given) on) n (sym (count-section κs given answer hosts exit call) ∙ said)
 
   pub section-cut-counted : (items : List (List ℕ)) → Cut (family given) form (bytes given) items → length (bytes given) ≤ listLimit → answer ≡ Rows (length items)
-  section-cut-counted items cut short = call ∙ Laws.cut-counted (Laws.section-reads (maxOf (family given)) form (bytes given) (setting given) on) items cut short
+  section-cut-counted items cut short = count-section κs given answer hosts exit call ∙ Laws.cut-counted (Laws.section-reads (maxOf (family given)) form (bytes given) (setting given) on) items cut short
 
 -- ---- 2. There is one cutting.
 
@@ -114,23 +139,23 @@ one-cutting afi form = Laws.one-cutting (maxOf afi) form
 
 -- ---- 3. What is read are its items: as many rows, and the store at exit holds them from its front.
 
-module _ (κs : _) (given : _) (answer : _) (exit : _) (call : parse_nlri_list.Learnt κs given answer exit) (form : Form) (on : setting given ≡ fixed form) where
+module _ (κs : _) (given : _) (answer : _) (hosts : _) (exit : _) (call : parse_nlri_list.Learnt κs given (told answer hosts) exit) (form : Form) (on : setting given ≡ fixed form) where
   pub list-rows : (n : ℕ) → answer ≡ Rows n → (items : List (List ℕ)) → Cut (family given) form (bytes given) items
       → (n ≡ length items) × (store exit ≡ laid (store given) 0 (flat words (map (itemRow form) items)))
   list-rows n said items cut =
-      let r = Laws.rows-stored (Laws.list-reads (maxOf (family given)) form (bytes given) (setting given) on) (store given) n (sym (call .0) ∙ said) items cut in
+      let r = Laws.rows-stored (Laws.list-reads (maxOf (family given)) form (bytes given) (setting given) on) (store given) n (sym (read-list κs given answer hosts exit call) ∙ said) items cut in
       (r .0, call .1 ∙ r .1)
 
-module _ (κs : _) (given : _) (answer : _) (exit : _) (call : read_nlri.Learnt κs given answer exit) (form : Form) (on : setting given ≡ fixed form) where
+module _ (κs : _) (given : _) (answer : _) (hosts : _) (exit : _) (call : read_nlri.Learnt κs given (told answer hosts) exit) (form : Form) (on : setting given ≡ fixed form) where
   pub section-rows : (n : ℕ) → answer ≡ Rows n → (items : List (List ℕ)) → Cut (family given) form (bytes given) items
       → (n ≡ length items) × (store exit ≡ laid (store given) 0 (flat words (map (itemRow form) items)))
   section-rows n said items cut =
-      let r = Laws.rows-stored (Laws.section-reads (maxOf (family given)) form (bytes given) (setting given) on) (store given) n (sym (call .0) ∙ said) items cut in
+      let r = Laws.rows-stored (Laws.section-reads (maxOf (family given)) form (bytes given) (setting given) on) (store given) n (sym (read-section κs given answer hosts exit call) ∙ said) items cut in
       (r .0, call .1 ∙ r .1)
 
 -- ---- 4. Writing what was read gives the bytes, at the front of any output that has room for them.
 
-module _ (κs : _) (given : _) (answer : _) (exit : _) (call : parse_nlri_list.Learnt κs given answer exit)
+module _ (κs : _) (given : _) (answer : _) (hosts : _) (exit : _) (call : parse_nlri_list.Learnt κs given (told answer hosts) exit)
     (κs′ : _) (given′ : _) (answer′ : _) (exit′ : _) (call′ : encode_nlri_prefixes.Learnt κs′ given′ answer′ exit′) where
   pub written-back : (n : ℕ) → answer ≡ Rows n → setting given ≡ fixed (formAsked given′) → family given ≡ family given′ → rows given′ ≡ take (6 * n) (store exit)
       → Bytes (bytes given) → length (bytes given) ≤ length (output given′)
@@ -139,7 +164,7 @@ module _ (κs : _) (given : _) (answer : _) (exit : _) (call : parse_nlri_list.L
       let form : Form = formAsked given′ in
       let read = Laws.list-reads (maxOf (family given)) form (bytes given) (setting given) on in
       let r = Laws.written-back (maxOf (family given)) (max-small (family given)) form (bytes given) (listOf (bytes given) (maxOf (family given)) (setting given)) (store given) n read
-      (sym (call .0) ∙ said) each (output given′) room in
+      (sym (read-list κs given answer hosts exit call) ∙ said) each (output given′) room in
       let same = back ∙ ap (take (6 * n)) (call .1) in (
         call′ .0 ∙ ap₂ (λ (ws : List ℕ) (afi : Afi). writeAnswer ws (maxOf afi) form (length (output given′))) same (sym alike) ∙ r .0,
         call′ .1 ∙ ap₂ (λ (ws : List ℕ) (afi : Afi). outAfter ws (maxOf afi) form (output given′)) same (sym alike) ∙ r .1,
@@ -162,36 +187,36 @@ module _ (κs : _) (given : _) (answer : _) (exit : _) (call : encode_nlri_prefi
 
 -- ---- 6. The guess on answers and leaves what the guess off does, wherever no item of the guess-off reading starts with a zero byte: every refusal too.
 
-module _ (κs : _) (given : _) (answer : _) (exit : _) (call : parse_nlri_list.Learnt κs given answer exit)
-    (κs′ : _) (given′ : _) (answer′ : _) (exit′ : _) (call′ : parse_nlri_list.Learnt κs′ given′ answer′ exit′) where
+module _ (κs : _) (given : _) (answer : _) (hosts : _) (exit : _) (call : parse_nlri_list.Learnt κs given (told answer hosts) exit)
+    (κs′ : _) (given′ : _) (answer′ : _) (hosts′ : _) (exit′ : _) (call′ : parse_nlri_list.Learnt κs′ given′ (told answer′ hosts′) exit′) where
   pub list-guess : setting given ≡ Guess → setting given′ ≡ Off → bytes given ≡ bytes given′ → family given ≡ family given′ → store given ≡ store given′
       → NoZeroFirst (offItems (family given) (bytes given)) → (answer ≡ answer′) × (store exit ≡ store exit′)
   list-guess on off same alike stores nonzero =
       let reading = Laws.guess-list _ _ (bytes given) (bytes given′) (setting given) (setting given′) same (ap maxOf alike) on off nonzero in
       let r = Laws.same-read (bytes given) (bytes given′) _ _ same reading (store given) (store given′) stores in
-      (call .0 ∙ r .0 ∙ sym (call′ .0), call .1 ∙ r .1 ∙ sym (call′ .1))
+      (read-list κs given answer hosts exit call ∙ r .0 ∙ sym (read-list κs′ given′ answer′ hosts′ exit′ call′), call .1 ∙ r .1 ∙ sym (call′ .1))
 
-module _ (κs : _) (given : _) (answer : _) (exit : _) (call : read_nlri.Learnt κs given answer exit)
-    (κs′ : _) (given′ : _) (answer′ : _) (exit′ : _) (call′ : read_nlri.Learnt κs′ given′ answer′ exit′) where
+module _ (κs : _) (given : _) (answer : _) (hosts : _) (exit : _) (call : read_nlri.Learnt κs given (told answer hosts) exit)
+    (κs′ : _) (given′ : _) (answer′ : _) (hosts′ : _) (exit′ : _) (call′ : read_nlri.Learnt κs′ given′ (told answer′ hosts′) exit′) where
   pub section-guess : setting given ≡ Guess → setting given′ ≡ Off → bytes given ≡ bytes given′ → family given ≡ family given′ → store given ≡ store given′
       → NoZeroFirst (offItems (family given) (bytes given)) → (answer ≡ answer′) × (store exit ≡ store exit′)
   section-guess on off same alike stores nonzero =
       let reading = Laws.guess-section _ _ (bytes given) (bytes given′) (setting given) (setting given′) same (ap maxOf alike) on off nonzero in
       let r = Laws.same-read (bytes given) (bytes given′) _ _ same reading (store given) (store given′) stores in
-      (call .0 ∙ r .0 ∙ sym (call′ .0), call .1 ∙ r .1 ∙ sym (call′ .1))
+      (read-section κs given answer hosts exit call ∙ r .0 ∙ sym (read-section κs′ given′ answer′ hosts′ exit′ call′), call .1 ∙ r .1 ∙ sym (call′ .1))
 
-module _ (κs : _) (given : _) (answer : _) (exit : _) (call : count_nlri_list.Learnt κs given answer exit)
-    (κs′ : _) (given′ : _) (answer′ : _) (exit′ : _) (call′ : count_nlri_list.Learnt κs′ given′ answer′ exit′) where
+module _ (κs : _) (given : _) (answer : _) (hosts : _) (exit : _) (call : count_nlri_list.Learnt κs given (told answer hosts) exit)
+    (κs′ : _) (given′ : _) (answer′ : _) (hosts′ : _) (exit′ : _) (call′ : count_nlri_list.Learnt κs′ given′ (told answer′ hosts′) exit′) where
   pub list-count-guess : setting given ≡ Guess → setting given′ ≡ Off → bytes given ≡ bytes given′ → family given ≡ family given′
       → NoZeroFirst (offItems (family given) (bytes given)) → answer ≡ answer′
   list-count-guess on off same alike nonzero =
       let reading = Laws.guess-list _ _ (bytes given) (bytes given′) (setting given) (setting given′) same (ap maxOf alike) on off nonzero in
-      call ∙ Laws.same-count (bytes given) (bytes given′) _ _ same reading ∙ sym call′
+      count-list κs given answer hosts exit call ∙ Laws.same-count (bytes given) (bytes given′) _ _ same reading ∙ sym (count-list κs′ given′ answer′ hosts′ exit′ call′)
 
-module _ (κs : _) (given : _) (answer : _) (exit : _) (call : count_nlri.Learnt κs given answer exit)
-    (κs′ : _) (given′ : _) (answer′ : _) (exit′ : _) (call′ : count_nlri.Learnt κs′ given′ answer′ exit′) where
+module _ (κs : _) (given : _) (answer : _) (hosts : _) (exit : _) (call : count_nlri.Learnt κs given (told answer hosts) exit)
+    (κs′ : _) (given′ : _) (answer′ : _) (hosts′ : _) (exit′ : _) (call′ : count_nlri.Learnt κs′ given′ (told answer′ hosts′) exit′) where
   pub section-count-guess : setting given ≡ Guess → setting given′ ≡ Off → bytes given ≡ bytes given′ → family given ≡ family given′
       → NoZeroFirst (offItems (family given) (bytes given)) → answer ≡ answer′
   section-count-guess on off same alike nonzero =
       let reading = Laws.guess-section _ _ (bytes given) (bytes given′) (setting given) (setting given′) same (ap maxOf alike) on off nonzero in
-      call ∙ Laws.same-count (bytes given) (bytes given′) _ _ same reading ∙ sym call′
+      count-section κs given answer hosts exit call ∙ Laws.same-count (bytes given) (bytes given′) _ _ same reading ∙ sym (count-section κs′ given′ answer′ hosts′ exit′ call′)

@@ -7,7 +7,7 @@ use denote.Ref.{now}
 use lib.ListN.{length, take, drop}
 use Rattle.wire.specs.Refusal.{truncated, prefixLength, oneByteSection, bodyLimit}
 use Rattle.routes.specs.Promises.{rowsIn, verdictIn}
-use Rattle.routes.specs.declared.ListAnswer.{ListAnswer}
+use Rattle.routes.specs.declared.RoutesAnswer.{RoutesAnswer}
 use Rattle.families.specs.declared.AddPath.{AddPath}
 use Rattle.updates.specs.Body.{lengthSize, partsOf}
 use Rattle.updates.specs.Update.{countUpdate}
@@ -83,18 +83,18 @@ of-section Sections.single = single
 -- any call that counts
 module _ (κs : _) (given : _) (answer : _) (exit : _) (call : count_bgp_update_message.Learnt κs given answer exit) where
   -- each section of an UPDATE that is not refused is good or malformed
-  pub counted-verdicts : (first second : ListAnswer) → answer ≡ Update first second → Verdict (verdictIn first) × Verdict (verdictIn second)
+  pub counted-verdicts : (first second : RoutesAnswer) → answer ≡ Update first second → Verdict (verdictIn first) × Verdict (verdictIn second)
   counted-verdicts first second accepted =
       let v = update-verdicts (now (given .0)) (given .1 .0) first second (sym call ∙ accepted) in
       (of-section (v .0), of-section (v .1))
 
   -- both together have at most so many rows
-  pub counted-few : (first second : ListAnswer) → answer ≡ Update first second → rowsIn first + rowsIn second ≤ bodyRows
+  pub counted-few : (first second : RoutesAnswer) → answer ≡ Update first second → rowsIn first + rowsIn second ≤ bodyRows
   counted-few first second accepted = update-few (now (given .0)) (given .1 .0) first second (sym call ∙ accepted)
 
   -- and any call that reads the same body under the same setting, whatever its stores: what it accepts is as it is counted
   module _ (κs′ : _) (given′ : _) (answer′ : _) (exit′ : _) (call′ : parse_bgp_update_message.Learnt κs′ given′ answer′ exit′) where
-    pub read-as-counted : now (given′ .0) ≡ now (given .0) → given′ .1 .0 ≡ given .1 .0 → (first second : ListAnswer) → answer′ ≡ Update first second → answer ≡ answer′
+    pub read-as-counted : now (given′ .0) ≡ now (given .0) → given′ .1 .0 ≡ given .1 .0 → (first second : RoutesAnswer) → answer′ ≡ Update first second → answer ≡ answer′
     read-as-counted body setting first second accepted =
         let counts : countUpdate (now (given′ .0)) (given′ .1 .0) ≡ Update first second =
         read-is-count (now (given′ .0)) (given′ .1 .0) (length (now (given′ .1 .1 .0))) (length (now (given′ .1 .1 .1 .0))) first second (sym (call′ .0) ∙ accepted) in

@@ -32,8 +32,10 @@ use Rattle.families.specs.Family.{maxOf}
 use Rattle.families.specs.declared.Afi.the-variants.{Ipv4}
 use Rattle.families.specs.declared.AddPath.{AddPath}
 use Rattle.families.specs.declared.Form.{Form}
-use Rattle.routes.specs.List.{fixed}
+use Rattle.routes.specs.List.{fixed, hostsOf}
+use Rattle.routes.specs.Promises.{withHosts}
 use Rattle.routes.specs.declared.ListAnswer.the-variants.{Rows}
+use Rattle.routes.specs.declared.RoutesAnswer.{RoutesAnswer}
 use Rattle.route_bytes.specs.Encode.{writing, bytesOf}
 use Rattle.route_writer.specs.Promises.{writeAnswer}
 use Rattle.route_writer.proofs.encode_nlri_prefixes.Reads as encode_nlri_prefixes
@@ -200,10 +202,13 @@ module _ (κs : _) (given : _) (answer : _) (exit : _) (call : encode_bgp_update
     pub announced-part-again : (κs′ : _) (given′ : _) (part : _) (exit′ : _) → announced_part.Learnt κs′ given′ part exit′ → now (given′ .0) ≡ take n leftBody → now part ≡ announcedBytes
     announced-part-again κs′ given′ part exit′ read same = holds-announced (given′ .0) part read ∙ ap announcedOf (bodyRead (now (given′ .0)) same) ∙ reads .announced
 
-    -- its rows are those that were written, under the setting of their form; six numbers are a row
+    -- its rows are those that were written, under the setting of their form, and those of their bytes have a host bit; six numbers are a row
     module _ (wide : Words withdrawn) (wide′ : Words announced) where
+      abbrev rowsOf : List ℕ → List ℕ → RoutesAnswer
+      rowsOf ws bytes = withHosts (Rows (length ws / 6)) (hostsOf bytes (maxOf Ipv4) (fixed form))
+
       abbrev counts : UpdateAnswer
-      counts = Update (Rows (length withdrawn / 6)) (Rows (length announced / 6))
+      counts = Update (rowsOf withdrawn withdrawnBytes) (rowsOf announced announcedBytes)
 
       pub update-counted-again : (κs′ : _) (given′ : _) (answer′ : _) (exit′ : _) → count_bgp_update_message.Learnt κs′ given′ answer′ exit′
           → now (given′ .0) ≡ take n leftBody → given′ .1 .0 ≡ fixed form → answer′ ≡ counts

@@ -12,7 +12,8 @@ use Rattle.wire.specs.Cutting.{Cutting}
 use Rattle.wire.specs.Number as Number
 use Rattle.wire.specs.Refusal.{listLimit}
 use Rattle.wire.specs.Store.{laid}
-use Rattle.wire.specs.Walk.{Reading, pieces, flat}
+use Rattle.wire.specs.Answer.{flag}
+use Rattle.wire.specs.Walk.{Reading, pieces, tally, flat}
 use Rattle.wire.specs.declared.WriteAnswer.the-variants.{Bytes}
 use Rattle.wire.proofs.CuttingLaws as Cuttings
 use Rattle.wire.proofs.StoreLaws.{take-laid}
@@ -21,7 +22,7 @@ use Rattle.families.specs.declared.AddPath.{AddPath}
 use Rattle.families.specs.declared.AddPath.the-variants.{Off, Guess}
 use Rattle.families.specs.declared.Form.{Form}
 use Rattle.families.specs.declared.Form.the-variants.{Plain}
-use Rattle.routes.specs.List.{upTo, fixed, stepOf, listBy, listOf, sectionBy, sectionOf}
+use Rattle.routes.specs.List.{upTo, fixed, stepOf, listBy, listOf, hostsBy, hostsOf, sectionBy, sectionOf}
 use Rattle.routes.specs.Prefix.{itemRow, words}
 use Rattle.routes.specs.Promises.{countAnswer, readAnswer, storeAfter}
 use Rattle.routes.specs.WellFormed.{WellFormed, NoZeroFirst}
@@ -186,7 +187,11 @@ module _ (max max′ : ℕ) (s s′ : List ℕ) (mode mode′ : AddPath) (same :
     (no : NoZeroFirst (pieces (stepOf max Off) Plain s)) where
   plain-list : listOf s max Guess ≡ listOf s max Off
   unfolding listBy
-  plain-list = guess-same max Plain s no
+  plain-list = guess-same max Plain s no .0
+
+  plain-hosts : hostsOf s max Guess ≡ hostsOf s max Off
+  unfolding hostsBy
+  plain-hosts = ap (tally flag) (guess-same max Plain s no .1)
 
   plain-section : sectionOf s max Guess ≡ sectionOf s max Off
   unfolding sectionBy
@@ -194,6 +199,9 @@ module _ (max max′ : ℕ) (s s′ : List ℕ) (mode mode′ : AddPath) (same :
 
   pub guess-list : listOf s max mode ≡ listOf s′ max′ mode′
   guess-list = ap (listOf s max) on ∙ plain-list ∙ ap₂ (λ (t : List ℕ) (k : ℕ). listOf t k Off) same alike ∙ ap (listOf s′ max′) (sym off)
+
+  pub guess-hosts : hostsOf s max mode ≡ hostsOf s′ max′ mode′
+  guess-hosts = ap (hostsOf s max) on ∙ plain-hosts ∙ ap₂ (λ (t : List ℕ) (k : ℕ). hostsOf t k Off) same alike ∙ ap (hostsOf s′ max′) (sym off)
 
   pub guess-section : sectionOf s max mode ≡ sectionOf s′ max′ mode′
   guess-section = ap (sectionOf s max) on ∙ plain-section ∙ ap₂ (λ (t : List ℕ) (k : ℕ). sectionOf t k Off) same alike ∙ ap (sectionOf s′ max′) (sym off)

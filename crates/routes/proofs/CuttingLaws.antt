@@ -2,28 +2,29 @@
 -- one byte.
 -- Assumes nothing.
 use Prim.Native.Nat.{ℕ, suc, _+_, _<_}
-use mathlib.Core.Path.{_≡_, refl, sym, ap, subst, _∙_}
-use mathlib.Core.List.{List, [], _∷_, _++_, append-assoc}
+use mathlib.Core.Path.{_≡_, refl, sym, ap, ap₂, subst, _∙_}
+use mathlib.Core.List.{List, [], _∷_, _++_, append-assoc, map}
 use mathlib.Core.Bool.{false}
 use native.Mathlib.Nat.{not-suc-le-zero}
 use native.Mathlib.Omega.{arith}
 use borrow.Author.Tests.{ne-eqb, eq-eqb}
 use lib.ListN.{length, getD, take, drop, length-append, length-drop}
 use lib.Seq.{length-take-le, take-add, drop-cons, take-append-seam, getD-at, getD-take}
+use Rattle.wire.specs.Answer.{flag}
 use Rattle.wire.specs.Cutting.{Each, none, one, joined, Cutting}
-use Rattle.wire.specs.Walk.{took, stop, more, readAll, pieces}
-use Rattle.wire.proofs.CuttingLaws.{Decides}
-use Rattle.wire.proofs.WalkLaws.{all-nil, all-took, all-stop, all-ind, pieces-took}
+use Rattle.wire.specs.Walk.{took, stop, more, readAll, notes, pieces, tally}
+use Rattle.wire.proofs.CuttingLaws.{Decides, cut-pieces}
+use Rattle.wire.proofs.WalkLaws.{all-nil, all-took, all-stop, all-ind, notes-nil, notes-stop, notes-took, notes-pieces, pieces-took}
 use Rattle.families.specs.Family.{idSize, octets}
 use Rattle.families.specs.declared.Form.{Form}
 use Rattle.families.specs.declared.Form.the-variants.{Plain, Tagged}
 use Rattle.families.specs.declared.AddPath.the-variants.{Off, Guess}
-use Rattle.routes.specs.Prefix.{itemRow}
+use Rattle.routes.specs.Prefix.{itemRow, hostBits}
 use Rattle.routes.specs.WellFormed.{WellFormed, NoZeroFirst}
-use Rattle.routes.specs.List.{upTo, fixed, asStep, inForm, stepBy, stepOf, strange}
+use Rattle.routes.specs.List.{upTo, fixed, asStep, inForm, stepBy, stepOf, hostsOf, strange}
 use Rattle.routes.specs.declared.Row.{Row}
 use Rattle.routes.proofs.PrefixLaws.{Took, took-prefix}
-use Rattle.routes.proofs.ListLaws.{step-form, fixed-form, fixed-step, sound, step-took, guess-plain}
+use Rattle.routes.proofs.ListLaws.{step-form, fixed-form, fixed-step, hosts-fixed, sound, step-took, guess-plain}
 
 -- ---- one item
 
@@ -81,6 +82,15 @@ decides max form = record {
   formed = λ st st′ s used row e. took-formed s max form used row (rw (left-form max form st st′ s used row e) at (step-took max (fixed form) st st′ s used row e));
 }
 
+-- how many items of a cutting have a host bit
+pub cut-hosts : (max : ℕ) (form : Form) (s : List ℕ) (items : List (List ℕ)) → Cutting (WellFormed max form) s items
+    → hostsOf s max (fixed form) ≡ tally flag (map (hostBits form) items)
+cut-hosts max form s items c =
+    let each = notes-pieces hostBits (stepOf max (fixed form)) (sound max (fixed form)) (hostBits form)
+    (λ st st′ t used row e. ap (λ (f : Form). hostBits f (take used t)) (left-form max form st st′ t used row e)) form s in
+    let pieces-are = cut-pieces (stepOf max (fixed form)) (WellFormed max form) (itemRow form) (decides max form) form s items c in
+    hosts-fixed (upTo max) s form ∙ ap (tally flag) (each ∙ ap (map (hostBits form)) pieces-are)
+
 -- ---- the guess, where nothing starts with a zero byte
 
 -- at a byte other than 0 the guess in Plain reads as guess off does
@@ -98,18 +108,31 @@ zero-item max st (b ∷ s) n pos e z =
     let bad : _≡_ {A = ℕ} 0 1 = cc in
     omega arith
 
-pub guess-same : (max : ℕ) (st : Form) (s : List ℕ) → NoZeroFirst (pieces (stepOf max Off) st s) → readAll (stepOf max Guess) Plain s ≡ readAll (stepOf max Off) st s
+-- so the rows are the same, and whether each has a host bit
+pub guess-same : (max : ℕ) (st : Form) (s : List ℕ) → NoZeroFirst (pieces (stepOf max Off) st s)
+    → (readAll (stepOf max Guess) Plain s ≡ readAll (stepOf max Off) st s) × (notes hostBits (stepOf max Guess) Plain s ≡ notes hostBits (stepOf max Off) st s)
 guess-same max st s =
-    all-ind (stepOf max Off) (sound max Off) (λ st₁ t r. NoZeroFirst (pieces (stepOf max Off) st₁ t) → readAll (stepOf max Guess) Plain t ≡ r)
-    (λ st₁ _. all-nil (stepOf max Guess) Plain)
-    (λ st₁ t n pos e _. all-stop (stepOf max Guess) Plain t n pos (guess-step max st₁ t (zero-item max st₁ t n pos e) ∙ e))
+    all-ind (stepOf max Off) (sound max Off)
+    (λ st₁ t r. NoZeroFirst (pieces (stepOf max Off) st₁ t) → (readAll (stepOf max Guess) Plain t ≡ r) × (notes hostBits (stepOf max Guess) Plain t ≡ notes hostBits (stepOf max Off) st₁ t))
+    (λ st₁ _. (all-nil (stepOf max Guess) Plain, notes-nil hostBits (stepOf max Guess) Plain ∙ sym (notes-nil hostBits (stepOf max Off) st₁)))
+    (λ st₁ t n pos e _.
+    let refuses = guess-step max st₁ t (zero-item max st₁ t n pos e) ∙ e in (
+      all-stop (stepOf max Guess) Plain t n pos refuses,
+      notes-stop hostBits (stepOf max Guess) Plain t n pos refuses ∙ sym (notes-stop hostBits (stepOf max Off) st₁ t n pos e),
+    ))
     (λ st₁ st₂ t used row pos e again nz.
     let up : 0 < used = sound max Off .takes st₁ st₂ t used row e .0 in
     let here : NoZeroFirst (take used t ∷ pieces (stepOf max Off) st₂ (drop used t)) = subst NoZeroFirst (pieces-took (stepOf max Off) st₁ st₂ t used row pos up e) nz in
     let first = first-of here in
     let byte : getD t 0 0 ≡ 0 → ⊥ = λ z. first .0 (getD-take used t 0 0 up ∙ z) in
-    all-took (stepOf max Guess) Plain Plain t used row pos up (guess-step max st₁ t byte ∙ e ∙ ap (took used row) (left-form max Plain st₁ st₂ t used row e))
-    ∙ ap (more row) (again (first .1)))
+    let plain = left-form max Plain st₁ st₂ t used row e in
+    let takes = guess-step max st₁ t byte ∙ e ∙ ap (took used row) plain in
+    let rest = again (first .1) in (
+      all-took (stepOf max Guess) Plain Plain t used row pos up takes ∙ ap (more row) (rest .0),
+      notes-took hostBits (stepOf max Guess) Plain Plain t used row pos up takes
+          ∙ ap₂ _∷_ (ap (λ (form : Form). hostBits form (take used t)) (sym plain)) (rest .1)
+          ∙ sym (notes-took hostBits (stepOf max Off) st₁ st₂ t used row pos up e),
+    ))
     st s
   where
     first-of : {item : List ℕ} {items : List (List ℕ)} → NoZeroFirst (item ∷ items) → (getD item 0 0 ≡ 0 → ⊥) × NoZeroFirst items

@@ -1,5 +1,6 @@
 pub mod PrefixLaws
 pub mod HostLaws
+pub mod BitLaws
 pub mod ListLaws
 pub mod CuttingLaws
 pub mod TableLaws

@@ -226,6 +226,9 @@ numberOf (L.Refused n) hosts = n
 pub one-count : (v : ℕ) → pastAll ≤ v → inOne v ≡ record { list = L.Rows ((v - pastAll) % hostUnit); hosts = (v - pastAll) / hostUnit }
 one-count v h = unpacked-count _ _ v h
 
+pub one-split : (v n hosts : ℕ) → pastAll ≤ v → (v - pastAll) % hostUnit ≡ n → (v - pastAll) / hostUnit ≡ hosts → inOne v ≡ withHosts (L.Rows n) hosts
+one-split v n hosts h e f = one-count v h ∙ ap₂ (λ (k m : ℕ). record { list = L.Rows k; hosts = m }) e f
+
 pub one-refused : (v : ℕ) → v < pastAll → inOne v ≡ record { list = L.Refused v; hosts = 0 }
 one-refused v h = unpacked-refused _ _ v h
 
@@ -409,9 +412,8 @@ module _ (read : Reader) (fair : Fair read) (mode : AddPath) (st₀ : Form) (s :
           let sum : count - pastAll ≡ length (r .rows) + hostUnit * tally flag said = omega (arith, done .1, tally-weights said, alike .1) in
           let rows : (count - pastAll) % hostUnit ≡ length (r .rows) = omega (arith, sum, few, tally-one (r .rows), small) in
           let hosts : (count - pastAll) / hostUnit ≡ tally flag said = omega (arith, sum, few, tally-one (r .rows), small) in
-          one-count count (h .past)
-          ∙ ap₂ (λ (n m : ℕ). record { list = L.Rows n; hosts = m }) rows hosts
-          ∙ sym (beside (tally flag said) _ _ (count-good s r (length (r .rows)) small (sym (alike .0) ∙ done .0, tally-one (r .rows))))
+          let good : countAnswer s r ≡ L.Rows (length (r .rows)) = count-good s r (length (r .rows)) small (sym (alike .0) ∙ done .0, tally-one (r .rows)) in
+          one-split count (length (r .rows)) (tally flag said) (h .past) rows hosts ∙ sym (beside (tally flag said) (countAnswer s r) (L.Rows (length (r .rows))) good)
 
 -- ---- how many rows have a host bit
 

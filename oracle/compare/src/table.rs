@@ -15,7 +15,7 @@ use std::io::{self, Write};
 /// The most bytes that the lister holds of its input, and of its output, which is full where it has no room for any line.
 const INPUT: usize = 131_072;
 const OUTPUT: usize = 65_536;
-const LINE: usize = 192;
+const LINE: usize = 224;
 
 /// Slots of a few bytes, whose lines are longer than they.
 const SHORT: usize = 6_000;
