@@ -7,6 +7,8 @@ use messages::MessageAnswer;
 use paths::PathAnswer;
 use routes::ListAnswer;
 use routes::PrefixAnswer;
+use routes::RouteAnswer;
+use routes::RoutesAnswer;
 use updates::PartsAnswer;
 use updates::UpdateAnswer;
 use wire::WriteAnswer;
@@ -29,10 +31,12 @@ fn bit(set: bool) -> usize {
     if set { 1 } else { 0 }
 }
 
-pub fn of_route(a: PrefixAnswer) -> Numbers {
-    match a {
+// One route: the bytes that it takes, its row, and whether a bit past its length is set.
+pub fn of_route(a: RouteAnswer) -> Numbers {
+    let prefix = a.prefix;
+    match prefix {
         PrefixAnswer::Prefix { used, row } => Numbers {
-            count: 8,
+            count: 9,
             values: [
                 0,
                 used,
@@ -42,20 +46,22 @@ pub fn of_route(a: PrefixAnswer) -> Numbers {
                 row.w1 as usize,
                 row.w2 as usize,
                 row.w3 as usize,
-                0,
+                bit(a.host),
             ],
         },
-        PrefixAnswer::Refused(n) => refused(n, 8),
+        PrefixAnswer::Refused(n) => refused(n, 9),
     }
 }
 
-pub fn of_list(a: ListAnswer) -> Numbers {
-    match a {
+// A list: its rows, and those with a bit set past their length.
+pub fn of_list(a: RoutesAnswer) -> Numbers {
+    let list = a.list;
+    match list {
         ListAnswer::Rows(n) => Numbers {
-            count: 2,
-            values: [0, n, 0, 0, 0, 0, 0, 0, 0],
+            count: 3,
+            values: [0, n, a.hosts, 0, 0, 0, 0, 0, 0],
         },
-        ListAnswer::Refused(n) => refused(n, 2),
+        ListAnswer::Refused(n) => refused(n, 3),
     }
 }
 
@@ -172,27 +178,27 @@ pub fn of_message(a: MessageAnswer, body: &[u8]) -> Numbers {
     }
 }
 
-// The rows and the verdict of each section.
+// The rows and the verdict of each section, then the rows of each with a bit set past their length.
 pub fn of_update(a: UpdateAnswer) -> Numbers {
     match a {
         UpdateAnswer::Update {
             withdrawn,
             announced,
         } => Numbers {
-            count: 5,
+            count: 7,
             values: [
                 0,
                 routes::rows_in(withdrawn),
                 routes::verdict_in(withdrawn) as usize,
                 routes::rows_in(announced),
                 routes::verdict_in(announced) as usize,
-                0,
-                0,
+                routes::hosts_in(withdrawn),
+                routes::hosts_in(announced),
                 0,
                 0,
             ],
         },
-        UpdateAnswer::Refused(n) => refused(n, 5),
+        UpdateAnswer::Refused(n) => refused(n, 7),
     }
 }
 

@@ -18,7 +18,7 @@ use Rattle.families.specs.declared.AddPath.the-variants.{Off, Guess}
 use Rattle.families.specs.declared.Form.{Form}
 use Rattle.routes.specs.Prefix.{hostBits}
 use Rattle.routes.specs.List.{upTo, fixed, listOf, hostsOf, sectionOf}
-use Rattle.routes.specs.Promises.{countAnswer, withHosts}
+use Rattle.routes.specs.Promises.{countAnswer, readAnswer, withHosts}
 use Rattle.routes.specs.WellFormed.{NoZeroFirst}
 use Rattle.routes.specs.declared.Row.{Row}
 use Rattle.routes.specs.declared.PrefixAnswer.the-variants as P
@@ -88,24 +88,29 @@ as-list s max mode n e = sym (ap (λ (r : Reading Row). length (r .rows)) (secti
 
 module _ (κs : _) (given : _) (answer : _) (hosts : _) (exit : _) (call : count_nlri_list.Learnt κs given (told answer hosts) exit) (form : Form) (on : setting given ≡ fixed form) where
   pub list-hosts-counted : HostRows (family given) form (bytes given) answer hosts
-  list-hosts-counted = host-rows (family given) form (bytes given) (setting given) on _ answer hosts call (λ n e. count-rows (bytes given) _ n e .1)
+  list-hosts-counted =
+      let r = listOf (bytes given) (maxOf (family given)) (setting given) in
+      host-rows (family given) form (bytes given) (setting given) on (countAnswer (bytes given) r) answer hosts call (λ n e. count-rows (bytes given) r n e .1)
 
 module _ (κs : _) (given : _) (answer : _) (hosts : _) (exit : _) (call : count_nlri.Learnt κs given (told answer hosts) exit) (form : Form) (on : setting given ≡ fixed form) where
   pub section-hosts-counted : HostRows (family given) form (bytes given) answer hosts
   section-hosts-counted =
-      host-rows (family given) form (bytes given) (setting given) on _ answer hosts call (λ n e. as-list (bytes given) (maxOf (family given)) (setting given) n e)
+      let r = sectionOf (bytes given) (maxOf (family given)) (setting given) in
+      host-rows (family given) form (bytes given) (setting given) on (countAnswer (bytes given) r) answer hosts call (λ n e. as-list (bytes given) (maxOf (family given)) (setting given) n e)
 
 module _ (κs : _) (given : _) (answer : _) (hosts : _) (exit : _) (call : parse_nlri_list.Learnt κs given (told answer hosts) exit) (form : Form) (on : setting given ≡ fixed form) where
   pub list-hosts-read : HostRows (family given) form (bytes given) answer hosts
   list-hosts-read =
-      host-rows (family given) form (bytes given) (setting given) on _ answer hosts (call .0)
-      (λ n e. count-rows (bytes given) _ n (read-rows (bytes given) _ n (length (store given)) e .0) .1)
+      let r = listOf (bytes given) (maxOf (family given)) (setting given) in
+      host-rows (family given) form (bytes given) (setting given) on (readAnswer (bytes given) r (length (store given))) answer hosts (call .0)
+      (λ n e. count-rows (bytes given) r n (read-rows (bytes given) r n (length (store given)) e .0) .1)
 
 module _ (κs : _) (given : _) (answer : _) (hosts : _) (exit : _) (call : read_nlri.Learnt κs given (told answer hosts) exit) (form : Form) (on : setting given ≡ fixed form) where
   pub section-hosts-read : HostRows (family given) form (bytes given) answer hosts
   section-hosts-read =
-      host-rows (family given) form (bytes given) (setting given) on _ answer hosts (call .0)
-      (λ n e. as-list (bytes given) (maxOf (family given)) (setting given) n (read-rows (bytes given) _ n (length (store given)) e .0))
+      let r = sectionOf (bytes given) (maxOf (family given)) (setting given) in
+      host-rows (family given) form (bytes given) (setting given) on (readAnswer (bytes given) r (length (store given))) answer hosts (call .0)
+      (λ n e. as-list (bytes given) (maxOf (family given)) (setting given) n (read-rows (bytes given) r n (length (store given)) e .0))
 
 -- ---- 3. The guess on counts what the guess off does, wherever no item of the guess-off reading starts with a zero byte.
 
@@ -119,7 +124,9 @@ module _ (κs : _) (given : _) (answer : _) (hosts : _) (exit : _) (call : count
   pub list-hosts-guess : setting given ≡ Guess → setting given′ ≡ Off → bytes given ≡ bytes given′ → family given ≡ family given′
       → NoZeroFirst (offItems (family given) (bytes given)) → hosts ≡ hosts′
   list-hosts-guess on off same alike nonzero =
-      same-hosts _ _ answer answer′ _ _ hosts hosts′ call call′ (list-count-guess κs given answer hosts exit call κs′ given′ answer′ hosts′ exit′ call′ on off same alike nonzero)
+      same-hosts (countAnswer (bytes given) (listOf (bytes given) (maxOf (family given)) (setting given))) (countAnswer (bytes given′) (listOf (bytes given′) (maxOf (family given′)) (setting given′)))
+      answer answer′ (hostsOf (bytes given) (maxOf (family given)) (setting given)) (hostsOf (bytes given′) (maxOf (family given′)) (setting given′)) hosts hosts′ call call′
+      (list-count-guess κs given answer hosts exit call κs′ given′ answer′ hosts′ exit′ call′ on off same alike nonzero)
       (guess-hosts _ _ (bytes given) (bytes given′) (setting given) (setting given′) same (ap maxOf alike) on off nonzero)
 
 module _ (κs : _) (given : _) (answer : _) (hosts : _) (exit : _) (call : parse_nlri_list.Learnt κs given (told answer hosts) exit)
@@ -127,7 +134,9 @@ module _ (κs : _) (given : _) (answer : _) (hosts : _) (exit : _) (call : parse
   pub list-hosts-read-guess : setting given ≡ Guess → setting given′ ≡ Off → bytes given ≡ bytes given′ → family given ≡ family given′ → store given ≡ store given′
       → NoZeroFirst (offItems (family given) (bytes given)) → hosts ≡ hosts′
   list-hosts-read-guess on off same alike stores nonzero =
-      same-hosts _ _ answer answer′ _ _ hosts hosts′ (call .0) (call′ .0)
+      same-hosts (readAnswer (bytes given) (listOf (bytes given) (maxOf (family given)) (setting given)) (length (store given)))
+      (readAnswer (bytes given′) (listOf (bytes given′) (maxOf (family given′)) (setting given′)) (length (store given′)))
+      answer answer′ (hostsOf (bytes given) (maxOf (family given)) (setting given)) (hostsOf (bytes given′) (maxOf (family given′)) (setting given′)) hosts hosts′ (call .0) (call′ .0)
       (list-guess κs given answer hosts exit call κs′ given′ answer′ hosts′ exit′ call′ on off same alike stores nonzero .0)
       (guess-hosts _ _ (bytes given) (bytes given′) (setting given) (setting given′) same (ap maxOf alike) on off nonzero)
 

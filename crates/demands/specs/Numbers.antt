@@ -7,10 +7,10 @@ use mathlib.Core.List.{List, [], _∷_, _++_, map}
 use mathlib.Core.Bool.{Bool, true, false, _&&_}
 use lib.ListN.{length, getD, replicate}
 use lib.Dec.{eqb}
-use Rattle.wire.specs.Answer.{given, refusal, numberIn, valueIn, writeMeaning, limited}
+use Rattle.wire.specs.Answer.{Answer, given, refusal, numberIn, valueIn, writeMeaning, limited}
 use Rattle.wire.specs.Number.{be, beAt, toBe}
 use Rattle.wire.specs.Refusal as refusals
-use Rattle.wire.specs.Walk.{readAll, walk, flat, tally}
+use Rattle.wire.specs.Walk.{readAll, walk, flat, tally, notes}
 use Rattle.families.specs.Family.{maxOf, idSize, markOf, octets, modeOf}
 use Rattle.families.specs.Octets.{tableOf, entry}
 use Rattle.families.specs.declared.Afi.{Afi}

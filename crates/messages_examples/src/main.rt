@@ -4,7 +4,7 @@ use families::AddPath;
 use families::Form;
 use messages::Edition;
 use messages::MessageAnswer;
-use routes::ListAnswer;
+use routes::RoutesAnswer;
 use updates::PartsAnswer;
 use updates::UpdateAnswer;
 
@@ -82,17 +82,15 @@ fn show_message(name: &[u8], s: &[u8]) {
     show_strict(s, Edition::Rfc8654);
 }
 
-fn show_list(a: ListAnswer) {
+// The rows and the verdict of a section, and how many rows have a bit set past their length, where any has.
+fn show_section(a: RoutesAnswer) {
     text(b" ");
-    match a {
-        ListAnswer::Rows(n) => {
-            number(n);
-            text(b"/0");
-        }
-        ListAnswer::Refused(n) => {
-            text(b"0/");
-            number(n as usize);
-        }
+    number(routes::rows_in(a));
+    text(b"/");
+    number(routes::verdict_in(a) as usize);
+    if 0 < routes::hosts_in(a) {
+        text(b" with host bits ");
+        number(routes::hosts_in(a));
     }
 }
 
@@ -102,8 +100,8 @@ fn show_routes(a: UpdateAnswer) {
             withdrawn,
             announced,
         } => {
-            show_list(withdrawn);
-            show_list(announced);
+            show_section(withdrawn);
+            show_section(announced);
             text(b"\n");
         }
         UpdateAnswer::Refused(n) => refused(n),
@@ -266,6 +264,11 @@ fn bodies() {
     show_update(
         b"too long a prefix",
         b"\x00\x05\x21\x0A\x00\x00\x00\x00\x00\x08\x0B",
+        AddPath::Off,
+    );
+    show_update(
+        b"host bits",
+        b"\x00\x03\x09\x0A\xFF\x00\x00\x09\x0A\xFF\x09\x0A\x80\x01\x01",
         AddPath::Off,
     );
     show_update(

@@ -3,6 +3,7 @@ use families::AddPath;
 use families::Afi;
 use families::Form;
 use routes::ListAnswer;
+use routes::RoutesAnswer;
 use routes::PrefixAnswer;
 use routes::Row;
 use wire::WriteAnswer;
@@ -98,11 +99,17 @@ fn refused(n: u8) {
     text(b"\n");
 }
 
-fn show_list(a: ListAnswer, store: &[u32], afi: Afi) {
-    match a {
+// A list's rows, and how many of them have a bit set past their length, where any has.
+fn show_list(a: RoutesAnswer, store: &[u32], afi: Afi) {
+    let list = a.list;
+    match list {
         ListAnswer::Rows(n) => {
             text(b"rows ");
             io::print_decimal(1, n as u64);
+            if 0 < a.hosts {
+                text(b", with host bits ");
+                io::print_decimal(1, a.hosts as u64);
+            }
             text(b"\n");
             show_rows(store, n, afi);
         }
@@ -149,8 +156,9 @@ fn write_back(rows: &[u32], afi: Afi, mode: AddPath, s: &[u8]) {
     }
 }
 
-fn write_read(a: ListAnswer, store: &[u32], afi: Afi, mode: AddPath, s: &[u8]) {
-    match a {
+fn write_read(a: RoutesAnswer, store: &[u32], afi: Afi, mode: AddPath, s: &[u8]) {
+    let list = a.list;
+    match list {
         ListAnswer::Rows(n) => {
             if n <= store.len() / 6 {
                 let e = 6 * n;
@@ -209,7 +217,9 @@ fn items(s: &[u8], form: Form) {
     text(b"items\n");
     let mut at: usize = 0;
     while at < s.len() {
-        match routes::try_parse_prefix(&s[at..], Afi::Ipv4, form) {
+        let route = routes::try_parse_prefix(&s[at..], Afi::Ipv4, form);
+        let prefix = route.prefix;
+        match prefix {
             PrefixAnswer::Prefix { used, row } => {
                 if s.len() - at < used {
                     return;
@@ -218,6 +228,9 @@ fn items(s: &[u8], form: Form) {
                     return;
                 }
                 show_row(row, Afi::Ipv4);
+                if route.host {
+                    text(b"    host bits\n");
+                }
                 at = at + used;
             }
             PrefixAnswer::Refused(n) => {
@@ -243,6 +256,7 @@ fn lengths() {
     list(b"\x20\x0A\x00\x00\x01", Afi::Ipv4, AddPath::Off);
     list(b"\x21\x0A\x00\x00\x00\x00", Afi::Ipv4, AddPath::Off);
     list(b"\x09\x0A\xFF", Afi::Ipv4, AddPath::Off);
+    items(b"\x09\x0A\xFF\x09\x0A\x80\x08\xFF", Form::Plain);
 }
 
 fn with_id() {

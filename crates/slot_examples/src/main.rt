@@ -156,11 +156,11 @@ fn whole_records() {
 
 // What is put into outputs with too few places, with places for one line, and for several.
 fn all_sizes() {
-    let mut small = [0u8; 191];
+    let mut small = [0u8; 223];
     heading(&mut small);
     blocks(&mut small);
     endings(&mut small);
-    let mut enough = [0u8; 192];
+    let mut enough = [0u8; 224];
     heading(&mut enough);
     blocks(&mut enough);
     endings(&mut enough);
