@@ -3,6 +3,7 @@
 use Prim.Native.Nat.{ℕ, _+_, _-_, _*_, _≤_, _<_}
 use mathlib.Core.Path.{_≡_, refl, sym, ap, subst, _∙_}
 use mathlib.Core.List.{List}
+use mathlib.Core.Bool.{Bool}
 use native.Mathlib.Nat.{lt-of-not-le}
 use native.Mathlib.Decide.{decLe}
 use native.Mathlib.Omega.{arith}
@@ -85,11 +86,11 @@ module _ (read : Reader) (fair : Fair read) (mode : AddPath) (st₀ : Form) (s :
     pub carried-few : count ≤ pastAll + (1 + hostUnit) * length s
     carried-few = packed-few read fair mode st₀ s st (h .at) count (h .packed)
 
-    pub carried-step : (used : ℕ) (row : Row) (st′ : Form) → stepBy read mode st (drop n left) ≡ took used row st′ → (w : ℕ) → w ≡ weightOf (hostBits st′ (take used (drop n left)))
-        → (b m : ℕ) → used ≡ b + m → (n + used ≤ length left) × Carried read mode st₀ s (take (length left - (n + b)) (drop (n + b) left)) m st′ (count + w)
-    carried-step used row st′ e w is b m size =
-        let here : w ≡ weightOf (hostBits st′ (take used (drop (h .at) s))) = is ∙ ap (λ (l : List ℕ). weightOf (hostBits st′ (take used l))) (h .behind .is) in
-        let next = packed-step read fair mode st₀ s st (h .at) count (h .packed) used row st′ (ap (stepBy read mode st) (sym (h .behind .is)) ∙ e) w here in
+    pub carried-step : (used : ℕ) (row : Row) (st′ : Form) → stepBy read mode st (drop n left) ≡ took used row st′ → (sum : ℕ) → sum ≡ count + weightOf (hostBits st′ (take used (drop n left)))
+        → (b m : ℕ) → used ≡ b + m → (n + used ≤ length left) × Carried read mode st₀ s (take (length left - (n + b)) (drop (n + b) left)) m st′ sum
+    carried-step used row st′ e sum is b m size =
+        let here : sum ≡ count + weightOf (hostBits st′ (take used (drop (h .at) s))) = is ∙ ap (λ (l : List ℕ). count + weightOf (hostBits st′ (take used l))) (h .behind .is) in
+        let next = packed-step read fair mode st₀ s st (h .at) count (h .packed) used row st′ (ap (stepBy read mode st) (sym (h .behind .is)) ∙ e) sum here in
         let fits : n + used ≤ length left = omega (arith, next .0, next .1, long, h .behind .within) in (
           fits,
           record {
@@ -118,13 +119,13 @@ module _ (counts : List ℕ) (mode : AddPath) (st₀ : Form) (s left : List ℕ)
       let there = fair-table counts .takes (drop n left) form used _ item in
       (omega (arith, table-size counts (drop n left) form used _ item), omega (arith, there .1, length-drop n left, h .behind .within))
 
-  pub sized-next : (used : ℕ) (form : Form) → r ≡ Item used form → (w : ℕ) → w ≡ weightOf (hostBits form (take used (drop n left))) → (b : ℕ) → b ≡ idSize form + 1
+  pub sized-next : (used : ℕ) (form : Form) → r ≡ Item used form → (sum : ℕ) → sum ≡ count + weightOf (hostBits form (take used (drop n left))) → (b : ℕ) → b ≡ idSize form + 1
       → (length (take (length left - (n + b)) (drop (n + b) left)) - (used - b) < length left - n)
-      × Carried (byTable counts) mode st₀ s (take (length left - (n + b)) (drop (n + b) left)) (used - b) form (count + w)
-  sized-next used form f w is b bytes =
+      × Carried (byTable counts) mode st₀ s (take (length left - (n + b)) (drop (n + b) left)) (used - b) form sum
+  sized-next used form f sum is b bytes =
       let took = turn-took (byTable counts) (drop n left) mode st r told (fair-table counts) used form f in
       let fits = sized-fits used form f in
-      let next = carried-step (byTable counts) (fair-table counts) mode st₀ s left n st count h used _ form took w is b (used - b) (omega (arith, bytes, fits .0)) in
+      let next = carried-step (byTable counts) (fair-table counts) mode st₀ s left n st count h used _ form took sum is b (used - b) (omega (arith, bytes, fits .0)) in
       (omega (arith, bytes, fits .0, fits .1, ap length (rest left (n + b)), length-drop (n + b) left), next .1)
 
   pub sized-stop : length s ≤ listLimit → n < length left → (why : ℕ) → r ≡ S.Refused why → Tells (byTable counts) mode st₀ s why
@@ -170,14 +171,14 @@ module _ (counts : List ℕ) (form : Form) (s left : List ℕ) (n count : ℕ) (
             refused truncated (omega (arith, bytes)) (ap (asStep form) (table-short counts (drop n left) form front known-here (omega (arith, end, length-drop n left))))
 
         -- its last byte is looked at
-        form-next : n + b + m ≤ length left → (last w : ℕ) → last ≡ getD left (n + idSize form + m) 0 → w ≡ weightOf (pastLength bits last)
-            → Carried (byTable counts) (fixed form) form s (take (length left - (n + b)) (drop (n + b) left)) m form (count + w)
-        form-next fits last w is adds =
+        form-next : n + b + m ≤ length left → (last sum : ℕ) → last ≡ getD left (n + idSize form + m) 0 → sum ≡ count + weightOf (pastLength bits last)
+            → Carried (byTable counts) (fixed form) form s (take (length left - (n + b)) (drop (n + b) left)) m form sum
+        form-next fits last sum is adds =
             let t = table-took counts (drop n left) form front known-here (omega (arith, end, length-drop n left)) in
             let place : n + idSize form + m ≡ n + endBy counts form (drop n left) - 1 = omega (arith, end, bytes) in
             let host = host-at left n (endBy counts form (drop n left)) form bits last (omega (arith, end, bytes)) (omega (arith, end)) byte (is ∙ ap (λ (i : ℕ). getD left i 0) place) in
             carried-step (byTable counts) (fair-table counts) (fixed form) form s left n form count h _ _ form (fixed-step (byTable counts) form form (drop n left) ∙ ap (asStep form) t)
-            w (adds ∙ ap weightOf host) b m end .1
+            sum (adds ∙ ap (λ (h : Bool). count + weightOf h) host) b m end .1
 
 -- ---- the same, where the loop passes over the bytes of an id as well
 
@@ -265,22 +266,22 @@ module _ (counts s : List ℕ) (k : ℕ) (head : List ℕ) (n count : ℕ) (h : 
             answer truncated (form-short counts (h .form) s (h .left) n count (h .carried) small (k + 1) bytes whole bits m said says known (omega (arith, lack, size, whole)))
 
         -- or are, and its last byte is looked at
-        module _ (fits : m ≤ length after) (last w : ℕ) (is : last ≡ getD head (n + m) 0) (adds : w ≡ weightOf (pastLength bits last)) where
-          taken : Carried (byTable counts) (fixed (h .form)) (h .form) s after m (h .form) (count + w)
+        module _ (fits : m ≤ length after) (last sum : ℕ) (is : last ≡ getD head (n + m) 0) (adds : sum ≡ count + weightOf (pastLength bits last)) where
+          taken : Carried (byTable counts) (fixed (h .form)) (h .form) s after m (h .form) sum
           taken =
               rw from
-              (form-next counts (h .form) s (h .left) n count (h .carried) small (k + 1) bytes whole bits m said says known (omega (arith, fits, size, whole)) last w
+              (form-next counts (h .form) s (h .left) n count (h .carried) small (k + 1) bytes whole bits m said says known (omega (arith, fits, size, whole)) last sum
               (is ∙ byte-at (n + m) (n + idSize (h .form) + m) (omega (arith, h .ids))) adds)
 
           -- it is the last, or what follows is cut
-          pub headed-last : length after < m + k → TellsList (byTable counts) (fixed form) s (countUpTo (length after) m (count + w))
+          pub headed-last : length after < m + k → TellsList (byTable counts) (fixed form) s (countUpTo (length after) m sum)
           headed-last lack =
-              pick-eqb (λ (x : ℕ). TellsList (byTable counts) (fixed form) s x) (length after) m (count + w) truncated
+              pick-eqb (λ (x : ℕ). TellsList (byTable counts) (fixed form) s x) (length after) m sum truncated
               (λ all. answer _ (form-done counts (h .form) s after m _ taken small (sym all)))
               (λ some. answer truncated (form-cut counts (h .form) s after m _ taken small (k + 1) bytes (omega (arith, lack)) (λ all. some (sym all))))
 
           pub headed-next : m + k ≤ length after
-              → Headed counts s k (take (length after - k) (drop k after)) m (count + w) × (length (take (length after - k) (drop k after)) - m < length head - n)
+              → Headed counts s k (take (length after - k) (drop k after)) m sum × (length (take (length after - k) (drop k after)) - m < length head - n)
           headed-next more = (
             record { form = h .form; left = after; ids = h .ids; long = omega (arith, more); is = rest after k; carried = taken },
             omega (arith, more, there, size, room, h .long, ap length (rest after k), length-drop k after),

@@ -5,6 +5,7 @@ use mathlib.Core.Path.{_≡_, refl, sym, ap, ap₂, _∙_}
 use mathlib.Core.List.{List, [], _∷_}
 use mathlib.Core.Bool.{Bool, true, false, not}
 use native.Mathlib.Omega.{arith}
+use lib.Bits.{bitAnd}
 use lib.Dec.{eqb}
 use lib.ListN.{length, getD, take, drop, length-drop}
 use lib.Seq.{getD-drop, getD-take, length-take-le}
@@ -17,7 +18,7 @@ use Rattle.families.specs.Family.{idSize, octets}
 use Rattle.families.specs.declared.Form.{Form}
 use Rattle.routes.specs.Prefix.{hostBits}
 use Rattle.routes.specs.Promises.{hostUnit}
-use Rattle.routes.specs.Private.{pastLength, weightOf}
+use Rattle.routes.specs.Private.{pastLength, pastMasks, weightOf}
 
 -- ---- in an item
 
@@ -43,13 +44,6 @@ host-at s n used form bits last low high b e =
 
 -- ---- as code finds them
 
--- whether a byte that is shifted up by k has none of its last seven bits, and whether it had none of its last 7 - k
-abbrev up : ℕ → ℕ → Bool
-up k last = eqb (last * 2 ^ k % 4294967296 % 128) 0
-
-abbrev down : ℕ → ℕ → Bool
-down k last = eqb (last % 2 ^ (7 - k)) 0
-
 abbrev alike : Bool → Bool → Bool
 alike true b = b
 alike false b = not b
@@ -60,18 +54,26 @@ alike-same true false e = sym e
 alike-same false true e = e
 alike-same false false e = refl
 
+-- by a mask for each length modulo 8: what it leaves of a byte, and what the last bits of the byte are
+abbrev masked : ℕ → ℕ → Bool
+masked k last = eqb (bitAnd last (getD pastMasks k 0)) 0
+
+abbrev lastBits : ℕ → ℕ → Bool
+lastBits k last = eqb (last % 2 ^ ((8 - k) % 8)) 0
+
 abbrev each-byte : ℕ → Bool
-each-byte k = below (λ last. alike (up k last) (down k last)) 256
+each-byte k = below (λ last. alike (masked k last) (lastBits k last)) 256
 
-shifts : below each-byte 8 ≡ true
-shifts = refl
+masks-fit : below each-byte 8 ≡ true
+masks-fit = refl
 
-pub shifted : (bits last k : ℕ) → last < 256 → k ≡ (bits + 7) % 8 → not (eqb (last * 2 ^ k % 4294967296 % 128) 0) ≡ pastLength bits last
-shifted bits last k byte e =
+pub masked-past : (bits last : ℕ) (past : List ℕ) → last < 256 → past ≡ pastMasks → not (eqb (bitAnd last (getD past (bits % 8) 0)) 0) ≡ pastLength bits last
+masked-past bits last past byte e =
+    let k : ℕ = bits % 8 in
     let few : k < 8 = omega arith in
-    let left : 7 - k ≡ 8 * octets bits - bits = omega arith in
-    let same : up k last ≡ down k last = alike-same (up k last) (down k last) (below-at (λ x. alike (up k x) (down k x)) 256 last (below-at each-byte 8 k shifts few) byte) in
-    ap not same ∙ ap (λ (q : ℕ). not (eqb (last % 2 ^ q) 0)) left
+    let left : (8 - k) % 8 ≡ 8 * octets bits - bits = omega arith in
+    let same : masked k last ≡ lastBits k last = alike-same (masked k last) (lastBits k last) (below-at (λ x. alike (masked k x) (lastBits k x)) 256 last (below-at each-byte 8 k masks-fit few) byte) in
+    ap (λ (l : List ℕ). not (eqb (bitAnd last (getD l k 0)) 0)) e ∙ ap not same ∙ ap (λ (q : ℕ). not (eqb (last % 2 ^ q) 0)) left
 
 -- ---- a count in one number
 

@@ -378,14 +378,14 @@ module _ (read : Reader) (fair : Fair read) (mode : AddPath) (st₀ : Form) (s :
   packed-start = record { past = omega arith; counted = count-start by-host (host-sound read fair mode) weightOf (1 + hostUnit) (host-light read fair mode) st₀ s }
 
   module _ (st : Form) (at count : ℕ) (h : Packed read mode st₀ s st at count) where
-    pub packed-step : (used : ℕ) (row : Row) (st′ : Form) → stepBy read mode st (drop at s) ≡ took used row st′ → (w : ℕ) → w ≡ weightOf (hostBits st′ (take used (drop at s)))
-        → (0 < used) × (at + used ≤ length s) × Packed read mode st₀ s st′ (at + used) (count + w)
-    packed-step used row st′ e w is =
+    pub packed-step : (used : ℕ) (row : Row) (st′ : Form) → stepBy read mode st (drop at s) ≡ took used row st′ → (sum : ℕ) → sum ≡ count + weightOf (hostBits st′ (take used (drop at s)))
+        → (0 < used) × (at + used ≤ length s) × Packed read mode st₀ s st′ (at + used) sum
+    packed-step used row st′ e sum is =
         let f : by-host st (drop at s) ≡ took used (hostBits st′ (take used (drop at s))) st′ = ap (noted hostBits (drop at s)) e in
         let fits = turn-fits by-host (host-sound read fair mode) s st at st′ used _ f (h .counted .within) in
-        let more : count - pastAll + weightOf (hostBits st′ (take used (drop at s))) ≡ count + w - pastAll = omega (arith, h .past, is) in
+        let more : count - pastAll + weightOf (hostBits st′ (take used (drop at s))) ≡ sum - pastAll = omega (arith, h .past, is) in
         let next = count-step by-host (host-sound read fair mode) weightOf (1 + hostUnit) (host-light read fair mode) st₀ s st at (count - pastAll) (h .counted) st′ used _ f in
-        (fits .0, fits .1, record { past = omega (arith, h .past); counted = rw more at next })
+        (fits .0, fits .1, record { past = omega (arith, h .past, is); counted = rw more at next })
 
     -- the weights so far are no more than those of all bytes
     pub packed-few : count ≤ pastAll + (1 + hostUnit) * length s

@@ -1,6 +1,6 @@
 -- What private functions ask of each other and answer each other; no promise rests on it.
 use Prim.Native.Nat.{ℕ, _+_, _-_, _*_, _^_, _%_, _≤_}
-use mathlib.Core.List.{List}
+use mathlib.Core.List.{List, [], _∷_}
 use mathlib.Core.Bool.{Bool, not}
 use lib.ListN.{length}
 use lib.Dec.{eqb}
@@ -39,6 +39,10 @@ countUpTo left n count = pick (eqb left n) count truncated
 -- whether a bit past the length is set in the last byte of an item
 abbrev pub pastLength : ℕ → ℕ → Bool
 pastLength l last = not (eqb (last % 2 ^ (8 * octets l - l)) 0)
+
+-- the bits of a last octet that are past a length, by the length modulo 8
+abbrev pub pastMasks : List ℕ
+pastMasks = 0 ∷ 127 ∷ 63 ∷ 31 ∷ 15 ∷ 7 ∷ 3 ∷ 1 ∷ []
 
 -- what a row adds to a count in one number, by whether it has a host bit
 abbrev pub weightOf : Bool → ℕ

@@ -3,12 +3,13 @@ ghost use mathlib.Core.Path.{_≡_};
 ghost use mathlib.Core.Bool.{false};
 ghost use Prim.Native.Nat.{_+_, _≤_, _<_};
 ghost use lib.ListN.{length, getD, take, drop};
+ghost use Rattle.wire.specs.Answer.{flag};
 ghost use Rattle.wire.specs.Number.{beAt};
 ghost use Rattle.wire.specs.Refusal.{listLimit};
 ghost use Rattle.families.specs.Family.{maxOf, idSize};
 ghost use Rattle.routes.specs.Prefix.{itemRow, hostBits, routeOf};
 ghost use Rattle.routes.specs.ByTable.{byTable};
-ghost use Rattle.routes.specs.Private.{Bounded, sizeOf, kept, countUpTo, pastLength, weightOf};
+ghost use Rattle.routes.specs.Private.{Bounded, sizeOf, kept, countUpTo, pastLength, pastMasks};
 ghost use Rattle.routes.specs.List.{upTo, plainHere, fixed, stepBy, strange};
 ghost use Rattle.routes.specs.Promises.{sized, countList, countSection, rowsIn, hostsIn, verdictIn, inOne};
 use families::AddPath;
@@ -122,22 +123,26 @@ fn row_of(s: &[u8], e: usize, form: Form) -> Row
     }
 }
 
-// Whether a bit past the length is set in the last byte of an item: shifted up, what is left of its last seven bits. A prefix of no bits ends with its
-// length byte, which is 0.
-fn past_length(bits: u8, last: u8) -> bool
+// The bits of a last octet that are past the length, by the length modulo 8: none of a multiple, and of any other the lowest.
+const PAST: [u8; 8] = [0, 127, 63, 31, 15, 7, 3, 1];
+
+// Whether a bit past the length is set in the last byte of an item. A prefix of no bits ends with its length byte, which is 0. `past` is PAST, which a
+// loop makes once and lends.
+fn past_length(bits: u8, last: u8, past: &[u8; 8]) -> bool
+    requires { ⌜ now past ≡ pastMasks ⌝ }
     ensures { λ r. ⌜ r ≡ pastLength bits last ⌝ }
 {
-    let up = (bits as u32 + 7) % 8;
-    ((last as u32) << up) % 128 != 0
+    last & past[(bits % 8) as usize] != 0
 }
 
 // Whether the item of `used` bytes at place n has a bit set past its length.
-fn host_at(s: &[u8], n: usize, used: usize, form: Form) -> bool
+fn host_at(s: &[u8], n: usize, used: usize, form: Form, past: &[u8; 8]) -> bool
     requires { ⌜ idSize form + 1 ≤ used ⌝ }
     requires { ⌜ n + used ≤ length (now s) ⌝ }
+    requires { ⌜ now past ≡ pastMasks ⌝ }
     ensures { λ r. ⌜ r ≡ hostBits form (take used (drop n (now (s .entry)))) ⌝ }
 {
-    past_length(s[n + families::id_size(form)], s[n + used - 1])
+    past_length(s[n + families::id_size(form)], s[n + used - 1], past)
 }
 
 // One route, in a form: the bytes it takes and its row, and whether it has a bit set past its length.
@@ -145,13 +150,14 @@ pub fn try_parse_prefix(s: &[u8], afi: Afi, form: Form) -> RouteAnswer
     ensures answer { λ r. ⌜ r ≡ routeOf (now (s .entry)) (maxOf afi) form ⌝ }
 {
     let counts = octets::counts(afi);
+    let past = PAST;
     match front_size(s, &counts, form) {
         SizeAnswer::Size(used) => RouteAnswer {
             prefix: PrefixAnswer::Prefix {
                 used,
                 row: row_of(s, used, form),
             },
-            host: host_at(s, 0, used, form),
+            host: host_at(s, 0, used, form, &past),
         },
         SizeAnswer::Refused(n) => RouteAnswer {
             prefix: PrefixAnswer::Refused(n),
@@ -246,14 +252,14 @@ fn ended(left: usize, n: usize, count: usize) -> usize
     }
 }
 
-// What a row adds to a count in one number.
-fn weight(host: bool) -> usize
-    ensures { λ r. ⌜ r ≡ weightOf host ⌝ }
+// One for a row that has a bit set past its length.
+fn one_if(host: bool) -> usize
+    ensures { λ r. ⌜ r ≡ flag host ⌝ }
 {
     if host {
-        return 1 + HOST_UNIT;
+        return 1;
     }
-    1
+    0
 }
 
 // How many rows a list has whose items all stand in one form, in one number. It carries how many octets the item before has, and the bytes from where the
@@ -266,9 +272,11 @@ fn count_form(s: &[u8], counts: &[u8; 256], form: Form) -> usize
     if s.len() < k {
         return ended(s.len(), 0, refusal::PAST_ALL);
     }
+    let past = PAST;
     let mut head = &s[k..];
     let mut n: usize = 0;
     let mut count: usize = refusal::PAST_ALL;
+    let mut hosts: usize = 0;
     while n + 1 <= head.len() {
         let bits = head[n];
         let next = octets::after(counts, bits);
@@ -280,14 +288,15 @@ fn count_form(s: &[u8], counts: &[u8; 256], form: Form) -> usize
         if rest.len() < m {
             return refusal::TRUNCATED as usize;
         }
-        count = count + weight(past_length(bits, head[n + m]));
+        hosts = hosts + one_if(past_length(bits, head[n + m], &past));
+        count = count + 1;
         n = m;
         if rest.len() < m + k {
-            return ended(rest.len(), m, count);
+            return ended(rest.len(), m, count + HOST_UNIT * hosts);
         }
         head = &rest[k..];
     }
-    ended(head.len() + k, n, count)
+    ended(head.len() + k, n, count + HOST_UNIT * hosts)
 }
 
 // How many rows a list has by the guess, in one number. It carries the bytes from the octets of the item before on and how many these are, for the same
@@ -296,25 +305,29 @@ fn count_guess(s: &[u8], counts: &[u8; 256]) -> usize
     requires { ⌜ length (now s) ≤ listLimit ⌝ }
     ensures { λ r. ⌜ inOne r ≡ countList (byTable (now (counts .entry))) (now (s .entry)) AddPath.Guess ⌝ }
 {
+    let past = PAST;
     let mut rest = s;
     let mut n: usize = 0;
     let mut count: usize = refusal::PAST_ALL;
+    let mut hosts: usize = 0;
     let mut form = Form::Plain;
     while n < rest.len() {
         match guess_at(rest, n, counts, form) {
             StepAnswer::Item { used, form: next } => {
-                count = count + weight(host_at(rest, n, used, next));
                 // Each form takes its own bytes out again, so that the count from the table is carried as it is.
                 match next {
                     Form::Plain => {
+                        hosts = hosts + one_if(host_at(rest, n, used, Form::Plain, &past));
                         rest = &rest[n + 1..];
                         n = used - 1;
                     }
                     Form::Tagged => {
+                        hosts = hosts + one_if(host_at(rest, n, used, Form::Tagged, &past));
                         rest = &rest[n + 5..];
                         n = used - 5;
                     }
                 }
+                count = count + 1;
                 form = next;
             }
             StepAnswer::Refused(why) => {
@@ -322,7 +335,7 @@ fn count_guess(s: &[u8], counts: &[u8; 256]) -> usize
             }
         }
     }
-    count
+    count + HOST_UNIT * hosts
 }
 
 // How many rows a list has by a table that the caller lends, with no store: in one number, which stays in a register. `counted` is the answer.

@@ -31,7 +31,7 @@ returns : tie.Need-returns
 returns c =
     let g = c .before .before .before .before .before in
     let a = g .args in
-    c .past-length .ensures ∙ host-at (a .s .now) (a .n) (a .used) (a .form) _ _ (g .pre .0) (g .pre .1) (ap (λ (k : ℕ). getD (a .s .now) (a .n + k) 0) (c .before .before .before .id-size .ensures)) refl
+    c .past-length .ensures ∙ host-at (a .s .now) (a .n) (a .used) (a .form) _ _ (g .pre .0) (g .pre .1 .0) (ap (λ (k : ℕ). getD (a .s .now) (a .n + k) 0) (c .before .before .before .id-size .ensures)) refl
 
 pub host-at-spec : {M : Type 1} → statement M
 host-at-spec =

@@ -1,5 +1,5 @@
 use Prim.Native.Nat.{_+_, _≤_}
-use mathlib.Core.Path.{_≡_, sym, ap, ap₂, _∙_}
+use mathlib.Core.Path.{_≡_, refl, sym, ap, ap₂, _∙_}
 use mathlib.Core.Bool.{Bool}
 use native.Mathlib.Omega.{arith}
 use lib.ListN.{length, take}
@@ -46,7 +46,7 @@ row-of-requires : tie.Need-row-of-requires
 row-of-requires c κs = record { front = item c .1; within = item c .2 }
 
 host-at-requires : tie.Need-host-at-requires
-host-at-requires c κs = (item (c .before) .1, omega (arith, item (c .before) .2))
+host-at-requires c κs = let i = item (c .before .before) in (i .1, (omega (arith, i .2), refl))
 
 enum-known-n : tie.Need-enum-known-n
 enum-known-n c = search needs
@@ -54,9 +54,9 @@ enum-known-n c = search needs
 returns : tie.Need-returns
 unfolding routeOf
 returns c =
-    let a = c .before .before .before .before .before .before .before .before .before .args in
-    ap₂ (λ (row : Row) (host : Bool). record { prefix = Prefix (c .before .before .before .used .given .0 .0) row; host = host }) (c .before .row-of .ensures) (c .host-at .ensures)
-    ∙ sym (ap (withHost (a .form) (a .s .now)) (item (c .before .before) .0))
+    let a = c .before .before .before .before .before .before .before .before .before .before .args in
+    ap₂ (λ (row : Row) (host : Bool). record { prefix = Prefix (c .before .before .before .before .used .given .0 .0) row; host = host }) (c .before .before .row-of .ensures) (c .host-at .ensures)
+    ∙ sym (ap (withHost (a .form) (a .s .now)) (item (c .before .before .before) .0))
 
 returns-2 : tie.Need-returns-2
 unfolding routeOf
