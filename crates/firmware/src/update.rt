@@ -111,12 +111,7 @@ fn host_word(a: UpdateAnswer) -> u64
         UpdateAnswer::Update {
             withdrawn,
             announced,
-        } => word(
-            hosts_in(withdrawn) as u16,
-            hosts_in(announced) as u16,
-            0,
-            0,
-        ),
+        } => word(hosts_in(withdrawn) as u16, hosts_in(announced) as u16, 0, 0),
         UpdateAnswer::Refused(n) => word(0, 0, 0, n),
     }
 }

@@ -3,8 +3,8 @@ use families::AddPath;
 use families::Afi;
 use families::Form;
 use routes::ListAnswer;
-use routes::RoutesAnswer;
 use routes::PrefixAnswer;
+use routes::RoutesAnswer;
 use routes::Row;
 use wire::WriteAnswer;
 

@@ -5,4 +5,5 @@ pub mod ListLaws
 pub mod CuttingLaws
 pub mod TableLaws
 pub mod Carried
+pub mod Pending
 pub mod Tight

@@ -5,8 +5,6 @@ use mathlib.Core.Bool.{Bool, not}
 use lib.ListN.{length}
 use lib.Dec.{eqb}
 use Rattle.wire.specs.Answer.{flag}
-use Rattle.wire.specs.Choice.{pick}
-use Rattle.wire.specs.Refusal.{truncated}
 use Rattle.families.specs.Family.{idSize, octets}
 use Rattle.families.specs.declared.Form.{Form}
 use Rattle.routes.specs.Promises.{hostUnit}
@@ -31,10 +29,6 @@ sizeOf (P.Refused n) = Z.Refused n
 abbrev pub kept : SizeAnswer → Form → StepAnswer
 kept (Z.Size used) form = S.Item used form
 kept (Z.Refused n) form = S.Refused n
-
--- a count whose last item has n octets, where so many bytes are left; in one number
-abbrev pub countUpTo : ℕ → ℕ → ℕ → ℕ
-countUpTo left n count = pick (eqb left n) count truncated
 
 -- whether a bit past the length is set in the last byte of an item
 abbrev pub pastLength : ℕ → ℕ → Bool

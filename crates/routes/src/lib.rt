@@ -9,7 +9,7 @@ ghost use Rattle.wire.specs.Refusal.{listLimit};
 ghost use Rattle.families.specs.Family.{maxOf, idSize};
 ghost use Rattle.routes.specs.Prefix.{itemRow, hostBits, routeOf};
 ghost use Rattle.routes.specs.ByTable.{byTable};
-ghost use Rattle.routes.specs.Private.{Bounded, sizeOf, kept, countUpTo, pastLength, pastMasks};
+ghost use Rattle.routes.specs.Private.{Bounded, sizeOf, kept, pastLength, pastMasks};
 ghost use Rattle.routes.specs.List.{upTo, plainHere, fixed, stepBy, strange};
 ghost use Rattle.routes.specs.Promises.{sized, countList, countSection, rowsIn, hostsIn, verdictIn, inOne};
 use families::AddPath;
@@ -241,17 +241,6 @@ pub fn item_step(s: &[u8], n: usize, counts: &[u8; 256], mode: AddPath, form: Fo
     }
 }
 
-// A count, where the n octets of the last item are all that is left, or else why it is refused; in one number.
-fn ended(left: usize, n: usize, count: usize) -> usize
-    ensures { λ r. ⌜ r ≡ countUpTo left n count ⌝ }
-{
-    if left == n {
-        count
-    } else {
-        refusal::TRUNCATED as usize
-    }
-}
-
 // One for a row that has a bit set past its length.
 fn one_if(host: bool) -> usize
     ensures { λ r. ⌜ r ≡ flag host ⌝ }
@@ -262,41 +251,44 @@ fn one_if(host: bool) -> usize
     0
 }
 
-// How many rows a list has whose items all stand in one form, in one number. It carries how many octets the item before has, and the bytes from where the
-// next length byte would stand if it had none, so that the next length byte waits for nothing but the table.
+// How many rows a list has whose items all stand in one form, in one number. It carries an item that is not counted yet, from its length byte on, and how
+// many octets it has: where the next length byte stands too, the item is all there, and the next waits for nothing but the table.
 fn count_form(s: &[u8], counts: &[u8; 256], form: Form) -> usize
     requires { ⌜ length (now s) ≤ listLimit ⌝ }
     ensures { λ r. ⌜ inOne r ≡ countList (byTable (now (counts .entry))) (now (s .entry)) (fixed form) ⌝ }
 {
     let k = families::id_size(form);
-    if s.len() < k {
-        return ended(s.len(), 0, refusal::PAST_ALL);
+    if s.len() == 0 {
+        return refusal::PAST_ALL;
+    }
+    if s.len() <= k {
+        return refusal::TRUNCATED as usize;
     }
     let past = PAST;
-    let mut head = &s[k..];
-    let mut n: usize = 0;
+    let mut item = &s[k..];
+    let first = octets::after(counts, item[0]);
+    if first == octets::REFUSED {
+        return refusal::PREFIX_LENGTH as usize;
+    }
+    let mut n = first as usize;
     let mut count: usize = refusal::PAST_ALL;
     let mut hosts: usize = 0;
-    while n + 1 <= head.len() {
-        let bits = head[n];
-        let next = octets::after(counts, bits);
+    while n + k + 1 < item.len() {
+        let head = &item[k + 1..];
+        let next = octets::after(counts, head[n]);
         if next == octets::REFUSED {
             return refusal::PREFIX_LENGTH as usize;
         }
-        let rest = &head[n + 1..];
-        let m = next as usize;
-        if rest.len() < m {
-            return refusal::TRUNCATED as usize;
-        }
-        hosts = hosts + one_if(past_length(bits, head[n + m], &past));
+        hosts = hosts + one_if(past_length(item[0], item[n], &past));
         count = count + 1;
-        n = m;
-        if rest.len() < m + k {
-            return ended(rest.len(), m, count + HOST_UNIT * hosts);
-        }
-        head = &rest[k..];
+        item = &head[n..];
+        n = next as usize;
     }
-    ended(head.len() + k, n, count + HOST_UNIT * hosts)
+    if item.len() != n + 1 {
+        return refusal::TRUNCATED as usize;
+    }
+    hosts = hosts + one_if(past_length(item[0], item[n], &past));
+    count + 1 + HOST_UNIT * hosts
 }
 
 // How many rows a list has by the guess, in one number. It carries the bytes from the octets of the item before on and how many these are, for the same

@@ -287,7 +287,11 @@ pub fn put_heading(out: &mut [u8]) -> usize
     if out.len() < LINE_ROOM {
         return 0;
     }
-    put_text(out, 0, b"no type claimed kept state withdrawn announced host\n")
+    put_text(
+        out,
+        0,
+        b"no type claimed kept state withdrawn announced host\n",
+    )
 }
 
 // The word that tells how a table ended, likewise.

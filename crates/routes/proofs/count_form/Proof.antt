@@ -4,113 +4,134 @@ use native.Mathlib.Omega.{arith}
 use lib.ListN.{length, getD, take, drop, length-drop}
 use Rattle.wire.proofs.Turn.{rest}
 use Rattle.families.proofs.FamilyLaws.{id-small}
-use Rattle.routes.specs.Promises.{hostUnit, inOne}
+use Rattle.routes.specs.Promises.{hostUnit}
 use Rattle.routes.specs.Private.{pastLength, weightOf}
 use Rattle.routes.proofs.HostLaws.{weight-few}
-use Rattle.routes.proofs.Carried.{Headed, headed-start, headed-none, headed-few, headed-done, headed-long, headed-short, headed-last, headed-next}
+use Rattle.routes.proofs.Pending.{Pending, pending-empty, pending-none, pending-refused, pending-start, pending-few, pending-done, pending-cut, pending-long, pending-next}
 use borrow.Author.Needs.{needs}
 use Rattle.routes.proofs.count_form.Statement.{statement}
 use Rattle.routes.proofs.count_form.Tie as tie
 
 abbrev Inv-loop : tie.InvT-loop
-Inv-loop s counts k past head₀ n₀ count₀ hosts₀ head n count hosts = Headed counts s k head n (count + hostUnit * hosts)
+Inv-loop s counts k past item₀ first n₀ count₀ hosts₀ item n count hosts = Pending counts s k item n (count + hostUnit * hosts) × (n ≤ 255)
 
 abbrev μ-loop : tie.MeasureT-loop
-μ-loop s counts k past head₀ n₀ count₀ hosts₀ head n count hosts = length head - n
+μ-loop s counts k past item₀ first n₀ count₀ hosts₀ item n count hosts = length item
 
 id-size-requires : tie.Need-id-size-requires Inv-loop μ-loop
 id-size-requires c κs = search needs
 
-ended-requires : tie.Need-ended-requires Inv-loop μ-loop
-ended-requires c κs = search needs
-
 returns : tie.Need-returns Inv-loop μ-loop
 returns c =
-    let g = c .before .before .before .before in
-    ap inOne (c .ended .ensures) ∙ headed-none (g .args .counts .now) (g .args .s .now) (g .args .form) _ (c .before .before .id-size .ensures) (g .pre) (c .before .if1 .taken)
-
-sub-head : tie.Need-sub-head Inv-loop μ-loop
-sub-head c = c .if1 .left
-
-part-head-start : tie.Need-part-head-start Inv-loop μ-loop
-part-head-start c = c .if1 .left
-
-part-head-end : tie.Need-part-head-end Inv-loop μ-loop
-part-head-end c = search needs
-
-loop-holds : tie.Need-loop-holds Inv-loop μ-loop
-loop-holds c = let a = c .before .before .before .before .args in headed-start (a .counts .now) (a .s .now) (a .form) _ (c .before .before .id-size .ensures) (c .before .if1 .left)
-
--- what is carried is some of the list, and what was counted weighs no more than its bytes
-few : (c : tie.At-loop Inv-loop μ-loop) →
-    let k = c .before .before .before .id-size .result in
-    (c .loop .n ≤ length (c .loop .head .now) + k) × (length (c .loop .head .now) + k ≤ 65535) × (c .loop .count + hostUnit * c .loop .hosts ≤ 4294967327) × (k ≤ 4)
-few c =
-    let g = c .before .before .before .before .before in
-    let k = c .before .before .before .id-size .ensures in
-    let h = headed-few (g .args .counts .now) (g .args .s .now) _ (c .loop .head .now) (c .loop .n) (c .loop .count + hostUnit * c .loop .hosts) (c .loop .inv) (g .pre) in
-    (h .0, omega (arith, h .1, g .pre), omega (arith, h .2, g .pre), omega (arith, k, id-small (g .args .form)))
-
-add-loop : tie.Need-add-loop Inv-loop μ-loop
-add-loop c = omega (arith, few c)
-
-shared-slice-read-bits : tie.Need-shared-slice-read-bits Inv-loop μ-loop
-shared-slice-read-bits c = omega (arith, c .before .loop-test .taken)
-
-after-requires : tie.Need-after-requires Inv-loop μ-loop
-after-requires c κs = search needs
+    let g = c .before .before .before in
+    pending-empty (g .args .counts .now) (g .args .s .now) (g .args .form) (g .pre) (c .if1 .taken)
 
 cast-result : tie.Need-cast-result Inv-loop μ-loop
 cast-result c = search needs
 
 returns-2 : tie.Need-returns-2 Inv-loop μ-loop
 returns-2 c =
-    let t = c .before in
-    let l = t .before .before .before in
-    let g = l .before .before .before .before .before in
-    headed-long (g .args .counts .now) (g .args .s .now) _ (l .loop .head .now) (l .loop .n) (l .loop .count + hostUnit * l .loop .hosts) (l .loop .inv) (g .pre) (g .args .form) (l .before .before .before .id-size .ensures) (t .before .before .loop-test .taken) _ _ refl (t .after .ensures) (c .if2 .taken)
+    let g = c .before .before .before .before in
+    pending-none (g .args .counts .now) (g .args .s .now) (g .args .form) (g .pre) _ (c .before .before .id-size .ensures) (c .before .if1 .left) (c .if2 .taken)
 
-add-rest : tie.Need-add-rest Inv-loop μ-loop
-add-rest c = omega (arith, few (c .before .before .before .before))
+sub-item : tie.Need-sub-item Inv-loop μ-loop
+sub-item c = omega (arith, c .if2 .left)
 
-sub-rest : tie.Need-sub-rest Inv-loop μ-loop
-sub-rest c = c .before .before .before .loop-test .taken
+part-item-start : tie.Need-part-item-start Inv-loop μ-loop
+part-item-start c = omega (arith, c .if2 .left)
 
-part-rest-start : tie.Need-part-rest-start Inv-loop μ-loop
-part-rest-start c = c .before .before .before .loop-test .taken
+part-item-end : tie.Need-part-item-end Inv-loop μ-loop
+part-item-end c = search needs
 
-part-rest-end : tie.Need-part-rest-end Inv-loop μ-loop
-part-rest-end c = search needs
+shared-slice-read-after : tie.Need-shared-slice-read-after Inv-loop μ-loop
+shared-slice-read-after c =
+    let e = c .before .before in
+    let s = e .before .before .before .before .args .s .now in
+    let k = e .before .before .id-size .result in
+    omega (arith, e .if2 .left, ap length (rest s k), length-drop k s)
 
-cast-m : tie.Need-cast-m Inv-loop μ-loop
-cast-m c = search needs
+after-requires : tie.Need-after-requires Inv-loop μ-loop
+after-requires c κs = search needs
 
 cast-result-2 : tie.Need-cast-result-2 Inv-loop μ-loop
 cast-result-2 c = search needs
 
 returns-3 : tie.Need-returns-3 Inv-loop μ-loop
 returns-3 c =
-    let u = c .before .before in
-    let t = u .before in
-    let l = t .before .before .before in
-    let g = l .before .before .before .before .before in
-    headed-short (g .args .counts .now) (g .args .s .now) _ (l .loop .head .now) (l .loop .n) (l .loop .count + hostUnit * l .loop .hosts) (l .loop .inv) (g .pre) (g .args .form) (l .before .before .before .id-size .ensures) (t .before .before .loop-test .taken) _ _ refl (t .after .ensures) (u .if2 .left) _ refl (c .if3 .taken)
+    let e = c .before .before .before .before in
+    let g = e .before .before .before .before in
+    pending-refused (g .args .counts .now) (g .args .s .now) (g .args .form) (g .pre) _ (e .before .before .id-size .ensures) (omega (arith, e .if2 .left)) _ (c .before .after .ensures) (c .if3 .taken)
 
--- the item's octets are there
-inside : (c : tie.Else3 Inv-loop μ-loop) →
-    let l = c .before .before .before .before .before .before in
-    l .loop .n + c .before .before .before .after .result < length (l .loop .head .now)
+cast-n : tie.Need-cast-n Inv-loop μ-loop
+cast-n c = search needs
+
+loop-holds : tie.Need-loop-holds Inv-loop μ-loop
+loop-holds c =
+    let e = c .before .before .before .before in
+    let a = e .before .before .before .before .args in (
+      pending-start (a .counts .now) (a .s .now) (a .form) _ _ (e .before .before .id-size .ensures) (omega (arith, e .if2 .left)) (c .before .after .ensures) (c .if3 .left),
+      omega arith,
+    )
+
+-- what is carried is some of the list, and what was counted weighs no more than its bytes
+few : (c : tie.At-loop Inv-loop μ-loop) →
+    let k = c .before .before .before .before .before .before .before .id-size .result in
+    (0 < length (c .loop .item .now)) × (length (c .loop .item .now) + k ≤ 65535) × (c .loop .count + hostUnit * c .loop .hosts ≤ 4294967327) × (k ≤ 4) × (c .loop .n ≤ 255)
+few c =
+    let i = c .before .before .before .before .before .before .before in
+    let g = i .before .before in
+    let h = pending-few (g .args .counts .now) (g .args .s .now) _ (c .loop .item .now) (c .loop .n) (c .loop .count + hostUnit * c .loop .hosts) (c .loop .inv .0) (g .pre) in
+    (h .0, omega (arith, h .1, g .pre), omega (arith, h .2, g .pre), omega (arith, i .id-size .ensures, id-small (g .args .form)), c .loop .inv .1)
+
+add-loop : tie.Need-add-loop Inv-loop μ-loop
+add-loop c = omega (arith, few c)
+
+add-loop-2 : tie.Need-add-loop-2 Inv-loop μ-loop
+add-loop-2 c = omega (arith, few c)
+
+add-head : tie.Need-add-head Inv-loop μ-loop
+add-head c = omega (arith, few (c .before))
+
+sub-head : tie.Need-sub-head Inv-loop μ-loop
+sub-head c = omega (arith, c .loop-test .taken)
+
+part-head-start : tie.Need-part-head-start Inv-loop μ-loop
+part-head-start c = omega (arith, c .loop-test .taken)
+
+part-head-end : tie.Need-part-head-end Inv-loop μ-loop
+part-head-end c = search needs
+
+-- the next length byte is there
+inside : (c : tie.In-loop Inv-loop μ-loop) →
+    let k = c .before .before .before .before .before .before .before .before .id-size .result in
+    let item = c .before .loop .item .now in
+    c .before .loop .n < length (take (length item - (k + 1)) (drop (k + 1) item))
 inside c =
-    let t = c .before .before .before in
-    let l = t .before .before .before in
-    let head = l .loop .head .now in
-    omega (arith, c .if3 .left, t .before .before .loop-test .taken, ap length (rest head (l .loop .n + 1)), length-drop (l .loop .n + 1) head)
+    let k = c .before .before .before .before .before .before .before .before .id-size .result in
+    let item = c .before .loop .item .now in
+    omega (arith, c .loop-test .taken, ap length (rest item (k + 1)), length-drop (k + 1) item)
 
-add-past-length : tie.Need-add-past-length Inv-loop μ-loop
-add-past-length c = omega (arith, inside c, few (c .before .before .before .before .before .before))
+shared-slice-read-after-2 : tie.Need-shared-slice-read-after-2 Inv-loop μ-loop
+shared-slice-read-after-2 c = inside (c .before .before)
+
+after-requires-2 : tie.Need-after-requires-2 Inv-loop μ-loop
+after-requires-2 c κs = search needs
+
+cast-result-3 : tie.Need-cast-result-3 Inv-loop μ-loop
+cast-result-3 c = search needs
+
+returns-4 : tie.Need-returns-4 Inv-loop μ-loop
+returns-4 c =
+    let t = c .before in
+    let l = t .before .before .before .before in
+    let g = l .before .before .before .before .before .before .before .before .before in
+    pending-long (g .args .counts .now) (g .args .s .now) _ (l .loop .item .now) (l .loop .n) (l .loop .count + hostUnit * l .loop .hosts) (l .loop .inv .0) (g .pre) (g .args .form) (l .before .before .before .before .before .before .before .id-size .ensures) (t .before .before .before .loop-test .taken) _ refl _ (t .after2 .ensures) (c .if4 .taken)
 
 shared-slice-read-past-length : tie.Need-shared-slice-read-past-length Inv-loop μ-loop
-shared-slice-read-past-length c = inside (c .before)
+shared-slice-read-past-length c = omega (arith, few (c .before .before .before .before .before .before))
+
+shared-slice-read-past-length-2 : tie.Need-shared-slice-read-past-length-2 Inv-loop μ-loop
+shared-slice-read-past-length-2 c = omega (arith, c .before .before .before .before .before .before .loop-test .taken)
 
 past-length-requires : tie.Need-past-length-requires Inv-loop μ-loop
 past-length-requires c κs = refl
@@ -118,17 +139,15 @@ past-length-requires c κs = refl
 one-if-requires : tie.Need-one-if-requires Inv-loop μ-loop
 one-if-requires c κs = search needs
 
--- whether it has a host bit, as a number
+-- whether the item has a host bit, as a number
 one : (c : tie.After-one-if Inv-loop μ-loop) → c .one-if .result ≤ 1
 one c = omega (arith, c .one-if .ensures, weight-few (c .before .past-length .result) .1)
 
 -- what is counted with it
 added : (c : tie.After-one-if Inv-loop μ-loop) →
-    let u = c .before .before .before .before in
-    let l = u .before .before .before .before .before .before in
-    let head = l .loop .head .now in
+    let l = c .before .before .before .before .before .before .before .before .before .before in
     l .loop .count + 1 + hostUnit * (l .loop .hosts + c .one-if .result)
-    ≡ l .loop .count + hostUnit * l .loop .hosts + weightOf (pastLength (getD head (l .loop .n) 0) (getD head (l .loop .n + u .before .before .before .after .result) 0))
+    ≡ l .loop .count + hostUnit * l .loop .hosts + weightOf (pastLength (getD (l .loop .item .now) 0 0) (getD (l .loop .item .now) (l .loop .n) 0))
 added c = omega (arith, c .one-if .ensures, ap weightOf (c .before .past-length .ensures))
 
 add-hosts : tie.Need-add-hosts Inv-loop μ-loop
@@ -137,78 +156,86 @@ add-hosts c = omega (arith, few (c .before .before .before .before .before .befo
 add-count : tie.Need-add-count Inv-loop μ-loop
 add-count c = omega (arith, few (c .before .before .before .before .before .before .before .before .before .before))
 
-add-if4 : tie.Need-add-if4 Inv-loop μ-loop
-add-if4 c = omega (arith, inside (c .before .before .before .before), few (c .before .before .before .before .before .before .before .before .before .before))
+sub-item-2 : tie.Need-sub-item-2 Inv-loop μ-loop
+sub-item-2 c = omega (arith, inside (c .before .before .before .before .before .before .before .before .before))
 
-mul-ended : tie.Need-mul-ended Inv-loop μ-loop
-mul-ended c = omega (arith, few (c .before .before .before .before .before .before .before .before .before .before .before), one (c .before))
+part-item-start-2 : tie.Need-part-item-start-2 Inv-loop μ-loop
+part-item-start-2 c = omega (arith, inside (c .before .before .before .before .before .before .before .before .before))
 
-add-ended : tie.Need-add-ended Inv-loop μ-loop
-add-ended c = omega (arith, few (c .before .before .before .before .before .before .before .before .before .before .before), one (c .before))
+part-item-end-2 : tie.Need-part-item-end-2 Inv-loop μ-loop
+part-item-end-2 c = search needs
 
-ended-requires-2 : tie.Need-ended-requires-2 Inv-loop μ-loop
-ended-requires-2 c κs = search needs
+cast-n-2 : tie.Need-cast-n-2 Inv-loop μ-loop
+cast-n-2 c = search needs
 
-returns-4 : tie.Need-returns-4 Inv-loop μ-loop
-returns-4 c =
-    let v = c .before .before in
-    let u = v .before .before .before .before in
-    let t = u .before .before .before in
-    let l = t .before .before .before in
-    let g = l .before .before .before .before .before in
-    ap inOne (c .ended2 .ensures)
-    ∙ headed-last (g .args .counts .now) (g .args .s .now) _ (l .loop .head .now) (l .loop .n) (l .loop .count + hostUnit * l .loop .hosts) (l .loop .inv) (g .pre) (g .args .form) (l .before .before .before .id-size .ensures) (t .before .before .loop-test .taken) _ _ refl (t .after .ensures) (u .before .before .if2 .left) _ refl (u .if3 .left) _ _ refl (added v) (c .before .if4 .taken)
-
-sub-head-2 : tie.Need-sub-head-2 Inv-loop μ-loop
-sub-head-2 c = omega (arith, c .if4 .left)
-
-part-head-start-2 : tie.Need-part-head-start-2 Inv-loop μ-loop
-part-head-start-2 c = omega (arith, c .if4 .left)
-
-part-head-end-2 : tie.Need-part-head-end-2 Inv-loop μ-loop
-part-head-end-2 c = search needs
-
--- what holds after an item, and the front of the next
-next : (c : tie.Else4 Inv-loop μ-loop) →
-    let v = c .before in
-    let t = v .before .before .before .before .before .before .before in
-    let l = t .before .before .before in
-    let a = l .before .before .before .before .before .args in
-    let k = l .before .before .before .id-size .result in
-    let after = take (length (l .loop .head .now) - (l .loop .n + 1)) (drop (l .loop .n + 1) (l .loop .head .now)) in
-    let head = take (length after - k) (drop k after) in
-    Headed (a .counts .now) (a .s .now) k head (t .after .result) (l .loop .count + 1 + hostUnit * (l .loop .hosts + v .one-if .result)) × (length head - t .after .result < length (l .loop .head .now) - l .loop .n)
+-- what holds after an item, of the one that is then carried
+next : (c : tie.After-one-if Inv-loop μ-loop) →
+    let t = c .before .before .before .before .before .before in
+    let l = t .before .before .before .before in
+    let i = l .before .before .before .before .before .before .before in
+    let a = i .before .before .args in
+    let k = i .id-size .result in
+    let head = take (length (l .loop .item .now) - (k + 1)) (drop (k + 1) (l .loop .item .now)) in
+    let item = take (length head - l .loop .n) (drop (l .loop .n) head) in
+    Pending (a .counts .now) (a .s .now) k item (t .after2 .result) (l .loop .count + 1 + hostUnit * (l .loop .hosts + c .one-if .result)) × (length item < length (l .loop .item .now))
 next c =
-    let v = c .before in
-    let u = v .before .before .before .before in
-    let t = u .before .before .before in
-    let l = t .before .before .before in
-    let g = l .before .before .before .before .before in
-    headed-next (g .args .counts .now) (g .args .s .now) _ (l .loop .head .now) (l .loop .n) (l .loop .count + hostUnit * l .loop .hosts) (l .loop .inv) (g .pre) (g .args .form) (l .before .before .before .id-size .ensures) (t .before .before .loop-test .taken) _ _ refl (t .after .ensures) (u .before .before .if2 .left) _ refl (u .if3 .left) _ _ refl (added v) (c .if4 .left)
+    let t = c .before .before .before .before .before .before in
+    let l = t .before .before .before .before in
+    let g = l .before .before .before .before .before .before .before .before .before in
+    pending-next (g .args .counts .now) (g .args .s .now) _ (l .loop .item .now) (l .loop .n) (l .loop .count + hostUnit * l .loop .hosts) (l .loop .inv .0) (g .pre) (g .args .form) (l .before .before .before .before .before .before .before .id-size .ensures) (t .before .before .before .loop-test .taken) _ refl _ (t .after2 .ensures) (c .before .before .before .before .before .if4 .left) _ (added c)
 
 loop-less : tie.Need-loop-less Inv-loop μ-loop
 loop-less c = next (c .before) .1
 
 loop-again : tie.Need-loop-again Inv-loop μ-loop
-loop-again c = next (c .before) .0
+loop-again c = (next (c .before) .0, omega arith)
 
-add-ended-2 : tie.Need-add-ended-2 Inv-loop μ-loop
-add-ended-2 c = omega (arith, few (c .before))
+add-if5 : tie.Need-add-if5 Inv-loop μ-loop
+add-if5 c = omega (arith, few (c .before))
 
-mul-ended-2 : tie.Need-mul-ended-2 Inv-loop μ-loop
-mul-ended-2 c = omega (arith, few (c .before))
-
-add-ended-3 : tie.Need-add-ended-3 Inv-loop μ-loop
-add-ended-3 c = omega (arith, few (c .before))
-
-ended-requires-3 : tie.Need-ended-requires-3 Inv-loop μ-loop
-ended-requires-3 c κs = search needs
+cast-result-4 : tie.Need-cast-result-4 Inv-loop μ-loop
+cast-result-4 c = search needs
 
 returns-5 : tie.Need-returns-5 Inv-loop μ-loop
 returns-5 c =
     let l = c .before .before in
-    let g = l .before .before .before .before .before in
-    ap inOne (c .ended3 .ensures) ∙ headed-done (g .args .counts .now) (g .args .s .now) _ (l .loop .head .now) (l .loop .n) (l .loop .count + hostUnit * l .loop .hosts) (l .loop .inv) (g .pre) (g .args .form) (l .before .before .before .id-size .ensures) (omega (arith, c .before .loop-test .left))
+    let g = l .before .before .before .before .before .before .before .before .before in
+    pending-cut (g .args .counts .now) (g .args .s .now) _ (l .loop .item .now) (l .loop .n) (l .loop .count + hostUnit * l .loop .hosts) (l .loop .inv .0) (g .pre) (g .args .form) (l .before .before .before .before .before .before .before .id-size .ensures) (c .if5 .taken) (omega (arith, c .before .loop-test .left))
+
+shared-slice-read-past-length-3 : tie.Need-shared-slice-read-past-length-3 Inv-loop μ-loop
+shared-slice-read-past-length-3 c = omega (arith, few (c .before .before .before))
+
+shared-slice-read-past-length-4 : tie.Need-shared-slice-read-past-length-4 Inv-loop μ-loop
+shared-slice-read-past-length-4 c = omega (arith, c .before .before .if5 .left)
+
+past-length-requires-2 : tie.Need-past-length-requires-2 Inv-loop μ-loop
+past-length-requires-2 c κs = refl
+
+one-if-requires-2 : tie.Need-one-if-requires-2 Inv-loop μ-loop
+one-if-requires-2 c κs = search needs
+
+-- of the last item
+one-last : (c : tie.After-one-if2 Inv-loop μ-loop) → c .one-if2 .result ≤ 1
+one-last c = omega (arith, c .one-if2 .ensures, weight-few (c .before .past-length2 .result) .1)
+
+add-hosts-2 : tie.Need-add-hosts-2 Inv-loop μ-loop
+add-hosts-2 c = omega (arith, few (c .before .before .before .before .before .before .before), one-last c)
+
+add-result : tie.Need-add-result Inv-loop μ-loop
+add-result c = omega (arith, few (c .before .before .before .before .before .before .before))
+
+mul-result : tie.Need-mul-result Inv-loop μ-loop
+mul-result c = omega (arith, few (c .before .before .before .before .before .before .before), one-last c)
+
+add-result-2 : tie.Need-add-result-2 Inv-loop μ-loop
+add-result-2 c = omega (arith, few (c .before .before .before .before .before .before .before), one-last c)
+
+returns-6 : tie.Need-returns-6 Inv-loop μ-loop
+returns-6 c =
+    let l = c .before .before .before .before .before .before .before in
+    let g = l .before .before .before .before .before .before .before .before .before in
+    pending-done (g .args .counts .now) (g .args .s .now) _ (l .loop .item .now) (l .loop .n) (l .loop .count + hostUnit * l .loop .hosts) (l .loop .inv .0) (g .pre) (g .args .form) (l .before .before .before .before .before .before .before .id-size .ensures) (c .before .before .before .before .before .if5 .left) _
+    (omega (arith, c .one-if2 .ensures, ap weightOf (c .before .past-length2 .ensures)))
 
 pub count-form-spec : {M : Type 1} → statement M
 count-form-spec =
@@ -217,42 +244,49 @@ count-form-spec =
     Inv-loop
     μ-loop
     id-size-requires
-    ended-requires
     returns
+    cast-result
+    returns-2
+    sub-item
+    part-item-start
+    part-item-end
+    shared-slice-read-after
+    after-requires
+    cast-result-2
+    returns-3
+    cast-n
+    loop-holds
+    add-loop
+    add-loop-2
+    add-head
     sub-head
     part-head-start
     part-head-end
-    loop-holds
-    add-loop
-    shared-slice-read-bits
-    after-requires
-    cast-result
-    returns-2
-    add-rest
-    sub-rest
-    part-rest-start
-    part-rest-end
-    cast-m
-    cast-result-2
-    returns-3
-    add-past-length
+    shared-slice-read-after-2
+    after-requires-2
+    cast-result-3
+    returns-4
     shared-slice-read-past-length
+    shared-slice-read-past-length-2
     past-length-requires
     one-if-requires
     add-hosts
     add-count
-    add-if4
-    mul-ended
-    add-ended
-    ended-requires-2
-    returns-4
-    sub-head-2
-    part-head-start-2
-    part-head-end-2
+    sub-item-2
+    part-item-start-2
+    part-item-end-2
+    cast-n-2
     loop-less
     loop-again
-    add-ended-2
-    mul-ended-2
-    add-ended-3
-    ended-requires-3
-    returns-5)
+    add-if5
+    cast-result-4
+    returns-5
+    shared-slice-read-past-length-3
+    shared-slice-read-past-length-4
+    past-length-requires-2
+    one-if-requires-2
+    add-hosts-2
+    add-result
+    mul-result
+    add-result-2
+    returns-6)

@@ -16,7 +16,9 @@ hosts-in-requires-2 : tie.Need-hosts-in-requires-2
 hosts-in-requires-2 c κs = search needs
 
 cast-word-2 : tie.Need-cast-word-2
-cast-word-2 c = omega (arith, c .hosts-in2 .ensures, rw (c .before .before .before .a .given .1) at (c .before .before .before .before .before .pre) .b)
+cast-word-2 c =
+    let narrow = rw (c .before .before .before .a .given .1) at (c .before .before .before .before .before .pre) in
+    omega (arith, c .hosts-in2 .ensures, narrow .a, narrow .b)
 
 word-requires : tie.Need-word-requires
 word-requires c κs = search needs
