@@ -18,7 +18,7 @@ use Rattle.families.specs.declared.AddPath.{AddPath}
 use Rattle.families.specs.declared.Form.{Form}
 use Rattle.families.specs.declared.Afi.the-variants.{Ipv4}
 use Rattle.routes.specs.List.{hostsOf, sectionOf}
-use Rattle.routes.specs.Promises.{listMeaning, rowsIn, hasRoom, countAnswer}
+use Rattle.routes.specs.Promises.{listMeaning, rowsIn, hostsIn, hasRoom, countAnswer}
 use Rattle.routes.proofs.ListLaws.{beside-rows}
 use Rattle.routes.specs.declared.Row.{Row}
 use Rattle.routes.specs.declared.ListAnswer.{ListAnswer}
@@ -38,7 +38,7 @@ use Rattle.update_writer.specs.Body.{bodyBytes, bodyAnswer}
 use Rattle.update_writer.proofs.RoundTrip.{body-cases}
 use Rattle.words.specs.Word.{inFields, wordOf, Narrow}
 use Rattle.words.proofs.WordLaws.{refused-narrow, number-narrow}
-use Rattle.firmware.specs.Fields.{partFields, updateFields, hostFields, bodyRows}
+use Rattle.firmware.specs.Fields.{partFields, updateFields, bodyRows}
 use Rattle.firmware.proofs.Bounds.{answer-any}
 use Rattle.firmware.proofs.ListBounds.{section-modest, Small, count-small}
 
@@ -69,6 +69,9 @@ if-narrow : (p : PartsAnswer) (u : UpdateAnswer) → Narrow (updateFields u) →
 if-narrow (S.Parts w a n) u h = h
 if-narrow (S.Refused m) u h = refused-narrow m
 
+pub section-hosts-few : (s : List ℕ) (mode : AddPath) → hostsIn (counted s mode) ≤ 65535
+section-hosts-few s mode = count-small s _ (maxOf Ipv4) mode (section-modest s (maxOf Ipv4) mode) .hosts
+
 module _ (b : List ℕ) (mode : AddPath) where
   both-small : Small (counted (withdrawnOf b) mode) × Small (counted (announcedOf b) mode)
   both-small = (
@@ -79,14 +82,6 @@ module _ (b : List ℕ) (mode : AddPath) where
   pub count-update-narrow : Narrow (updateFields (countUpdate b mode))
   unfolding countUpdate
   count-update-narrow = if-narrow (partsOf b) _ (update-narrow _ _ (both-small .0) (both-small .1))
-
-  pub count-hosts-narrow : Narrow (hostFields (countUpdate b mode))
-  unfolding countUpdate
-  count-hosts-narrow = by (partsOf b)
-    where
-      by : (p : PartsAnswer) → Narrow (hostFields (ifParts p (U.Update (counted (withdrawnOf b) mode) (counted (announcedOf b) mode))))
-      by (S.Parts w a n) = record { a = omega (arith, both-small .0 .hosts); b = omega (arith, both-small .1 .hosts); c = omega arith }
-      by (S.Refused m) = refused-narrow m
 
   pub read-update-narrow : (places places′ : ℕ) → Narrow (updateFields (readUpdate b mode places places′))
   unfolding readUpdate readPair

@@ -10,6 +10,7 @@ ghost use Rattle.words.specs.Settings.{formOf};
 ghost use Rattle.words.specs.Word.{inFields, wordOf, Narrow};
 ghost use Rattle.firmware.specs.Fields.{partFields, updateFields, hostFields};
 use super::write_word;
+use families::Afi;
 use families::mode_of;
 use routes::hosts_in;
 use routes::rows_in;
@@ -102,26 +103,24 @@ pub extern "C" fn doorbramble_count_bgp_update_message(body: &[u8], settings: u8
     update_word(updates::count_bgp_update_message(body, mode_of(settings)))
 }
 
-// The rows of both sections that have a bit set past their length, as a word.
-fn host_word(a: UpdateAnswer) -> u64
-    requires { ⌜ Narrow (hostFields a) ⌝ }
-    ensures { λ r. ⌜ r ≡ wordOf (hostFields a) ⌝ }
-{
-    match a {
-        UpdateAnswer::Update {
-            withdrawn,
-            announced,
-        } => word(hosts_in(withdrawn) as u16, hosts_in(announced) as u16, 0, 0),
-        UpdateAnswer::Refused(n) => word(0, 0, 0, n),
-    }
-}
-
 // How many routes of each section of an UPDATE body have a bit set past their length, for which the word of an UPDATE has no field left.
 #[no_mangle]
 pub extern "C" fn doorbramble_count_update_hosts(body: &[u8], settings: u8) -> u64
     ensures { λ r. ⌜ r ≡ wordOf (hostFields (countUpdate (now (body .entry)) (modeOf settings))) ⌝ }
 {
-    host_word(updates::count_bgp_update_message(body, mode_of(settings)))
+    match updates::update_parts(body) {
+        PartsAnswer::Parts {
+            withdrawn: _,
+            attributes: _,
+            announced: _,
+        } => {
+            let mode = mode_of(settings);
+            let first = routes::count_nlri(updates::withdrawn_part(body), Afi::Ipv4, mode);
+            let second = routes::count_nlri(updates::announced_part(body), Afi::Ipv4, mode);
+            word(hosts_in(first) as u16, hosts_in(second) as u16, 0, 0)
+        }
+        PartsAnswer::Refused(n) => word(0, 0, 0, n),
+    }
 }
 
 // The routes of an UPDATE body, into a lent store for each section.

@@ -1,25 +1,102 @@
-use Rattle.words.proofs.WordLaws.{told}
-use Rattle.firmware.specs.Fields.{hostFields}
-use Rattle.firmware.proofs.UpdateBounds.{count-hosts-narrow}
+use mathlib.Core.Path.{_≡_, sym, ap, ap₂, _∙_}
+use native.Mathlib.Omega.{arith}
+use Prim.Native.Nat.{ℕ}
+use Rattle.families.specs.Family.{modeOf}
+use Rattle.routes.specs.Promises.{hostsIn}
+use Rattle.updates.specs.Update.{counted, countUpdate}
+use Rattle.updates.specs.Body.{withdrawnOf, announcedOf}
+use Rattle.updates.proofs.BodyLaws.{holds-withdrawn, holds-announced}
+use Rattle.words.specs.Word.{fields, wordOf}
+use Rattle.firmware.proofs.UpdateBounds.{section-hosts-few}
 use borrow.Author.Needs.{needs}
 use Rattle.firmware.proofs.update.doorbramble_count_update_hosts.Statement.{statement}
 use Rattle.firmware.proofs.update.doorbramble_count_update_hosts.Tie as tie
 
+update-parts-requires : tie.Need-update-parts-requires
+update-parts-requires c κs = search needs
+
+enum-told : tie.Need-enum-told
+enum-told c = search needs
+
 mode-of-requires : tie.Need-mode-of-requires
 mode-of-requires c κs = search needs
 
-count-bgp-update-message-requires : tie.Need-count-bgp-update-message-requires
-count-bgp-update-message-requires c κs = search needs
+withdrawn-part-requires : tie.Need-withdrawn-part-requires
+withdrawn-part-requires c κs = search needs
 
-host-word-requires : tie.Need-host-word-requires
-host-word-requires c κs = rw (c .count-bgp-update-message .ensures) (count-hosts-narrow _ _)
+count-nlri-requires : tie.Need-count-nlri-requires
+count-nlri-requires c κs = search needs
+
+announced-part-requires : tie.Need-announced-part-requires
+announced-part-requires c κs = search needs
+
+count-nlri-requires-2 : tie.Need-count-nlri-requires-2
+count-nlri-requires-2 c κs = search needs
+
+hosts-in-requires : tie.Need-hosts-in-requires
+hosts-in-requires c κs = search needs
+
+-- of each section, how many rows have a host bit
+first : (c : tie.After-hosts-in) → let a = c .before .before .before .before .before .before .before .before .before .before .args in c .hosts-in .result ≡ hostsIn (counted (withdrawnOf (a .body .now)) (modeOf (a .settings)))
+first c =
+    let part = c .before .before .before .before .withdrawn-part in
+    let a = c .before .before .before .before .before .before .before .before .before .before .args in
+    c .hosts-in .ensures
+    ∙ ap hostsIn (c .before .before .before .count-nlri .ensures ∙ ap₂ counted (holds-withdrawn (a .body) _ (part .ensures)) (c .before .before .before .before .before .mode-of .ensures))
+
+cast-word : tie.Need-cast-word
+cast-word c = let a = c .before .before .before .before .before .before .before .before .before .before .args in omega (arith, first c, section-hosts-few (withdrawnOf (a .body .now)) (modeOf (a .settings)))
+
+hosts-in-requires-2 : tie.Need-hosts-in-requires-2
+hosts-in-requires-2 c κs = search needs
+
+second : (c : tie.After-hosts-in2) → let a = c .before .before .before .before .before .before .before .before .before .before .before .args in c .hosts-in2 .result ≡ hostsIn (counted (announcedOf (a .body .now)) (modeOf (a .settings)))
+second c =
+    let part = c .before .before .before .announced-part in
+    let a = c .before .before .before .before .before .before .before .before .before .before .before .args in
+    c .hosts-in2 .ensures
+    ∙ ap hostsIn (c .before .before .count-nlri2 .ensures ∙ ap₂ counted (holds-announced (a .body) _ (part .ensures)) (c .before .before .before .before .before .before .mode-of .ensures))
+
+cast-word-2 : tie.Need-cast-word-2
+cast-word-2 c = let a = c .before .before .before .before .before .before .before .before .before .before .before .args in omega (arith, second c, section-hosts-few (announcedOf (a .body .now)) (modeOf (a .settings)))
+
+word-requires : tie.Need-word-requires
+word-requires c κs = search needs
+
+enum-known-n : tie.Need-enum-known-n
+enum-known-n c = search needs
+
+word-requires-2 : tie.Need-word-requires-2
+word-requires-2 c κs = search needs
 
 returns : tie.Need-returns
+unfolding countUpdate
 returns c =
-    let e = rw (c .before .before .mode-of .ensures) at (c .before .count-bgp-update-message .ensures) in
-    told hostFields (c .host-word .ensures) e
+    let k = c .before .before .before .before .before .before .before .before in
+    rw (sym (k .before .before .update-parts .ensures) ∙ k .enum-told .given .1)
+    (c .word .ensures ∙ ap₂ (λ (w a : ℕ). wordOf (fields w a 0 0)) (first (c .before .before)) (second (c .before)))
+
+returns-2 : tie.Need-returns-2
+unfolding countUpdate
+returns-2 c = rw (sym (c .before .before .before .before .update-parts .ensures) ∙ c .before .before .n .given .1) (c .word2 .ensures)
 
 pub doorbramble-count-update-hosts-spec : {M : Type 1} → statement M
 doorbramble-count-update-hosts-spec =
     tie.close
-    (tie.spec mode-of-requires count-bgp-update-message-requires host-word-requires returns)
+    (tie.spec
+    update-parts-requires
+    enum-told
+    mode-of-requires
+    withdrawn-part-requires
+    count-nlri-requires
+    announced-part-requires
+    count-nlri-requires-2
+    hosts-in-requires
+    cast-word
+    hosts-in-requires-2
+    cast-word-2
+    word-requires
+    enum-known-n
+    word-requires-2
+    returns
+    returns-2)
