@@ -142,7 +142,7 @@ fn host_at(s: &[u8], n: usize, used: usize, form: Form, past: &[u8; 8]) -> bool
     requires { ⌜ now past ≡ pastMasks ⌝ }
     ensures { λ r. ⌜ r ≡ hostBits form (take used (drop n (now (s .entry)))) ⌝ }
 {
-    past_length(s[n + families::id_size(form)], s[n + used - 1], past)
+    past_length(s[n + families::id_size(form)], s[used - 1 + n], past)
 }
 
 // One route, in a form: the bytes it takes and its row, and whether it has a bit set past its length.
