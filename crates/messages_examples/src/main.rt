@@ -268,7 +268,7 @@ fn bodies() {
     );
     show_update(
         b"host bits",
-        b"\x00\x03\x09\x0A\xFF\x00\x00\x09\x0A\xFF\x09\x0A\x80\x01\x01",
+        b"\x00\x03\x09\x0A\x80\x00\x00\x09\x0A\xFF",
         AddPath::Off,
     );
     show_update(

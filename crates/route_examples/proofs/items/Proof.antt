@@ -5,10 +5,10 @@ use Rattle.route_examples.proofs.items.Statement.{statement}
 use Rattle.route_examples.proofs.items.Tie as tie
 
 abbrev Inv-loop : tie.InvT-loop
-Inv-loop s form at₀ t8 at = at ≤ length s
+Inv-loop s form at₀ t10 t11 at = at ≤ length s
 
 abbrev μ-loop : tie.MeasureT-loop
-μ-loop s form at₀ t8 at = length s - at
+μ-loop s form at₀ t10 t11 at = length s - at
 
 slice-aggregate-text : tie.Need-slice-aggregate-text Inv-loop μ-loop
 slice-aggregate-text c = search needs
@@ -31,8 +31,8 @@ part-try-parse-prefix-end c = search needs
 try-parse-prefix-requires : tie.Need-try-parse-prefix-requires Inv-loop μ-loop
 try-parse-prefix-requires c κs = search needs
 
-enum-known-used : tie.Need-enum-known-used Inv-loop μ-loop
-enum-known-used c = search needs
+enum-known-prefix : tie.Need-enum-known-prefix Inv-loop μ-loop
+enum-known-prefix c = search needs
 
 sub-if1 : tie.Need-sub-if1 Inv-loop μ-loop
 sub-if1 c = search needs
@@ -46,6 +46,12 @@ returns-2 c = search needs
 show-row-requires : tie.Need-show-row-requires Inv-loop μ-loop
 show-row-requires c κs = search needs
 
+slice-aggregate-text-2 : tie.Need-slice-aggregate-text-2 Inv-loop μ-loop
+slice-aggregate-text-2 c = search needs
+
+text-requires-2 : tie.Need-text-requires-2 Inv-loop μ-loop
+text-requires-2 c κs = search needs
+
 add-at : tie.Need-add-at Inv-loop μ-loop
 add-at c = search needs
 
@@ -55,14 +61,14 @@ loop-less c = search needs
 loop-again : tie.Need-loop-again Inv-loop μ-loop
 loop-again c = search needs
 
-enum-known-n : tie.Need-enum-known-n Inv-loop μ-loop
-enum-known-n c = search needs
+enum-known-prefix-2 : tie.Need-enum-known-prefix-2 Inv-loop μ-loop
+enum-known-prefix-2 c = search needs
 
-slice-aggregate-text-2 : tie.Need-slice-aggregate-text-2 Inv-loop μ-loop
-slice-aggregate-text-2 c = search needs
+slice-aggregate-text-3 : tie.Need-slice-aggregate-text-3 Inv-loop μ-loop
+slice-aggregate-text-3 c = search needs
 
-text-requires-2 : tie.Need-text-requires-2 Inv-loop μ-loop
-text-requires-2 c κs = search needs
+text-requires-3 : tie.Need-text-requires-3 Inv-loop μ-loop
+text-requires-3 c κs = search needs
 
 refused-requires : tie.Need-refused-requires Inv-loop μ-loop
 refused-requires c κs = search needs
@@ -86,17 +92,19 @@ items-spec =
     part-try-parse-prefix-start
     part-try-parse-prefix-end
     try-parse-prefix-requires
-    enum-known-used
+    enum-known-prefix
     sub-if1
     returns
     returns-2
     show-row-requires
+    slice-aggregate-text-2
+    text-requires-2
     add-at
     loop-less
     loop-again
-    enum-known-n
-    slice-aggregate-text-2
-    text-requires-2
+    enum-known-prefix-2
+    slice-aggregate-text-3
+    text-requires-3
     refused-requires
     returns-3
     returns-4)
