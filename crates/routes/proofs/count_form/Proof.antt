@@ -200,7 +200,7 @@ returns-5 : tie.Need-returns-5 Inv-loop μ-loop
 returns-5 c =
     let l = c .before .before in
     let g = l .before .before .before .before .before .before .before .before .before in
-    pending-cut (g .args .counts .now) (g .args .s .now) _ (l .loop .item .now) (l .loop .n) (l .loop .count + hostUnit * l .loop .hosts) (l .loop .inv .0) (g .pre) (g .args .form) (l .before .before .before .before .before .before .before .id-size .ensures) (c .if5 .taken) (omega (arith, c .before .loop-test .left))
+    pending-cut (g .args .counts .now) (g .args .s .now) _ (l .loop .item .now) (l .loop .n) (l .loop .count + hostUnit * l .loop .hosts) (l .loop .inv .0) (g .pre) (g .args .form) (l .before .before .before .before .before .before .before .id-size .ensures) (λ e. omega (arith, e, c .if5 .taken)) (omega (arith, c .before .loop-test .left))
 
 shared-slice-read-past-length-3 : tie.Need-shared-slice-read-past-length-3 Inv-loop μ-loop
 shared-slice-read-past-length-3 c = omega (arith, few (c .before .before .before))
@@ -234,7 +234,7 @@ returns-6 : tie.Need-returns-6 Inv-loop μ-loop
 returns-6 c =
     let l = c .before .before .before .before .before .before .before in
     let g = l .before .before .before .before .before .before .before .before .before in
-    pending-done (g .args .counts .now) (g .args .s .now) _ (l .loop .item .now) (l .loop .n) (l .loop .count + hostUnit * l .loop .hosts) (l .loop .inv .0) (g .pre) (g .args .form) (l .before .before .before .before .before .before .before .id-size .ensures) (c .before .before .before .before .before .if5 .left) _
+    pending-done (g .args .counts .now) (g .args .s .now) _ (l .loop .item .now) (l .loop .n) (l .loop .count + hostUnit * l .loop .hosts) (l .loop .inv .0) (g .pre) (g .args .form) (l .before .before .before .before .before .before .before .id-size .ensures) (omega (arith, c .before .before .before .before .before .if5 .left)) _
     (omega (arith, c .one-if2 .ensures, ap weightOf (c .before .past-length2 .ensures)))
 
 pub count-form-spec : {M : Type 1} → statement M
