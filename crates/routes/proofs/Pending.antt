@@ -11,13 +11,12 @@ use lib.ListN.{length, getD, take, drop, length-drop}
 use lib.Seq.{drop-drop, getD-drop}
 use Rattle.wire.proofs.Turn.{rest}
 use Rattle.wire.specs.Refusal.{truncated, prefixLength, pastAll, listLimit}
-use Rattle.wire.specs.Walk.{took, stop}
+use Rattle.wire.specs.Walk.{stop}
 use Rattle.families.specs.Family.{idSize}
 use Rattle.families.specs.Octets.{refusedLength, entry}
 use Rattle.families.proofs.FamilyLaws.{id-one}
 use Rattle.families.specs.declared.Form.{Form}
-use Rattle.routes.specs.Prefix.{hostBits}
-use Rattle.routes.specs.List.{asStep, fixed, stepBy}
+use Rattle.routes.specs.List.{asStep, fixed}
 use Rattle.routes.specs.ByTable.{endBy, byTable}
 use Rattle.routes.specs.Promises.{hostUnit}
 use Rattle.routes.specs.Private.{pastLength, weightOf}
