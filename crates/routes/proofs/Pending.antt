@@ -169,34 +169,36 @@ module _ (counts s : List ℕ) (k : ℕ) (item : List ℕ) (n count : ℕ) (h : 
       head-is : head ≡ drop (h .at + k + (k + 1)) s
       head-is = e ∙ rest item (k + 1) ∙ ap (drop (k + 1)) (h .is) ∙ drop-drop (k + 1) (h .at + k) s
 
-      pub head-long : length head ≡ length item - (k + 1)
-      head-long = ap length e ∙ ap length (rest item (k + 1)) ∙ length-drop (k + 1) item
-
       next-at : ℕ
       next-at = h .at + (k + 1 + n)
+
+      next-byte : (i : ℕ) → i ≡ next-at + k → getD s i 0 ≡ getD head n 0
+      unfolding next-at
+      next-byte i at =
+          let place : i ≡ h .at + k + (k + 1) + n = omega (arith, at) in
+          ap (λ (j : ℕ). getD s j 0) place ∙ sym (ap (λ (l : List ℕ). getD l n 0) head-is ∙ getD-drop (h .at + k + (k + 1)) s n 0)
 
       pub pending-long : m ≡ refusedLength → TellsList (byTable counts) (fixed form) s prefixLength
       unfolding next-at
       pending-long refused =
           let t = taken (omega (arith, fits)) _ refl in
-          let place : h .at + k + (k + 1) + n ≡ next-at + idSize (h .form) = omega (arith, h .ids) in
           let byte : getD (drop next-at s) (idSize (h .form)) 0 ≡ getD head n 0 =
-          getD-drop next-at s (idSize (h .form)) 0
-          ∙ ap (λ (i : ℕ). getD s i 0) (sym place)
-          ∙ sym (ap (λ (l : List ℕ). getD l n 0) head-is ∙ getD-drop (h .at + k + (k + 1)) s n 0) in
+          getD-drop next-at s (idSize (h .form)) 0 ∙ next-byte (next-at + idSize (h .form)) (omega (arith, h .ids)) in
           stops next-at _ prefixLength (t .1) (omega (arith, fits, size, h .there))
           (ap (asStep (h .form)) (table-long counts (drop next-at s) (h .form) (omega (arith, fits, size, h .there, h .ids, length-drop next-at s)) (ap (entry counts) byte ∙ sym tells ∙ refused)))
 
       pub pending-next : (m ≡ refusedLength → ⊥) → (sum : ℕ) → sum ≡ count + weightOf (pastLength (getD item 0 0) (getD item n 0))
-          → Pending counts s k (take (length head - n) (drop n head)) m sum × (length (take (length head - n) (drop n head)) < length item)
+          → let b = n + k + 1 in
+          Pending counts s k (take (length item - b) (drop b item)) m sum × (length (take (length item - b) (drop b item)) < length item)
       unfolding next-at
       pending-next good sum adds =
+          let b : ℕ = n + k + 1 in
           let t = taken (omega (arith, fits)) sum adds in
-          let place : h .at + k + (k + 1) + n ≡ next-at + k = omega arith in
-          let from : take (length head - n) (drop n head) ≡ drop (next-at + k) s =
-          rest head n ∙ ap (drop n) head-is ∙ drop-drop n (h .at + k + (k + 1)) s ∙ ap (λ (i : ℕ). drop i s) place in
-          let first : getD (take (length head - n) (drop n head)) 0 0 ≡ getD head n 0 =
-          (let on : n + 0 ≡ n = omega arith in ap (λ (l : List ℕ). getD l 0 0) (rest head n) ∙ getD-drop n head 0 0 ∙ ap (λ (i : ℕ). getD head i 0) on) in (
+          let place : h .at + k + b ≡ next-at + k = omega arith in
+          let from : take (length item - b) (drop b item) ≡ drop (next-at + k) s =
+          rest item b ∙ ap (drop b) (h .is) ∙ drop-drop b (h .at + k) s ∙ ap (λ (i : ℕ). drop i s) place in
+          let first : getD (take (length item - b) (drop b item)) 0 0 ≡ getD head n 0 =
+          ap (λ (l : List ℕ). getD l 0 0) from ∙ getD-drop (next-at + k) s 0 0 ∙ next-byte (next-at + k + 0) (omega arith) in (
             record {
               form = h .form;
               at = next-at;
@@ -207,5 +209,5 @@ module _ (counts s : List ℕ) (k : ℕ) (item : List ℕ) (n count : ℕ) (h : 
               known = good;
               packed = t .1;
             },
-            omega (arith, fits, head-long, ap length (rest head n), length-drop n head),
+            omega (arith, fits, ap length (rest item b), length-drop b item),
           )

@@ -135,6 +135,15 @@ fn past_length(bits: u8, last: u8, past: &[u8; 8]) -> bool
     last & past[(bits % 8) as usize] != 0
 }
 
+// Whether an item has one whose length byte stands first in `item`, and whose last byte at place n.
+fn host_of(item: &[u8], n: usize, past: &[u8; 8]) -> bool
+    requires { ⌜ n < length (now item) ⌝ }
+    requires { ⌜ now past ≡ pastMasks ⌝ }
+    ensures { λ r. ⌜ r ≡ pastLength (getD (now (item .entry)) 0 0) (getD (now (item .entry)) n 0) ⌝ }
+{
+    past_length(item[0], item[n], past)
+}
+
 // Whether the item of `used` bytes at place n has a bit set past its length.
 fn host_at(s: &[u8], n: usize, used: usize, form: Form, past: &[u8; 8]) -> bool
     requires { ⌜ idSize form + 1 ≤ used ⌝ }
@@ -279,15 +288,15 @@ fn count_form(s: &[u8], counts: &[u8; 256], form: Form) -> usize
         if next == octets::REFUSED {
             return refusal::PREFIX_LENGTH as usize;
         }
-        hosts = hosts + one_if(past_length(item[0], item[n], &past));
+        hosts = hosts + one_if(host_of(item, n, &past));
         count = count + 1;
-        item = &head[n..];
+        item = &item[n + k + 1..];
         n = next as usize;
     }
     if item.len() != n + 1 {
         return refusal::TRUNCATED as usize;
     }
-    hosts = hosts + one_if(past_length(item[0], item[n], &past));
+    hosts = hosts + one_if(host_of(item, n, &past));
     count + 1 + HOST_UNIT * hosts
 }
 

@@ -127,40 +127,40 @@ returns-4 c =
     let g = l .before .before .before .before .before .before .before .before .before in
     pending-long (g .args .counts .now) (g .args .s .now) _ (l .loop .item .now) (l .loop .n) (l .loop .count + hostUnit * l .loop .hosts) (l .loop .inv .0) (g .pre) (g .args .form) (l .before .before .before .before .before .before .before .id-size .ensures) (t .before .before .before .loop-test .taken) _ refl _ (t .after2 .ensures) (c .if4 .taken)
 
-shared-slice-read-past-length : tie.Need-shared-slice-read-past-length Inv-loop μ-loop
-shared-slice-read-past-length c = omega (arith, few (c .before .before .before .before .before .before))
-
-shared-slice-read-past-length-2 : tie.Need-shared-slice-read-past-length-2 Inv-loop μ-loop
-shared-slice-read-past-length-2 c = omega (arith, c .before .before .before .before .before .before .loop-test .taken)
-
-past-length-requires : tie.Need-past-length-requires Inv-loop μ-loop
-past-length-requires c κs = refl
+host-of-requires : tie.Need-host-of-requires Inv-loop μ-loop
+host-of-requires c κs = (omega (arith, c .before .before .before .before .before .loop-test .taken), refl)
 
 one-if-requires : tie.Need-one-if-requires Inv-loop μ-loop
 one-if-requires c κs = search needs
 
 -- whether the item has a host bit, as a number
 one : (c : tie.After-one-if Inv-loop μ-loop) → c .one-if .result ≤ 1
-one c = omega (arith, c .one-if .ensures, weight-few (c .before .past-length .result) .1)
+one c = omega (arith, c .one-if .ensures, weight-few (c .before .host-of .result) .1)
 
 -- what is counted with it
 added : (c : tie.After-one-if Inv-loop μ-loop) →
-    let l = c .before .before .before .before .before .before .before .before .before .before in
+    let l = c .before .before .before .before .before .before .before .before in
     l .loop .count + 1 + hostUnit * (l .loop .hosts + c .one-if .result)
     ≡ l .loop .count + hostUnit * l .loop .hosts + weightOf (pastLength (getD (l .loop .item .now) 0 0) (getD (l .loop .item .now) (l .loop .n) 0))
-added c = omega (arith, c .one-if .ensures, ap weightOf (c .before .past-length .ensures))
+added c = omega (arith, c .one-if .ensures, ap weightOf (c .before .host-of .ensures))
 
 add-hosts : tie.Need-add-hosts Inv-loop μ-loop
-add-hosts c = omega (arith, few (c .before .before .before .before .before .before .before .before .before .before), one c)
+add-hosts c = omega (arith, few (c .before .before .before .before .before .before .before .before), one c)
 
 add-count : tie.Need-add-count Inv-loop μ-loop
-add-count c = omega (arith, few (c .before .before .before .before .before .before .before .before .before .before))
+add-count c = omega (arith, few (c .before .before .before .before .before .before .before .before))
+
+add-item : tie.Need-add-item Inv-loop μ-loop
+add-item c = omega (arith, few (c .before .before .before .before .before .before .before .before))
+
+add-item-2 : tie.Need-add-item-2 Inv-loop μ-loop
+add-item-2 c = omega (arith, few (c .before .before .before .before .before .before .before .before))
 
 sub-item-2 : tie.Need-sub-item-2 Inv-loop μ-loop
-sub-item-2 c = omega (arith, inside (c .before .before .before .before .before .before .before .before .before))
+sub-item-2 c = omega (arith, c .before .before .before .before .before .before .before .loop-test .taken)
 
 part-item-start-2 : tie.Need-part-item-start-2 Inv-loop μ-loop
-part-item-start-2 c = omega (arith, inside (c .before .before .before .before .before .before .before .before .before))
+part-item-start-2 c = omega (arith, c .before .before .before .before .before .before .before .loop-test .taken)
 
 part-item-end-2 : tie.Need-part-item-end-2 Inv-loop μ-loop
 part-item-end-2 c = search needs
@@ -170,19 +170,18 @@ cast-n-2 c = search needs
 
 -- what holds after an item, of the one that is then carried
 next : (c : tie.After-one-if Inv-loop μ-loop) →
-    let t = c .before .before .before .before .before .before in
+    let t = c .before .before .before .before in
     let l = t .before .before .before .before in
     let i = l .before .before .before .before .before .before .before in
     let a = i .before .before .args in
-    let k = i .id-size .result in
-    let head = take (length (l .loop .item .now) - (k + 1)) (drop (k + 1) (l .loop .item .now)) in
-    let item = take (length head - l .loop .n) (drop (l .loop .n) head) in
-    Pending (a .counts .now) (a .s .now) k item (t .after2 .result) (l .loop .count + 1 + hostUnit * (l .loop .hosts + c .one-if .result)) × (length item < length (l .loop .item .now))
+    let b = l .loop .n + i .id-size .result + 1 in
+    let item = take (length (l .loop .item .now) - b) (drop b (l .loop .item .now)) in
+    Pending (a .counts .now) (a .s .now) (i .id-size .result) item (t .after2 .result) (l .loop .count + 1 + hostUnit * (l .loop .hosts + c .one-if .result)) × (length item < length (l .loop .item .now))
 next c =
-    let t = c .before .before .before .before .before .before in
+    let t = c .before .before .before .before in
     let l = t .before .before .before .before in
     let g = l .before .before .before .before .before .before .before .before .before in
-    pending-next (g .args .counts .now) (g .args .s .now) _ (l .loop .item .now) (l .loop .n) (l .loop .count + hostUnit * l .loop .hosts) (l .loop .inv .0) (g .pre) (g .args .form) (l .before .before .before .before .before .before .before .id-size .ensures) (t .before .before .before .loop-test .taken) _ refl _ (t .after2 .ensures) (c .before .before .before .before .before .if4 .left) _ (added c)
+    pending-next (g .args .counts .now) (g .args .s .now) _ (l .loop .item .now) (l .loop .n) (l .loop .count + hostUnit * l .loop .hosts) (l .loop .inv .0) (g .pre) (g .args .form) (l .before .before .before .before .before .before .before .id-size .ensures) (t .before .before .before .loop-test .taken) _ refl _ (t .after2 .ensures) (c .before .before .before .if4 .left) _ (added c)
 
 loop-less : tie.Need-loop-less Inv-loop μ-loop
 loop-less c = next (c .before) .1
@@ -202,40 +201,34 @@ returns-5 c =
     let g = l .before .before .before .before .before .before .before .before .before in
     pending-cut (g .args .counts .now) (g .args .s .now) _ (l .loop .item .now) (l .loop .n) (l .loop .count + hostUnit * l .loop .hosts) (l .loop .inv .0) (g .pre) (g .args .form) (l .before .before .before .before .before .before .before .id-size .ensures) (λ e. omega (arith, e, c .if5 .taken)) (omega (arith, c .before .loop-test .left))
 
-shared-slice-read-past-length-3 : tie.Need-shared-slice-read-past-length-3 Inv-loop μ-loop
-shared-slice-read-past-length-3 c = omega (arith, few (c .before .before .before))
-
-shared-slice-read-past-length-4 : tie.Need-shared-slice-read-past-length-4 Inv-loop μ-loop
-shared-slice-read-past-length-4 c = omega (arith, c .before .before .if5 .left)
-
-past-length-requires-2 : tie.Need-past-length-requires-2 Inv-loop μ-loop
-past-length-requires-2 c κs = refl
+host-of-requires-2 : tie.Need-host-of-requires-2 Inv-loop μ-loop
+host-of-requires-2 c κs = (omega (arith, c .before .if5 .left), refl)
 
 one-if-requires-2 : tie.Need-one-if-requires-2 Inv-loop μ-loop
 one-if-requires-2 c κs = search needs
 
 -- of the last item
 one-last : (c : tie.After-one-if2 Inv-loop μ-loop) → c .one-if2 .result ≤ 1
-one-last c = omega (arith, c .one-if2 .ensures, weight-few (c .before .past-length2 .result) .1)
+one-last c = omega (arith, c .one-if2 .ensures, weight-few (c .before .host-of2 .result) .1)
 
 add-hosts-2 : tie.Need-add-hosts-2 Inv-loop μ-loop
-add-hosts-2 c = omega (arith, few (c .before .before .before .before .before .before .before), one-last c)
+add-hosts-2 c = omega (arith, few (c .before .before .before .before .before), one-last c)
 
 add-result : tie.Need-add-result Inv-loop μ-loop
-add-result c = omega (arith, few (c .before .before .before .before .before .before .before))
+add-result c = omega (arith, few (c .before .before .before .before .before))
 
 mul-result : tie.Need-mul-result Inv-loop μ-loop
-mul-result c = omega (arith, few (c .before .before .before .before .before .before .before), one-last c)
+mul-result c = omega (arith, few (c .before .before .before .before .before), one-last c)
 
 add-result-2 : tie.Need-add-result-2 Inv-loop μ-loop
-add-result-2 c = omega (arith, few (c .before .before .before .before .before .before .before), one-last c)
+add-result-2 c = omega (arith, few (c .before .before .before .before .before), one-last c)
 
 returns-6 : tie.Need-returns-6 Inv-loop μ-loop
 returns-6 c =
-    let l = c .before .before .before .before .before .before .before in
+    let l = c .before .before .before .before .before in
     let g = l .before .before .before .before .before .before .before .before .before in
-    pending-done (g .args .counts .now) (g .args .s .now) _ (l .loop .item .now) (l .loop .n) (l .loop .count + hostUnit * l .loop .hosts) (l .loop .inv .0) (g .pre) (g .args .form) (l .before .before .before .before .before .before .before .id-size .ensures) (omega (arith, c .before .before .before .before .before .if5 .left)) _
-    (omega (arith, c .one-if2 .ensures, ap weightOf (c .before .past-length2 .ensures)))
+    pending-done (g .args .counts .now) (g .args .s .now) _ (l .loop .item .now) (l .loop .n) (l .loop .count + hostUnit * l .loop .hosts) (l .loop .inv .0) (g .pre) (g .args .form) (l .before .before .before .before .before .before .before .id-size .ensures) (omega (arith, c .before .before .before .if5 .left)) _
+    (omega (arith, c .one-if2 .ensures, ap weightOf (c .before .host-of2 .ensures)))
 
 pub count-form-spec : {M : Type 1} → statement M
 count-form-spec =
@@ -266,12 +259,12 @@ count-form-spec =
     after-requires-2
     cast-result-3
     returns-4
-    shared-slice-read-past-length
-    shared-slice-read-past-length-2
-    past-length-requires
+    host-of-requires
     one-if-requires
     add-hosts
     add-count
+    add-item
+    add-item-2
     sub-item-2
     part-item-start-2
     part-item-end-2
@@ -281,9 +274,7 @@ count-form-spec =
     add-if5
     cast-result-4
     returns-5
-    shared-slice-read-past-length-3
-    shared-slice-read-past-length-4
-    past-length-requires-2
+    host-of-requires-2
     one-if-requires-2
     add-hosts-2
     add-result
