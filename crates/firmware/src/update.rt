@@ -12,6 +12,7 @@ ghost use Rattle.firmware.specs.Fields.{partFields, updateFields, hostFi
 use super::write_word;
 use families::Afi;
 use families::mode_of;
+use families::octets;
 use routes::hosts_in;
 use routes::rows_in;
 use routes::verdict_in;
@@ -115,9 +116,15 @@ pub extern "C" fn doorbramble_count_update_hosts(body: &[u8], settings: u8) -> u
             announced: _,
         } => {
             let mode = mode_of(settings);
-            let first = routes::count_nlri(updates::withdrawn_part(body), Afi::Ipv4, mode);
-            let second = routes::count_nlri(updates::announced_part(body), Afi::Ipv4, mode);
-            word(hosts_in(first) as u16, hosts_in(second) as u16, 0, 0)
+            let counts = octets::counts(Afi::Ipv4);
+            let first = routes::count_section_by(updates::withdrawn_part(body), &counts, mode);
+            let second = routes::count_section_by(updates::announced_part(body), &counts, mode);
+            word(
+                hosts_in(routes::counted(first)) as u16,
+                hosts_in(routes::counted(second)) as u16,
+                0,
+                0,
+            )
         }
         PartsAnswer::Refused(n) => word(0, 0, 0, n),
     }

@@ -2,7 +2,9 @@ use mathlib.Core.Path.{_≡_, sym, ap, ap₂, _∙_}
 use native.Mathlib.Omega.{arith}
 use Prim.Native.Nat.{ℕ}
 use Rattle.families.specs.Family.{modeOf}
+use Rattle.families.specs.declared.Afi.the-variants.{Ipv4}
 use Rattle.routes.specs.Promises.{hostsIn}
+use Rattle.routes.proofs.TableLaws.{count-section-family}
 use Rattle.updates.specs.Update.{counted, countUpdate}
 use Rattle.updates.specs.Body.{withdrawnOf, announcedOf}
 use Rattle.updates.proofs.BodyLaws.{holds-withdrawn, holds-announced}
@@ -21,44 +23,61 @@ enum-told c = search needs
 mode-of-requires : tie.Need-mode-of-requires
 mode-of-requires c κs = search needs
 
+counts-requires : tie.Need-counts-requires
+counts-requires c κs = search needs
+
 withdrawn-part-requires : tie.Need-withdrawn-part-requires
 withdrawn-part-requires c κs = search needs
 
-count-nlri-requires : tie.Need-count-nlri-requires
-count-nlri-requires c κs = search needs
+count-section-by-requires : tie.Need-count-section-by-requires
+count-section-by-requires c κs = search needs
 
 announced-part-requires : tie.Need-announced-part-requires
 announced-part-requires c κs = search needs
 
-count-nlri-requires-2 : tie.Need-count-nlri-requires-2
-count-nlri-requires-2 c κs = search needs
+count-section-by-requires-2 : tie.Need-count-section-by-requires-2
+count-section-by-requires-2 c κs = search needs
+
+counted-requires : tie.Need-counted-requires
+counted-requires c κs = search needs
 
 hosts-in-requires : tie.Need-hosts-in-requires
 hosts-in-requires c κs = search needs
 
 -- of each section, how many rows have a host bit
-first : (c : tie.After-hosts-in) → let a = c .before .before .before .before .before .before .before .before .before .before .args in c .hosts-in .result ≡ hostsIn (counted (withdrawnOf (a .body .now)) (modeOf (a .settings)))
+first : (c : tie.After-hosts-in) → let a = c .before .before .before .before .before .before .before .before .before .before .before .before .before .before .args in c .hosts-in .result ≡ hostsIn (counted (withdrawnOf (a .body .now)) (modeOf (a .settings)))
 first c =
-    let part = c .before .before .before .before .withdrawn-part in
-    let a = c .before .before .before .before .before .before .before .before .before .before .args in
+    let m = c .before .before .before .before .before .before .before .before .before in
+    let part = c .before .before .before .before .before .before .before .withdrawn-part in
     c .hosts-in .ensures
-    ∙ ap hostsIn (c .before .before .before .count-nlri .ensures ∙ ap₂ counted (holds-withdrawn (a .body) _ (part .ensures)) (c .before .before .before .before .before .mode-of .ensures))
+    ∙ ap hostsIn
+    (c .before .counted .ensures
+    ∙ c .before .before .before .before .before .count-section-by .ensures
+    ∙ count-section-family _ Ipv4 (c .before .before .before .before .before .before .before .before .counts .ensures) (part .result .now) (m .mode-of .result)
+    ∙ ap₂ counted (holds-withdrawn (m .before .before .before .before .before .args .body) _ (part .ensures)) (m .mode-of .ensures))
 
 cast-word : tie.Need-cast-word
-cast-word c = let a = c .before .before .before .before .before .before .before .before .before .before .args in omega (arith, first c, section-hosts-few (withdrawnOf (a .body .now)) (modeOf (a .settings)))
+cast-word c = let a = c .before .before .before .before .before .before .before .before .before .before .before .before .before .before .args in omega (arith, first c, section-hosts-few (withdrawnOf (a .body .now)) (modeOf (a .settings)))
+
+counted-requires-2 : tie.Need-counted-requires-2
+counted-requires-2 c κs = search needs
 
 hosts-in-requires-2 : tie.Need-hosts-in-requires-2
 hosts-in-requires-2 c κs = search needs
 
-second : (c : tie.After-hosts-in2) → let a = c .before .before .before .before .before .before .before .before .before .before .before .args in c .hosts-in2 .result ≡ hostsIn (counted (announcedOf (a .body .now)) (modeOf (a .settings)))
+second : (c : tie.After-hosts-in2) → let a = c .before .before .before .before .before .before .before .before .before .before .before .before .before .before .before .before .args in c .hosts-in2 .result ≡ hostsIn (counted (announcedOf (a .body .now)) (modeOf (a .settings)))
 second c =
-    let part = c .before .before .before .announced-part in
-    let a = c .before .before .before .before .before .before .before .before .before .before .before .args in
+    let m = c .before .before .before .before .before .before .before .before .before .before .before in
+    let part = c .before .before .before .before .before .before .announced-part in
     c .hosts-in2 .ensures
-    ∙ ap hostsIn (c .before .before .count-nlri2 .ensures ∙ ap₂ counted (holds-announced (a .body) _ (part .ensures)) (c .before .before .before .before .before .before .mode-of .ensures))
+    ∙ ap hostsIn
+    (c .before .counted2 .ensures
+    ∙ c .before .before .before .before .count-section-by2 .ensures
+    ∙ count-section-family _ Ipv4 (c .before .before .before .before .before .before .before .before .before .before .counts .ensures) (part .result .now) (m .mode-of .result)
+    ∙ ap₂ counted (holds-announced (m .before .before .before .before .before .args .body) _ (part .ensures)) (m .mode-of .ensures))
 
 cast-word-2 : tie.Need-cast-word-2
-cast-word-2 c = let a = c .before .before .before .before .before .before .before .before .before .before .before .args in omega (arith, second c, section-hosts-few (announcedOf (a .body .now)) (modeOf (a .settings)))
+cast-word-2 c = let a = c .before .before .before .before .before .before .before .before .before .before .before .before .before .before .before .before .args in omega (arith, second c, section-hosts-few (announcedOf (a .body .now)) (modeOf (a .settings)))
 
 word-requires : tie.Need-word-requires
 word-requires c κs = search needs
@@ -72,9 +91,9 @@ word-requires-2 c κs = search needs
 returns : tie.Need-returns
 unfolding countUpdate
 returns c =
-    let k = c .before .before .before .before .before .before .before .before in
+    let k = c .before .before .before .before .before .before .before .before .before .before .before .before .before in
     rw (sym (k .before .before .update-parts .ensures) ∙ k .enum-told .given .1)
-    (c .word .ensures ∙ ap₂ (λ (w a : ℕ). wordOf (fields w a 0 0)) (first (c .before .before)) (second (c .before)))
+    (c .word .ensures ∙ ap₂ (λ (w a : ℕ). wordOf (fields w a 0 0)) (first (c .before .before .before)) (second (c .before)))
 
 returns-2 : tie.Need-returns-2
 unfolding countUpdate
@@ -87,12 +106,15 @@ doorbramble-count-update-hosts-spec =
     update-parts-requires
     enum-told
     mode-of-requires
+    counts-requires
     withdrawn-part-requires
-    count-nlri-requires
+    count-section-by-requires
     announced-part-requires
-    count-nlri-requires-2
+    count-section-by-requires-2
+    counted-requires
     hosts-in-requires
     cast-word
+    counted-requires-2
     hosts-in-requires-2
     cast-word-2
     word-requires
