@@ -1,4 +1,4 @@
-use mathlib.Core.Path.{_≡_, sym, _∙_}
+use mathlib.Core.Path.{_≡_, refl, sym, _∙_}
 use native.Mathlib.Omega.{arith}
 use Rattle.updates.specs.Update.{countUpdate}
 use Rattle.updates.specs.declared.UpdateAnswer.the-variants.{Update}
@@ -36,7 +36,7 @@ enum-known-n : tie.Need-enum-known-n
 enum-known-n c = search needs
 
 returns : tie.Need-returns
-returns c = rw (told (c .before .before), c .before .hosts-in .ensures, c .hosts-in2 .ensures)
+returns c = rw (told (c .before .before), c .before .hosts-in .ensures, c .hosts-in2 .ensures) refl
 
 returns-2 : tie.Need-returns-2
 returns-2 c = rw (sym (c .before .before .before .count-bgp-update-message .ensures) ∙ c .before .n .given .1)
