@@ -113,16 +113,19 @@ const MIXED: &[&str] = &[
     "7F FF FF FF FF FF FF FF FF FF FF FF FF FF FF FF FF 80 FF FF FF FF FF FF FF FF FF FF FF FF FF FF FF FF",
 ];
 
-/// Lists and sections, with room, in every reading.
+/// A list of IPv4 routes by each call, with room.
+fn with_room(reading: u8, list: &[u8]) -> impl Iterator<Item = Request> + '_ {
+    (2..=5).map(move |op| on_bytes(op, reading, (60, 0), list))
+}
+
+/// Lists and sections in every reading, of both families.
 fn mixed_lists() -> Vec<Request> {
-    let mut requests = vec![];
-    for list in MIXED.iter().map(|text| hex(text)) {
-        for reading in READINGS {
-            requests.extend((2..=5).map(|op| on_bytes(op, reading, (60, 0), &list)));
-            requests.extend([2, 3].map(|op| on_bytes(op, IPV6 | reading, (60, 0), &list)));
-        }
-    }
-    requests
+    let lists: Vec<Vec<u8>> = MIXED.iter().map(|text| hex(text)).collect();
+    let asked = |(list, reading): (&Vec<u8>, u8)| {
+        let ipv6 = [2, 3].map(|op| on_bytes(op, IPV6 | reading, (60, 0), list));
+        with_room(reading, list).chain(ipv6).collect::<Vec<_>>()
+    };
+    lists.iter().flat_map(|list| READINGS.map(|reading| (list, reading))).flat_map(asked).collect()
 }
 
 /// Rows with a host bit before an item that is refused, in both forms.
@@ -138,9 +141,7 @@ const REFUSED: &[&str] = &[
 fn refused_lists() -> Vec<Request> {
     let mut requests = vec![];
     for reading in READINGS {
-        for list in REFUSED.iter().map(|text| hex(text)) {
-            requests.extend((2..=5).map(|op| on_bytes(op, reading, (60, 0), &list)));
-        }
+        requests.extend(REFUSED.iter().flat_map(|text| with_room(reading, &hex(text)).collect::<Vec<_>>()));
         let two = section(reading, &[FIRST, SECOND]);
         for room in [12, 11, 6, 0] {
             requests.extend([2, 4].map(|op| on_bytes(op, reading, (room, 0), &two)));
