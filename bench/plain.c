@@ -94,7 +94,32 @@ static const uint8_t ipv6_octets[256] = {
     [129 ... 255] = REFUSED_LENGTH,
 };
 
-INLINE uint32_t octets_after(size_t bits, bool ipv6) { return ipv6 ? ipv6_octets[bits] : ipv4_octets[bits]; }
+// A family and its table. With TABLE_A_CALL a call makes the table on its stack, as the proved library must, whose
+// language has no static data: so it can be told what that takes.
+typedef struct {
+    bool ipv6;
+    const uint8_t *octets;
+} family;
+
+#ifdef TABLE_A_CALL
+INLINE family made(uint8_t *table, bool ipv6) {
+    memcpy(table, ipv6 ? ipv6_octets : ipv4_octets, 256);
+    __asm__ volatile("" : : "r"(table) : "memory");
+    return (family){ipv6, table};
+}
+#define FAMILY(name, ipv6)     \
+    uint8_t name##_table[256]; \
+    family name = made(name##_table, ipv6)
+INLINE family instance(family of, bool ipv6) { return (family){ipv6, of.octets}; }
+#else
+#define FAMILY(name, ipv6) family name = {ipv6, NULL}
+INLINE family instance(family of, bool ipv6) {
+    (void)of;
+    return (family){ipv6, ipv6 ? ipv6_octets : ipv4_octets};
+}
+#endif
+
+INLINE uint32_t octets_after(size_t bits, family of) { return of.octets[bits]; }
 
 // By length, the bits of the last octet past it: a multiple of 8 has none.
 #define EIGHT_LENGTHS 0, 0x7F, 0x3F, 0x1F, 0x0F, 0x07, 0x03, 0x01
@@ -126,9 +151,9 @@ INLINE uint64_t mask16(uint32_t octets) { return octet_masks[8 + octets]; }
 INLINE uint64_t rest16(uint32_t octets) { return octet_masks[octets]; }
 
 // Whether a well-formed item with an id begins at `at`.
-INLINE bool item_with_id(const uint8_t *s, size_t n, size_t at, bool ipv6) {
+INLINE bool item_with_id(const uint8_t *s, size_t n, size_t at, family of) {
     if (n - at < 5) return false;
-    uint32_t octets = octets_after(s[at + 4], ipv6);
+    uint32_t octets = octets_after(s[at + 4], of);
     return octets != REFUSED_LENGTH && n - at >= 5 + octets;
 }
 
@@ -138,14 +163,14 @@ INLINE bool reach(const uint8_t *s, size_t bytes, const uint8_t *end) { return (
 // The rows of a list whose items have `head` bytes before the length, and those with a host bit; or the refusal. `s` goes
 // on from the octets of the item before, so that the next length byte waits for the table alone. An item that is not all
 // there is the last: octets are looked at where something follows them, or after the loop.
-INLINE uint64_t count_items(const uint8_t *s, size_t n, bool ipv6, uint32_t head) {
+INLINE uint64_t count_items(const uint8_t *s, size_t n, family of, uint32_t head) {
     if (n <= head) return n ? refused(TOO_SHORT) : 0;
     const uint8_t *end = s + n;
     size_t octets = 0, rows = 0, hosts = 0;
     for (;;) {
         size_t bits = s[octets + head];
         s += octets + head + 1;
-        octets = octets_after(bits, ipv6);
+        octets = octets_after(bits, of);
         if (octets == REFUSED_LENGTH) return refused(BAD_PREFIX_LENGTH);
         rows++;
         if (reach(s, octets + head, end)) break;
@@ -156,25 +181,25 @@ INLINE uint64_t count_items(const uint8_t *s, size_t n, bool ipv6, uint32_t head
 }
 
 // The same with the guess: a zero byte where an item without id would begin starts the items with one.
-INLINE uint64_t count_guessed(const uint8_t *s, size_t n, bool ipv6) {
+INLINE uint64_t count_guessed(const uint8_t *s, size_t n, family of) {
     if (n == 0) return 0;
     const uint8_t *end = s + n;
     size_t octets = 0, rows = 0, hosts = 0;
     for (;;) {
         size_t bits = s[octets];
-        if (bits == 0 && item_with_id(s, end - s, octets, ipv6)) {
+        if (bits == 0 && item_with_id(s, end - s, octets, of)) {
             do {
                 bits = s[octets + 4];
                 s += octets + 5;
-                octets = octets_after(bits, ipv6);
+                octets = octets_after(bits, of);
                 rows++;
                 hosts += has_host(s, octets, bits);
-            } while (item_with_id(s, end - s, octets, ipv6));
+            } while (item_with_id(s, end - s, octets, of));
             if (s + octets == end) return answer(rows, hosts, 0);
             bits = s[octets];
         }
         s += octets + 1;
-        octets = octets_after(bits, ipv6);
+        octets = octets_after(bits, of);
         if (octets == REFUSED_LENGTH) return refused(BAD_PREFIX_LENGTH);
         rows++;
         if (reach(s, octets, end)) break;
@@ -184,8 +209,8 @@ INLINE uint64_t count_guessed(const uint8_t *s, size_t n, bool ipv6) {
     return answer(rows, hosts + has_host(s, octets, s[-1]), 0);
 }
 
-INLINE uint64_t count_list(const uint8_t *s, size_t n, bool ipv6, form form) {
-    return form == GUESS ? count_guessed(s, n, ipv6) : count_items(s, n, ipv6, head_of(form == WITH_ID));
+INLINE uint64_t count_list(const uint8_t *s, size_t n, family of, form form) {
+    return form == GUESS ? count_guessed(s, n, of) : count_items(s, n, of, head_of(form == WITH_ID));
 }
 
 INLINE void put_row(uint32_t *row, uint32_t first, uint32_t id, uint64_t address, uint64_t rest) {
@@ -198,9 +223,9 @@ INLINE void put_row(uint32_t *row, uint32_t first, uint32_t id, uint64_t address
 }
 
 // Puts the row of a checked item; `last` where its address may end within 16 (IPv4: 4) bytes of the end.
-INLINE size_t fill_item(const uint8_t *restrict s, size_t at, bool ipv6, bool id, bool last, uint32_t *restrict row) {
+INLINE size_t fill_item(const uint8_t *restrict s, size_t at, family of, bool id, bool last, uint32_t *restrict row) {
     uint32_t bits = s[at + head_of(id)];
-    uint32_t octets = octets_after(bits, ipv6);
+    uint32_t octets = octets_after(bits, of);
     uint32_t first = bits + (id ? HAS_ID : 0), path = id ? read4(s + at) : 0;
     uint8_t copied[16] = {0};
     const uint8_t *address = s + at + head_of(id) + 1;
@@ -208,7 +233,7 @@ INLINE size_t fill_item(const uint8_t *restrict s, size_t at, bool ipv6, bool id
         for (uint32_t i = 0; i < octets; i++) copied[i] = address[i];
         address = copied;
     }
-    if (ipv6)
+    if (of.ipv6)
         put_row(row, first, path, read8(address) & mask16(octets), read8(address + 8) & rest16(octets));
     else
         put_row(row, first, path, (uint64_t)(read4(address) & mask4(octets)) << 32, 0);
@@ -218,64 +243,69 @@ INLINE size_t fill_item(const uint8_t *restrict s, size_t at, bool ipv6, bool id
 // The bytes of the longest item.
 INLINE uint32_t longest(bool ipv6, bool id) { return head_of(id) + 1 + (ipv6 ? 16 : 4); }
 
-INLINE void fill_items(const uint8_t *s, size_t n, bool ipv6, bool id, uint32_t *store) {
+INLINE void fill_items(const uint8_t *s, size_t n, family of, bool id, uint32_t *store) {
     size_t at = 0;
-    for (; at + longest(ipv6, id) <= n; store += ROW) at = fill_item(s, at, ipv6, id, false, store);
-    for (; at < n; store += ROW) at = fill_item(s, at, ipv6, id, true, store);
+    for (; at + longest(of.ipv6, id) <= n; store += ROW) at = fill_item(s, at, of, id, false, store);
+    for (; at < n; store += ROW) at = fill_item(s, at, of, id, true, store);
 }
 
-INLINE size_t fill_guessed_item(const uint8_t *s, size_t n, size_t at, bool ipv6, bool *tagged, bool last,
+INLINE size_t fill_guessed_item(const uint8_t *s, size_t n, size_t at, family of, bool *tagged, bool last,
                                 uint32_t *row) {
-    *tagged = (*tagged || s[at] == 0) && (last ? item_with_id(s, n, at, ipv6) : octets_after(s[at + 4], ipv6) != REFUSED_LENGTH);
-    return *tagged ? fill_item(s, at, ipv6, true, last, row) : fill_item(s, at, ipv6, false, last, row);
+    *tagged = (*tagged || s[at] == 0) && (last ? item_with_id(s, n, at, of) : octets_after(s[at + 4], of) != REFUSED_LENGTH);
+    return *tagged ? fill_item(s, at, of, true, last, row) : fill_item(s, at, of, false, last, row);
 }
 
-INLINE void fill_guessed(const uint8_t *s, size_t n, bool ipv6, uint32_t *store) {
+INLINE void fill_guessed(const uint8_t *s, size_t n, family of, uint32_t *store) {
     size_t at = 0;
     bool tagged = false;
-    for (; at + longest(ipv6, true) <= n; store += ROW) at = fill_guessed_item(s, n, at, ipv6, &tagged, false, store);
-    for (; at < n; store += ROW) at = fill_guessed_item(s, n, at, ipv6, &tagged, true, store);
+    for (; at + longest(of.ipv6, true) <= n; store += ROW) at = fill_guessed_item(s, n, at, of, &tagged, false, store);
+    for (; at < n; store += ROW) at = fill_guessed_item(s, n, at, of, &tagged, true, store);
 }
 
-INLINE void fill_list(const uint8_t *s, size_t n, bool ipv6, form form, uint32_t *store) {
+INLINE void fill_list(const uint8_t *s, size_t n, family of, form form, uint32_t *store) {
     if (form == GUESS)
-        fill_guessed(s, n, ipv6, store);
+        fill_guessed(s, n, of, store);
     else
-        fill_items(s, n, ipv6, form == WITH_ID, store);
+        fill_items(s, n, of, form == WITH_ID, store);
 }
 
 // One instance for each family and form.
-static uint64_t count_in_form(const uint8_t *s, size_t n, bool ipv6, form form) {
-    if (ipv6) {
-        if (form == WITHOUT_ID) return count_list(s, n, true, WITHOUT_ID);
-        return form == WITH_ID ? count_list(s, n, true, WITH_ID) : count_list(s, n, true, GUESS);
+static uint64_t count_in_form(const uint8_t *s, size_t n, family of, form form) {
+    family ipv4 = instance(of, false), ipv6 = instance(of, true);
+    if (of.ipv6) {
+        if (form == WITHOUT_ID) return count_list(s, n, ipv6, WITHOUT_ID);
+        return form == WITH_ID ? count_list(s, n, ipv6, WITH_ID) : count_list(s, n, ipv6, GUESS);
     }
-    if (form == WITHOUT_ID) return count_list(s, n, false, WITHOUT_ID);
-    return form == WITH_ID ? count_list(s, n, false, WITH_ID) : count_list(s, n, false, GUESS);
+    if (form == WITHOUT_ID) return count_list(s, n, ipv4, WITHOUT_ID);
+    return form == WITH_ID ? count_list(s, n, ipv4, WITH_ID) : count_list(s, n, ipv4, GUESS);
 }
 
-static void fill_in_form(const uint8_t *s, size_t n, bool ipv6, form form, uint32_t *store) {
-    if (ipv6) {
-        if (form == WITHOUT_ID) return fill_list(s, n, true, WITHOUT_ID, store);
-        return form == WITH_ID ? fill_list(s, n, true, WITH_ID, store) : fill_list(s, n, true, GUESS, store);
+static void fill_in_form(const uint8_t *s, size_t n, family of, form form, uint32_t *store) {
+    family ipv4 = instance(of, false), ipv6 = instance(of, true);
+    if (of.ipv6) {
+        if (form == WITHOUT_ID) return fill_list(s, n, ipv6, WITHOUT_ID, store);
+        return form == WITH_ID ? fill_list(s, n, ipv6, WITH_ID, store) : fill_list(s, n, ipv6, GUESS, store);
     }
-    if (form == WITHOUT_ID) return fill_list(s, n, false, WITHOUT_ID, store);
-    return form == WITH_ID ? fill_list(s, n, false, WITH_ID, store) : fill_list(s, n, false, GUESS, store);
+    if (form == WITHOUT_ID) return fill_list(s, n, ipv4, WITHOUT_ID, store);
+    return form == WITH_ID ? fill_list(s, n, ipv4, WITH_ID, store) : fill_list(s, n, ipv4, GUESS, store);
 }
 
 INLINE form form_of(uint8_t settings) { return settings & 1 ? WITH_ID : settings & 2 ? GUESS : WITHOUT_ID; }
 
 uint64_t plain_count_nlri_list(const uint8_t *s, size_t n, uint8_t ipv6, uint8_t settings) {
     if (n > MOST_BYTES) return refused(OVER_LONG);
-    return count_in_form(s, n, ipv6, form_of(settings));
+    FAMILY(of, ipv6);
+    return count_in_form(s, n, of, form_of(settings));
 }
 
 uint64_t plain_parse_nlri_list(const uint8_t *s, size_t n, uint8_t ipv6, uint8_t settings, uint32_t *store,
                                size_t places) {
-    uint64_t counted = plain_count_nlri_list(s, n, ipv6, settings);
+    if (n > MOST_BYTES) return refused(OVER_LONG);
+    FAMILY(of, ipv6);
+    uint64_t counted = count_in_form(s, n, of, form_of(settings));
     if (refusal_of(counted)) return counted;
     if (rows_of(counted) > places / ROW) return refused(NO_ROOM);
-    fill_in_form(s, n, ipv6, form_of(settings), store);
+    fill_in_form(s, n, of, form_of(settings), store);
     return counted;
 }
 
@@ -321,18 +351,18 @@ uint64_t plain_announced_part(const uint8_t *body, size_t n) {
     return refusal ? refusal : answer(parts.announced - body, parts.announced_length, 0);
 }
 
-INLINE uint64_t count_section(const uint8_t *s, size_t n, form form) {
+INLINE uint64_t count_section(const uint8_t *s, size_t n, family of, form form) {
     if (n == 1 && s[0] != 0) return refused(ONE_BYTE_SECTION);
-    return count_in_form(s, n, false, form);
+    return count_in_form(s, n, of, form);
 }
 
 // The three sections, and what is counted in two of them; a refusal or 0.
-INLINE uint64_t count_body(const uint8_t *body, size_t n, form form, parts *parts, uint64_t *withdrawn,
+INLINE uint64_t count_body(const uint8_t *body, size_t n, family of, form form, parts *parts, uint64_t *withdrawn,
                            uint64_t *announced) {
     uint64_t refusal = split_body(body, n, parts);
     if (refusal) return refusal;
-    *withdrawn = count_section(parts->withdrawn, parts->withdrawn_length, form);
-    *announced = count_section(parts->announced, parts->announced_length, form);
+    *withdrawn = count_section(parts->withdrawn, parts->withdrawn_length, of, form);
+    *announced = count_section(parts->announced, parts->announced_length, of, form);
     return 0;
 }
 
@@ -341,26 +371,29 @@ INLINE uint64_t update_answer(uint64_t withdrawn, uint64_t announced) {
 }
 
 uint64_t plain_count_bgp_update_message(const uint8_t *body, size_t n, uint8_t settings) {
+    FAMILY(of, false);
     parts parts;
-    uint64_t first, second, refusal = count_body(body, n, form_of(settings), &parts, &first, &second);
+    uint64_t first, second, refusal = count_body(body, n, of, form_of(settings), &parts, &first, &second);
     return refusal ? refusal : update_answer(first, second);
 }
 
 uint64_t plain_count_update_hosts(const uint8_t *body, size_t n, uint8_t settings) {
+    FAMILY(of, false);
     parts parts;
-    uint64_t first, second, refusal = count_body(body, n, form_of(settings), &parts, &first, &second);
+    uint64_t first, second, refusal = count_body(body, n, of, form_of(settings), &parts, &first, &second);
     return refusal ? refusal : answer(hosts_of(first), hosts_of(second), 0);
 }
 
 uint64_t plain_parse_bgp_update_message(const uint8_t *body, size_t n, uint8_t settings, uint32_t *withdrawn,
                                         size_t withdrawn_places, uint32_t *announced, size_t announced_places) {
+    FAMILY(of, false);
     parts parts;
     form form = form_of(settings);
-    uint64_t first, second, refusal = count_body(body, n, form, &parts, &first, &second);
+    uint64_t first, second, refusal = count_body(body, n, of, form, &parts, &first, &second);
     if (refusal) return refusal;
     if (rows_of(first) > withdrawn_places / ROW || rows_of(second) > announced_places / ROW) return refused(NO_ROOM);
-    if (!refusal_of(first)) fill_in_form(parts.withdrawn, parts.withdrawn_length, false, form, withdrawn);
-    if (!refusal_of(second)) fill_in_form(parts.announced, parts.announced_length, false, form, announced);
+    if (!refusal_of(first)) fill_in_form(parts.withdrawn, parts.withdrawn_length, of, form, withdrawn);
+    if (!refusal_of(second)) fill_in_form(parts.announced, parts.announced_length, of, form, announced);
     return update_answer(first, second);
 }
 
