@@ -296,8 +296,8 @@ fn count_form(s: &[u8], counts: &[u8; 256], form: Form) -> usize
     if item.len() != n + 1 {
         return refusal::TRUNCATED as usize;
     }
-    hosts = hosts + one_if(host_of(item, n, &past));
-    count + 1 + HOST_UNIT * hosts
+    let last = one_if(host_of(item, n, &past));
+    count + 1 + HOST_UNIT * (hosts + last)
 }
 
 // How many rows a list has by the guess, in one number. It carries the bytes from the octets of the item before on and how many these are, for the same

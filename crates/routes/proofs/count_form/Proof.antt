@@ -211,17 +211,17 @@ one-if-requires-2 c κs = search needs
 one-last : (c : tie.After-one-if2 Inv-loop μ-loop) → c .one-if2 .result ≤ 1
 one-last c = omega (arith, c .one-if2 .ensures, weight-few (c .before .host-of2 .result) .1)
 
-add-hosts-2 : tie.Need-add-hosts-2 Inv-loop μ-loop
-add-hosts-2 c = omega (arith, few (c .before .before .before .before .before), one-last c)
-
 add-result : tie.Need-add-result Inv-loop μ-loop
 add-result c = omega (arith, few (c .before .before .before .before .before))
+
+add-result-2 : tie.Need-add-result-2 Inv-loop μ-loop
+add-result-2 c = omega (arith, few (c .before .before .before .before .before), one-last c)
 
 mul-result : tie.Need-mul-result Inv-loop μ-loop
 mul-result c = omega (arith, few (c .before .before .before .before .before), one-last c)
 
-add-result-2 : tie.Need-add-result-2 Inv-loop μ-loop
-add-result-2 c = omega (arith, few (c .before .before .before .before .before), one-last c)
+add-result-3 : tie.Need-add-result-3 Inv-loop μ-loop
+add-result-3 c = omega (arith, few (c .before .before .before .before .before), one-last c)
 
 returns-6 : tie.Need-returns-6 Inv-loop μ-loop
 returns-6 c =
@@ -276,8 +276,8 @@ count-form-spec =
     returns-5
     host-of-requires-2
     one-if-requires-2
-    add-hosts-2
     add-result
-    mul-result
     add-result-2
+    mul-result
+    add-result-3
     returns-6)
