@@ -1,7 +1,7 @@
 -- The fields of every answer of the module update are of 16 bits; how many rows a body has at most; and what reading and writing one told.
 -- Assumes nothing.
 use Prim.Native.Nat.{ℕ, _+_, _≤_}
-use mathlib.Core.Path.{_≡_, refl, sym, _∙_}
+use mathlib.Core.Path.{_≡_, refl, sym, ap, ap₂, _∙_}
 use mathlib.Core.List.{List}
 use native.Mathlib.Omega.{arith}
 use lib.ListN.{length}
@@ -13,13 +13,16 @@ use Rattle.wire.specs.Walk.{Reading}
 use Rattle.wire.specs.declared.WriteAnswer.{WriteAnswer}
 use Rattle.wire.proofs.ChoiceLaws.{pick-any}
 use Rattle.families.specs.Family.{maxOf}
+use Rattle.families.specs.Octets.{tableOf}
 use Rattle.route_reader.specs.Pair.{readPairBy, readPair}
 use Rattle.families.specs.declared.AddPath.{AddPath}
 use Rattle.families.specs.declared.Form.{Form}
 use Rattle.families.specs.declared.Afi.the-variants.{Ipv4}
 use Rattle.routes.specs.List.{hostsOf, sectionOf}
-use Rattle.routes.specs.Promises.{listMeaning, rowsIn, hostsIn, hasRoom, countAnswer}
+use Rattle.routes.specs.ByTable.{byTable}
+use Rattle.routes.specs.Promises.{listMeaning, rowsIn, hostsIn, hasRoom, countAnswer, countSection, inOne}
 use Rattle.routes.proofs.ListLaws.{beside-rows}
+use Rattle.routes.proofs.TableLaws.{count-section-family}
 use Rattle.routes.specs.declared.Row.{Row}
 use Rattle.routes.specs.declared.ListAnswer.{ListAnswer}
 use Rattle.routes.specs.declared.ListAnswer.the-variants as L
@@ -68,6 +71,11 @@ pair-narrow a b places places′ h k =
 if-narrow : (p : PartsAnswer) (u : UpdateAnswer) → Narrow (updateFields u) → Narrow (updateFields (ifParts p u))
 if-narrow (S.Parts w a n) u h = h
 if-narrow (S.Refused m) u h = refused-narrow m
+
+-- how many rows of a section have a host bit, counted by the table of IPv4
+pub section-hosts : (counts : List ℕ) → counts ≡ tableOf (maxOf Ipv4) → (s section : List ℕ) (mode setting : AddPath) (n : ℕ) → inOne n ≡ countSection (byTable counts) s mode → s ≡ section → mode ≡ setting
+    → hostsIn (inOne n) ≡ hostsIn (counted section setting)
+section-hosts counts table s section mode setting n e same alike = ap hostsIn (e ∙ count-section-family counts Ipv4 table s mode ∙ ap₂ counted same alike)
 
 pub section-hosts-few : (s : List ℕ) (mode : AddPath) → hostsIn (counted s mode) ≤ 65535
 section-hosts-few s mode = count-small s _ (maxOf Ipv4) mode (section-modest s (maxOf Ipv4) mode) .hosts

@@ -2,14 +2,12 @@ use mathlib.Core.Path.{_≡_, sym, ap, ap₂, _∙_}
 use native.Mathlib.Omega.{arith}
 use Prim.Native.Nat.{ℕ}
 use Rattle.families.specs.Family.{modeOf}
-use Rattle.families.specs.declared.Afi.the-variants.{Ipv4}
 use Rattle.routes.specs.Promises.{hostsIn}
-use Rattle.routes.proofs.TableLaws.{count-section-family}
 use Rattle.updates.specs.Update.{counted, countUpdate}
 use Rattle.updates.specs.Body.{withdrawnOf, announcedOf}
 use Rattle.updates.proofs.BodyLaws.{holds-withdrawn, holds-announced}
 use Rattle.words.specs.Word.{fields, wordOf}
-use Rattle.firmware.proofs.UpdateBounds.{section-hosts-few}
+use Rattle.firmware.proofs.UpdateBounds.{section-hosts, section-hosts-few}
 use borrow.Author.Needs.{needs}
 use Rattle.firmware.proofs.update.doorbramble_count_update_hosts.Statement.{statement}
 use Rattle.firmware.proofs.update.doorbramble_count_update_hosts.Tie as tie
@@ -49,12 +47,10 @@ first : (c : tie.After-hosts-in) → let a = c .before .before .before .before .
 first c =
     let m = c .before .before .before .before .before .before .before .before .before in
     let part = c .before .before .before .before .before .before .before .withdrawn-part in
+    let table = c .before .before .before .before .before .before .before .before .counts .ensures in
     c .hosts-in .ensures
-    ∙ ap hostsIn
-    (c .before .counted .ensures
-    ∙ c .before .before .before .before .before .count-section-by .ensures
-    ∙ count-section-family _ Ipv4 (c .before .before .before .before .before .before .before .before .counts .ensures) (part .result .now) (m .mode-of .result)
-    ∙ ap₂ counted (holds-withdrawn (m .before .before .before .before .before .args .body) _ (part .ensures)) (m .mode-of .ensures))
+    ∙ ap hostsIn (c .before .counted .ensures)
+    ∙ section-hosts _ table (part .result .now) _ (m .mode-of .result) _ _ (c .before .before .before .before .before .count-section-by .ensures) (holds-withdrawn (m .before .before .before .before .before .args .body) _ (part .ensures)) (m .mode-of .ensures)
 
 cast-word : tie.Need-cast-word
 cast-word c = let a = c .before .before .before .before .before .before .before .before .before .before .before .before .before .before .args in omega (arith, first c, section-hosts-few (withdrawnOf (a .body .now)) (modeOf (a .settings)))
@@ -69,12 +65,10 @@ second : (c : tie.After-hosts-in2) → let a = c .before .before .before .before
 second c =
     let m = c .before .before .before .before .before .before .before .before .before .before .before in
     let part = c .before .before .before .before .before .before .announced-part in
+    let table = c .before .before .before .before .before .before .before .before .before .before .counts .ensures in
     c .hosts-in2 .ensures
-    ∙ ap hostsIn
-    (c .before .counted2 .ensures
-    ∙ c .before .before .before .before .count-section-by2 .ensures
-    ∙ count-section-family _ Ipv4 (c .before .before .before .before .before .before .before .before .before .before .counts .ensures) (part .result .now) (m .mode-of .result)
-    ∙ ap₂ counted (holds-announced (m .before .before .before .before .before .args .body) _ (part .ensures)) (m .mode-of .ensures))
+    ∙ ap hostsIn (c .before .counted2 .ensures)
+    ∙ section-hosts _ table (part .result .now) _ (m .mode-of .result) _ _ (c .before .before .before .before .count-section-by2 .ensures) (holds-announced (m .before .before .before .before .before .args .body) _ (part .ensures)) (m .mode-of .ensures)
 
 cast-word-2 : tie.Need-cast-word-2
 cast-word-2 c = let a = c .before .before .before .before .before .before .before .before .before .before .before .before .before .before .before .before .args in omega (arith, second c, section-hosts-few (announcedOf (a .body .now)) (modeOf (a .settings)))
