@@ -1,5 +1,6 @@
 pub mod Bounds
 pub mod MessageBounds
+pub mod MpBounds
 pub mod ListBounds
 pub mod UpdateBounds
 pub mod PathBounds

@@ -7,7 +7,6 @@ use native.Mathlib.Omega.{arith}
 use lib.ListN.{length}
 use Rattle.wire.specs.Answer.{numberIn, valueIn, answerBy, writeMeaning}
 use Rattle.wire.specs.declared.WriteAnswer.{WriteAnswer}
-use Rattle.wire.specs.declared.WriteAnswer.the-variants as W
 use Rattle.wire.proofs.ChoiceLaws.{pick-any, pick-leb}
 use Rattle.wire.specs.Refusal.{tooLong, truncated, prefixLength, oneByteSection, noRoom, listLimit}
 use Rattle.wire.proofs.Turn.{tally-few}
@@ -25,11 +24,10 @@ use Rattle.routes.specs.declared.ListAnswer.{ListAnswer}
 use Rattle.routes.specs.declared.ListAnswer.the-variants as L
 use Rattle.routes.specs.declared.RoutesAnswer.{RoutesAnswer}
 use Rattle.routes.specs.Promises.{listMeaning, countAnswer, hasRoom, readAnswer, withHosts, countList, readList, rowsMeaning, routesMeaning, rowsIn, hostsIn, verdictIn}
-use Rattle.route_bytes.specs.Encode.{writing}
 use Rattle.route_writer.specs.Promises as routeWriter
+use Rattle.route_writer.proofs.PromiseLaws.{after-any}
 use Rattle.words.specs.Word.{inFields, Narrow}
-use Rattle.words.proofs.WordLaws.{refused-narrow}
-use Rattle.firmware.proofs.Bounds.{answer-any, limited-narrow}
+use Rattle.words.proofs.WordLaws.{refused-narrow, number-narrow}
 
 -- an item is refused with 2 or 7
 item-low : (max : ℕ) (form : Form) (s : List ℕ) (n : ℕ) → inForm (upTo max) form s ≡ stop n → n < 256
@@ -108,7 +106,9 @@ module _ (s : List ℕ) (max : ℕ) (mode : AddPath) where
 
 -- ---- what is written
 
+pub write-after-narrow : (before : ℕ) (ws : List ℕ) (max : ℕ) (form : Form) (places : ℕ) → Narrow (inFields (writeMeaning (routeWriter.writeAfter before ws max form places)))
+write-after-narrow before ws max form places = after-any before ws max form places (λ (a : WriteAnswer). Narrow (inFields (writeMeaning a))) number-narrow refused-narrow
+
 pub write-list-narrow : (ws : List ℕ) (max : ℕ) (form : Form) (places : ℕ) → Narrow (inFields (writeMeaning (routeWriter.writeAnswer ws max form places)))
 unfolding routeWriter.writeAnswer
-write-list-narrow ws max form places =
-    answer-any (λ (a : WriteAnswer). Narrow (inFields (writeMeaning a))) (writing ws max form .verdict) _ W.Refused (limited-narrow listLimit _ places (omega arith)) refused-narrow
+write-list-narrow ws max form places = write-after-narrow 0 ws max form places

@@ -17,6 +17,12 @@ use Rattle.firmware.proofs.attribute.doorbramble_find_attribute.Reads a
 use Rattle.firmware.proofs.list.doorbramble_count_nlri_list.Reads as count_nlri_list
 use Rattle.firmware.proofs.list.doorbramble_parse_nlri_list.Reads as parse_nlri_list
 use Rattle.firmware.proofs.list.doorbramble_encode_nlri_prefixes.Reads as encode_nlri_prefixes
+use Rattle.firmware.proofs.mp.doorbramble_count_mp_reach_nlri.Reads as count_mp_reach_nlri
+use Rattle.firmware.proofs.mp.doorbramble_parse_mp_reach_nlri.Reads as parse_mp_reach_nlri
+use Rattle.firmware.proofs.mp.doorbramble_encode_mp_reach_nlri.Reads as encode_mp_reach_nlri
+use Rattle.firmware.proofs.mp.doorbramble_count_mp_unreach_nlri.Reads as count_mp_unreach_nlri
+use Rattle.firmware.proofs.mp.doorbramble_parse_mp_unreach_nlri.Reads as parse_mp_unreach_nlri
+use Rattle.firmware.proofs.mp.doorbramble_encode_mp_unreach_nlri.Reads as encode_mp_unreach_nlri
 use Rattle.firmware.proofs.path.doorbramble_count_as_path.Reads as «count_as_path»
 use Rattle.firmware.proofs.path.doorbramble_parse_as_path.Reads as «parse_as_path»
 use Rattle.firmware.proofs.path.doorbramble_encode_as_path.Reads as «encode_as_path»
@@ -78,6 +84,24 @@ tight-parse-nlri-list κs a z z′ e e′ p q = (p .0 ∙ sym (q .0), p .1 ∙ s
 
 pub tight-encode-nlri-prefixes : (κs : _) (a : _) (z z′ : _) (e e′ : _) → encode_nlri_prefixes.Learnt κs a z e → encode_nlri_prefixes.Learnt κs a z′ e′ → (z ≡ z′) × (now (e .1 .1 .1 .0) ≡ now (e′ .1 .1 .1 .0))
 tight-encode-nlri-prefixes κs a z z′ e e′ p q = (p .0 ∙ sym (q .0), p .1 ∙ sym (q .1))
+
+pub tight-count-mp-reach-nlri : (κs : _) (a : _) (z z′ : _) (e e′ : _) → count_mp_reach_nlri.Learnt κs a z e → count_mp_reach_nlri.Learnt κs a z′ e′ → z ≡ z′
+tight-count-mp-reach-nlri κs a z z′ e e′ p q = p ∙ sym q
+
+pub tight-parse-mp-reach-nlri : (κs : _) (a : _) (z z′ : _) (e e′ : _) → parse_mp_reach_nlri.Learnt κs a z e → parse_mp_reach_nlri.Learnt κs a z′ e′ → (z ≡ z′) × (now (e .1 .1 .0) ≡ now (e′ .1 .1 .0))
+tight-parse-mp-reach-nlri κs a z z′ e e′ p q = (p .0 ∙ sym (q .0), p .1 ∙ sym (q .1))
+
+pub tight-encode-mp-reach-nlri : (κs : _) (a : _) (z z′ : _) (e e′ : _) → encode_mp_reach_nlri.Learnt κs a z e → encode_mp_reach_nlri.Learnt κs a z′ e′ → (z ≡ z′) × (now (e .1 .1 .1 .0) ≡ now (e′ .1 .1 .1 .0))
+tight-encode-mp-reach-nlri κs a z z′ e e′ p q = (p .0 ∙ sym (q .0), p .1 ∙ sym (q .1))
+
+pub tight-count-mp-unreach-nlri : (κs : _) (a : _) (z z′ : _) (e e′ : _) → count_mp_unreach_nlri.Learnt κs a z e → count_mp_unreach_nlri.Learnt κs a z′ e′ → z ≡ z′
+tight-count-mp-unreach-nlri κs a z z′ e e′ p q = p ∙ sym q
+
+pub tight-parse-mp-unreach-nlri : (κs : _) (a : _) (z z′ : _) (e e′ : _) → parse_mp_unreach_nlri.Learnt κs a z e → parse_mp_unreach_nlri.Learnt κs a z′ e′ → (z ≡ z′) × (now (e .1 .1 .0) ≡ now (e′ .1 .1 .0))
+tight-parse-mp-unreach-nlri κs a z z′ e e′ p q = (p .0 ∙ sym (q .0), p .1 ∙ sym (q .1))
+
+pub tight-encode-mp-unreach-nlri : (κs : _) (a : _) (z z′ : _) (e e′ : _) → encode_mp_unreach_nlri.Learnt κs a z e → encode_mp_unreach_nlri.Learnt κs a z′ e′ → (z ≡ z′) × (now (e .1 .1 .0) ≡ now (e′ .1 .1 .0))
+tight-encode-mp-unreach-nlri κs a z z′ e e′ p q = (p .0 ∙ sym (q .0), p .1 ∙ sym (q .1))
 
 pub tight-count-as-path : (κs : _) (a : _) (z z′ : _) (e e′ : _) → «count_as_path».Learnt κs a z e → «count_as_path».Learnt κs a z′ e′ → z ≡ z′
 tight-count-as-path κs a z z′ e e′ p q = p ∙ sym q

@@ -13,6 +13,8 @@ use Rattle.messages.specs.Header.{messageMeaning}
 use Rattle.messages.specs.declared.MessageAnswer.{MessageAnswer}
 use Rattle.attributes.specs.Promises.{attributeMeaning}
 use Rattle.attributes.specs.declared.AttributeAnswer.{AttributeAnswer}
+use Rattle.mp_nlri.specs.Read.{reachMeaning}
+use Rattle.mp_nlri.specs.declared.ReachAnswer.{ReachAnswer}
 use Rattle.updates.specs.Body.{partsMeaning}
 use Rattle.updates.specs.Update.{updateMeaning}
 use Rattle.updates.specs.declared.PartsAnswer.{PartsAnswer}
@@ -54,6 +56,14 @@ abbrev pub attributeFields : AttributeAnswer → Fields
 attributeFields a =
     fields (valueIn 3 (attributeMeaning a)) (valueIn 4 (attributeMeaning a)) (valueIn 2 (attributeMeaning a) + 256 * valueIn 1 (attributeMeaning a))
     (numberIn (attributeMeaning a))
+
+-- ---- MP_REACH_NLRI
+
+-- its rows, those that have a host bit, and the length of its next hop with the flag of the reserved byte
+abbrev pub reachFields : ReachAnswer → Fields
+reachFields a =
+    fields (valueIn 2 (reachMeaning a)) (valueIn 3 (reachMeaning a)) (valueIn 0 (reachMeaning a) + 256 * valueIn 1 (reachMeaning a))
+    (numberIn (reachMeaning a))
 
 -- ---- AGGREGATOR
 
@@ -120,7 +130,7 @@ abbrev pub versionMajor : ℕ
 versionMajor = 1
 
 abbrev pub versionMinor : ℕ
-versionMinor = 5
+versionMinor = 6
 
 abbrev pub versionFields : Fields
 versionFields = fields versionMajor versionMinor 0 0

@@ -11,6 +11,7 @@ pub mod attribute;
 pub mod list;
 pub mod merge;
 pub mod message;
+pub mod mp;
 pub mod path;
 pub mod slot;
 pub mod update;

@@ -17,7 +17,7 @@ use words::form_of;
 use words::word;
 
 // A list as a word: its rows, and those that have a bit set past their length.
-fn list_word(a: RoutesAnswer) -> u64
+pub(super) fn list_word(a: RoutesAnswer) -> u64
     requires { ⌜ Narrow (inFields (Routes.routesMeaning a)) ⌝ }
     ensures { λ r. ⌜ r ≡ wordOf (inFields (Routes.routesMeaning a)) ⌝ }
 {

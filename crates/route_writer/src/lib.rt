@@ -2,6 +2,7 @@
 ghost use mathlib.Core.Path.{_≡_};
 ghost use Prim.Native.Nat.{_+_, _≤_, _<_};
 ghost use lib.ListN.{length, getD, take};
+ghost use Rattle.wire.specs.Answer.{writeMeaning};
 ghost use Rattle.wire.specs.Number.{toBe};
 ghost use Rattle.wire.specs.Store.{laid};
 ghost use Rattle.families.specs.Family.{maxOf, idSize, markOf};
@@ -9,7 +10,7 @@ ghost use Rattle.route_bytes.specs.Encode.{address, lengthOf, rowBytes, bytesOf
 ghost use Rattle.route_bytes.specs.Promises.{measured};
 ghost use Rattle.wire.specs.declared.WriteAnswer.the-variants.{Bytes};
 ghost use Rattle.route_writer.specs.Private.{rowAt, headBytes, Fillable, Ahead};
-ghost use Rattle.route_writer.specs.Promises.{writeAnswer, outAfter};
+ghost use Rattle.route_writer.specs.Promises.{writeAfter, filledAfter, writeAnswer, outAfter};
 ghost use Rattle.route_writer.specs.Pair.{listsMeaning, writePairSized, writePairAnswer, writePairAfter};
 use families::Afi;
 use families::Form;
@@ -173,24 +174,49 @@ fn fill(rows: &[u32], afi: Afi, form: Form, out: &mut [u8], total: usize)
     }
 }
 
+// Rows that were measured, as a list at a place of an output that has room.
+fn put_list(rows: &[u32], afi: Afi, form: Form, size: usize, out: &mut [u8], to: usize)
+    requires { ⌜ (measured (now rows) (maxOf afi) form ≡ Bytes size) × (to + size ≤ length (now out)) ⌝ }
+    ensures { λ _. ⌜ now (out .exit) ≡ laid (now (out .entry)) to (bytesOf (now (rows .entry)) (maxOf afi) form) ⌝ }
+{
+    fill(rows, afi, form, &mut out[to..], size);
+}
+
+// Rows as the list at the end of a value, of which `before` bytes stand before it and are left as they are. The answer is the bytes of all of it.
+pub fn encode_nlri_after(
+    before: usize,
+    rows: &[u32],
+    afi: Afi,
+    form: Form,
+    out: &mut [u8],
+) -> WriteAnswer
+    ensures answer { λ r. ⌜ r ≡ writeAfter before (now (rows .entry)) (maxOf afi) form (length (now (out .entry))) ⌝ }
+    ensures out { λ r. ⌜ now (out .exit) ≡ filledAfter (writeMeaning r) before (bytesOf (now (rows .entry)) (maxOf afi) form) (now (out .entry)) ⌝ }
+{
+    match route_bytes::measure_nlri_prefixes(rows, afi, form) {
+        WriteAnswer::Bytes(n) => {
+            if wire::LIST_LIMIT < before {
+                return WriteAnswer::Refused(refusal::TOO_LONG);
+            }
+            if wire::LIST_LIMIT - before < n {
+                return WriteAnswer::Refused(refusal::TOO_LONG);
+            }
+            if out.len() < before + n {
+                return WriteAnswer::Refused(refusal::NO_ROOM);
+            }
+            put_list(rows, afi, form, n, out, before);
+            WriteAnswer::Bytes(before + n)
+        }
+        WriteAnswer::Refused(n) => WriteAnswer::Refused(n),
+    }
+}
+
 // Rows as a list, at the front of the output.
 pub fn encode_nlri_prefixes(rows: &[u32], afi: Afi, form: Form, out: &mut [u8]) -> WriteAnswer
     ensures answer { λ r. ⌜ r ≡ writeAnswer (now (rows .entry)) (maxOf afi) form (length (now (out .entry))) ⌝ }
     ensures out { λ _. ⌜ now (out .exit) ≡ outAfter (now (rows .entry)) (maxOf afi) form (now (out .entry)) ⌝ }
 {
-    match route_bytes::measure_nlri_prefixes(rows, afi, form) {
-        WriteAnswer::Bytes(n) => {
-            if wire::LIST_LIMIT < n {
-                return WriteAnswer::Refused(refusal::TOO_LONG);
-            }
-            if out.len() < n {
-                return WriteAnswer::Refused(refusal::NO_ROOM);
-            }
-            fill(rows, afi, form, out, n);
-            WriteAnswer::Bytes(n)
-        }
-        WriteAnswer::Refused(n) => WriteAnswer::Refused(n),
-    }
+    encode_nlri_after(0, rows, afi, form, out)
 }
 
 // Two lists of these sizes, if they fit below `most` and into so many places; no sum is made before it is known to be small.
@@ -245,14 +271,6 @@ fn measure_pair(
         },
         WriteAnswer::Refused(n) => ListsAnswer::Refused(n),
     }
-}
-
-// Rows that were measured, as a list at a place of an output that has room.
-fn put_list(rows: &[u32], afi: Afi, form: Form, size: usize, out: &mut [u8], to: usize)
-    requires { ⌜ (measured (now rows) (maxOf afi) form ≡ Bytes size) × (to + size ≤ length (now out)) ⌝ }
-    ensures { λ _. ⌜ now (out .exit) ≡ laid (now (out .entry)) to (bytesOf (now (rows .entry)) (maxOf afi) form) ⌝ }
-{
-    fill(rows, afi, form, &mut out[to..], size);
 }
 
 // Two lists, both or neither: the first at `start`, the second `between` bytes after its end, all within `most` bytes. What stands

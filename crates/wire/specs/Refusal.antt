@@ -65,6 +65,14 @@ repeatedMpNlri = 15
 abbrev pub emptySegment : ℕ
 emptySegment = 16
 
+-- MP_REACH_NLRI or MP_UNREACH_NLRI of another family pair than IPv6 unicast
+abbrev pub otherFamily : ℕ
+otherFamily = 17
+
+-- a next hop of neither 16 nor 32 bytes
+abbrev pub nextHopLength : ℕ
+nextHopLength = 18
+
 -- past every refusal number: an answer in one number is a refusal number, or a count from here on
 abbrev pub pastAll : ℕ
 pastAll = 32

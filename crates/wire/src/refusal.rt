@@ -32,5 +32,9 @@ pub const REPEATED_MP_NLRI: u8 = 15;
 
 pub const EMPTY_SEGMENT: u8 = 16;
 
+pub const OTHER_FAMILY: u8 = 17;
+
+pub const NEXT_HOP_LENGTH: u8 = 18;
+
 // Past every refusal number. An answer in one number is a refusal number, or a count from here on.
 pub const PAST_ALL: usize = 32;

@@ -1,0 +1,4 @@
+pub mod ValueLaws
+pub mod ReadLaws
+pub mod WriteLaws
+pub mod Tight
