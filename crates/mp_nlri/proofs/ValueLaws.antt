@@ -30,7 +30,7 @@ pub record Paired (v : List ℕ) : Type 0 where
   pub pair : isPair v ≡ true
 
 -- by cases, with what the test says in each
-pick-told {ℓ} : {X : Type 0} (P : X → Type ℓ) (t : Bool) (x y : X) → (t ≡ true → P x) → (t ≡ false → P y) → P (pick t x y)
+pub pick-told {ℓ} : {X : Type 0} (P : X → Type ℓ) (t : Bool) (x y : X) → (t ≡ true → P x) → (t ≡ false → P y) → P (pick t x y)
 pick-told P true x y f g = f refl
 pick-told P false x y f g = g refl
 

@@ -1,3 +1,4 @@
 pub mod Value
 pub mod Read
 pub mod Write
+pub mod WellFormed

@@ -126,6 +126,15 @@ module _ {max : ℕ} {form : Form} {s : List ℕ} {r : Reading Row} (reads : Rea
             sym (leave-rows s r d n (h .0) (h .1) .1) ∙ ap (λ (x : Reading Row). laid d 0 (flat words (x .rows))) (reads .read items c),
           )
 
+      -- and its first words are theirs
+      pub read-words : (items : List (List ℕ)) → Cutting (WellFormed max form) s items → take (6 * n) (storeAfter s r d) ≡ flat words (map (itemRow form) items)
+      read-words items c =
+          let vs : List ℕ = flat words (map (itemRow form) items) in
+          let h = rows-stored items c in
+          let size : length vs ≡ 6 * n = words-length (map (itemRow form) items) ∙ ap (λ (k : ℕ). 6 * k) (length-map items (itemRow form) ∙ sym (h .0)) in
+          let all : 6 * n ≡ 0 + length vs = omega arith in
+          ap₂ take all (h .1) ∙ take-laid d 0 vs (omega (arith, read-rows s r d n e .1))
+
 -- two cuttings of the same bytes are equal
 pub one-cutting : (max : ℕ) (form : Form) (s : List ℕ) (items items′ : List (List ℕ)) → Cutting (WellFormed max form) s items → Cutting (WellFormed max form) s items′ → items ≡ items′
 one-cutting max form s = Cuttings.one-cutting (stepOf max (fixed form)) (WellFormed max form) (itemRow form) (decides max form) Plain s
@@ -133,34 +142,29 @@ one-cutting max form s = Cuttings.one-cutting (stepOf max (fixed form)) (WellFor
 -- ---- writing
 
 module _ (max : ℕ) (small : max ≤ 128) (form : Form) where
-  -- the rows of a cutting are written as the bytes
-  items-back : (s : List ℕ) (items : List (List ℕ)) (out : List ℕ) → Number.Bytes s → Cutting (WellFormed max form) s items → length s ≤ listLimit → length s ≤ length out
-      → let ws = flat words (map (itemRow form) items) in (writeAnswer ws max form (length out) ≡ Bytes (length s)) × (outAfter ws max form out ≡ laid out 0 s)
+  -- the rows of a cutting can be written, and their bytes are those that were cut
+  pub items-bytes : (s : List ℕ) (items : List (List ℕ)) → Number.Bytes s → Cutting (WellFormed max form) s items
+      → let ws = flat words (map (itemRow form) items) in (writing ws max form .verdict ≡ 0) × (bytesOf ws max form ≡ s)
   unfolding bytesOf writing
-  items-back s items out b c short room =
+  items-bytes s items b c =
       let rows : List Row = map (itemRow form) items in
-      let ws : List ℕ = flat words rows in
       let h = Cuttings.items-written (WellFormed max form) (itemRow form) (GoodRow max form) (rowBytes form) (stands max small form) items (c .each) (subst Number.Bytes (sym (c .whole)) b) in
-      let w : writing ws max form ≡ record { rows = rows; verdict = 0 } = rows-write max form rows (h .0) in
-      let is : bytesOf ws max form ≡ s = ap (λ (x : Reading Row). flat (rowBytes form) (x .rows)) w ∙ h .2 ∙ c .whole in
-      let size = tally-flat (rowBytes form) (writing ws max form .rows) ∙ ap length is in
-      let l = leave-bytes ws max form out (length s) (measured-good ws max form (length s) (ap (λ (x : Reading Row). x .verdict) w, size)) short room in
-      (sym (l .0), sym (l .1) ∙ ap (laid out 0) is)
+      let w : writing (flat words rows) max form ≡ record { rows = rows; verdict = 0 } = rows-write max form rows (h .0) in
+      (ap (λ (x : Reading Row). x .verdict) w, ap (λ (x : Reading Row). flat (rowBytes form) (x .rows)) w ∙ h .2 ∙ c .whole)
 
   -- writing what was read, from the store that it was read into
   pub written-back : (s : List ℕ) (r : Reading Row) (d : List ℕ) (n : ℕ) → Reads max form s r → readAnswer s r (length d) ≡ Rows n → Number.Bytes s
       → (out : List ℕ) → length s ≤ length out
       → let ws = take (6 * n) (storeAfter s r d) in (writeAnswer ws max form (length out) ≡ Bytes (length s)) × (outAfter ws max form out ≡ laid out 0 s)
+  unfolding bytesOf
   written-back s r d n reads e b out room =
       let a = accepted-cut reads d n e in
-      let items : List (List ℕ) = a .0 in
-      let vs : List ℕ = flat words (map (itemRow form) items) in
-      let size : length vs ≡ 6 * n = words-length (map (itemRow form) items) ∙ ap (λ (k : ℕ). 6 * k) (length-map items (itemRow form) ∙ a .2) in
-      let all : 6 * n ≡ 0 + length vs = omega arith in
-      let fits : 0 + length vs ≤ length d = omega (arith, a .4) in
-      let is : take (6 * n) (storeAfter s r d) ≡ vs = ap₂ take all (rows-stored reads d n e items (a .1) .1) ∙ take-laid d 0 vs fits in
-      let h = items-back s items out b (a .1) (a .3) room in
-      (ap (λ (ws : List ℕ). writeAnswer ws max form (length out)) is ∙ h .0, ap (λ (ws : List ℕ). outAfter ws max form out) is ∙ h .1)
+      let vs : List ℕ = flat words (map (itemRow form) (a .0)) in
+      let is : take (6 * n) (storeAfter s r d) ≡ vs = read-words reads d n e (a .0) (a .1) in
+      let h = items-bytes s (a .0) b (a .1) in
+      let size = tally-flat (rowBytes form) (writing vs max form .rows) ∙ ap length (h .1) in
+      let l = leave-bytes vs max form out (length s) (measured-good vs max form (length s) (h .0, size)) (a .3) room in
+      (ap (λ (ws : List ℕ). writeAnswer ws max form (length out)) is ∙ sym (l .0), ap (λ (ws : List ℕ). outAfter ws max form out) is ∙ sym (l .1) ∙ ap (laid out 0) (h .1))
 
   -- the bytes that were written stand at the front of the output
   out-bytes : (ws d : List ℕ) (n : ℕ) → writeAnswer ws max form (length d) ≡ Bytes n → take n (outAfter ws max form d) ≡ bytesOf ws max form
@@ -169,17 +173,51 @@ module _ (max : ℕ) (small : max ≤ 128) (form : Form) where
       let all : n ≡ 0 + length (bytesOf ws max form) = omega (arith, h .1) in
       ap₂ take all (h .4) ∙ take-laid d 0 (bytesOf ws max form) (omega (arith, h .3))
 
-  -- stores whose bytes are the same are equal
-  pub stores-equal : (ws ws′ d d′ : List ℕ) (n n′ : ℕ) → Words ws → Words ws′ → writeAnswer ws max form (length d) ≡ Bytes n → writeAnswer ws′ max form (length d′) ≡ Bytes n′
-      → take n (outAfter ws max form d) ≡ take n′ (outAfter ws′ max form d′) → ws ≡ ws′
+  -- stores that can be written and whose bytes are the same are equal
+  pub bytes-equal : (ws ws′ : List ℕ) → Words ws → Words ws′ → writing ws max form .verdict ≡ 0 → writing ws′ max form .verdict ≡ 0 → bytesOf ws max form ≡ bytesOf ws′ max form → ws ≡ ws′
   unfolding bytesOf writing
-  stores-equal ws ws′ d d′ n n′ h h′ e e′ same =
-      let a = store-rows max form ws h (written-bytes ws max form d n e .0) in
-      let b = store-rows max form ws′ h′ (written-bytes ws′ max form d′ n′ e′ .0) in
-      let bytes : bytesOf ws max form ≡ bytesOf ws′ max form = sym (out-bytes ws d n e) ∙ same ∙ out-bytes ws′ d′ n′ e′ in
+  bytes-equal ws ws′ h h′ good good′ bytes =
+      let a = store-rows max form ws h good in
+      let b = store-rows max form ws′ h′ good′ in
       let rows = Cuttings.same-rows (WellFormed max form) (itemRow form) (GoodRow max form) (rowBytes form) (stands max small form)
       (stepOf max (fixed form)) (decides max form) Plain (writing ws max form .rows) (writing ws′ max form .rows) (a .0) (b .0) bytes in
       sym (a .1) ∙ ap (flat words) rows ∙ b .1
+
+  pub stores-equal : (ws ws′ d d′ : List ℕ) (n n′ : ℕ) → Words ws → Words ws′ → writeAnswer ws max form (length d) ≡ Bytes n → writeAnswer ws′ max form (length d′) ≡ Bytes n′
+      → take n (outAfter ws max form d) ≡ take n′ (outAfter ws′ max form d′) → ws ≡ ws′
+  stores-equal ws ws′ d d′ n n′ h h′ e e′ same =
+      bytes-equal ws ws′ h h′ (written-bytes ws max form d n e .0) (written-bytes ws′ max form d′ n′ e′ .0) (sym (out-bytes ws d n e) ∙ same ∙ out-bytes ws′ d′ n′ e′)
+
+-- ---- a store that is written, from its bytes
+
+module _ (max : ℕ) (small : max ≤ 128) (form : Form) (ws : List ℕ) (wide : Words ws) (good : writing ws max form .verdict ≡ 0) where
+  -- they can be cut into those of its rows
+  again-cut : let rows : List Row = writing ws max form .rows in
+      Cutting (WellFormed max form) (bytesOf ws max form) (map (rowBytes form) rows) × (map (itemRow form) (map (rowBytes form) rows) ≡ rows)
+  unfolding bytesOf writing
+  again-cut =
+      Cuttings.rows-cut (WellFormed max form) (itemRow form) (GoodRow max form) (rowBytes form) (stands max small form) (writing ws max form .rows) (store-rows max form ws wide good .0)
+
+  -- as a list, its rows are read again
+  pub list-again : listOf (bytesOf ws max form) max (fixed form) ≡ record { rows = writing ws max form .rows; verdict = 0 }
+  list-again = fixed-reads max form (bytesOf ws max form) .read _ (again-cut .0) ∙ ap (λ (l : List Row). record { rows = l; verdict = 0 }) (again-cut .1)
+
+  -- and as a section
+  pub section-again : sectionOf (bytesOf ws max form) max (fixed form) ≡ listOf (bytesOf ws max form) max (fixed form)
+  section-again = section-list (upTo max) (bytesOf ws max form) (fixed form) (cut-not-strange max form (bytesOf ws max form) _ (again-cut .0))
+
+  -- their words are the store
+  pub words-again : flat words (listOf (bytesOf ws max form) max (fixed form) .rows) ≡ ws
+  unfolding writing
+  words-again = ap (λ (r : Reading Row). flat words (r .rows)) list-again ∙ store-rows max form ws wide good .1
+
+  -- a sixth of it in number
+  pub counted-again : length (bytesOf ws max form) ≤ listLimit → countAnswer (bytesOf ws max form) (listOf (bytesOf ws max form) max (fixed form)) ≡ Rows (length ws / 6)
+  counted-again short =
+      let s : List ℕ = bytesOf ws max form in
+      let r : Reading Row = listOf s max (fixed form) in
+      let six : 6 * length (r .rows) ≡ length ws = sym (words-length (r .rows)) ∙ ap length words-again in
+      count-good s r (length ws / 6) short (ap (λ (x : Reading Row). x .verdict) list-again, tally-one (r .rows) ∙ omega arith)
 
 -- ---- the guess, where no item of the guess-off reading starts with a zero byte
 

@@ -1,8 +1,8 @@
 -- An UPDATE body that is written is read as the sections that went into it; and what keeps the limits is written, given room.
 -- Assumes nothing.
-use Prim.Native.Nat.{ℕ, _+_, _-_, _*_, _/_, _≤_}
+use Prim.Native.Nat.{ℕ, _+_, _-_, _/_, _≤_}
 use mathlib.Core.Path.{_≡_, refl, sym, ap, ap₂, _∙_}
-use mathlib.Core.List.{List, _++_, append-assoc, map}
+use mathlib.Core.List.{List, _++_, append-assoc}
 use native.Mathlib.Omega.{arith}
 use borrow.Author.Tests.{le-leb}
 use lib.ListN.{length, take, drop, length-append}
@@ -10,27 +10,22 @@ use lib.Seq.{take-at, drop-at, drop-drop, take-length}
 use Rattle.wire.specs.Number.{toBe, beAt, Words}
 use Rattle.wire.specs.Refusal.{listLimit, bodyLimit}
 use Rattle.wire.specs.Walk.{Reading, flat}
-use Rattle.wire.proofs.WalkLaws.{tally-one}
-use Rattle.wire.proofs.CuttingLaws.{cut-read, rows-cut}
 use Rattle.families.specs.Family.{maxOf}
 use Rattle.families.proofs.FamilyLaws.{max-small}
 use Rattle.families.specs.declared.Afi.the-variants.{Ipv4}
 use Rattle.families.specs.declared.Form.{Form}
-use Rattle.families.specs.declared.Form.the-variants.{Plain}
-use Rattle.routes.specs.Prefix.{itemRow, words}
-use Rattle.routes.specs.WellFormed.{WellFormed}
-use Rattle.routes.specs.List.{upTo, fixed, stepOf, listBy, hostsOf, sectionOf}
+use Rattle.routes.specs.Prefix.{words}
+use Rattle.routes.specs.List.{fixed, hostsOf, sectionOf}
 use Rattle.routes.specs.Promises.{countAnswer, withHosts}
-use Rattle.routes.proofs.ListLaws.{words-length, count-good, beside, section-list}
-use Rattle.routes.proofs.CuttingLaws.{decides, cut-not-strange}
+use Rattle.routes.proofs.ListLaws.{beside}
 use Rattle.routes.specs.declared.Row.{Row}
 use Rattle.routes.specs.declared.ListAnswer.the-variants.{Rows}
 use Rattle.routes.specs.declared.RoutesAnswer.{RoutesAnswer}
 use Rattle.route_reader.specs.Pair.{readPairBy, readPair}
-use Rattle.route_bytes.specs.Encode.{rowBytes, writing, bytesOf}
-use Rattle.route_bytes.proofs.RowLaws.{GoodRow, stands, store-rows}
+use Rattle.route_bytes.specs.Encode.{writing, bytesOf}
 use Rattle.route_bytes.specs.Promises.{measured}
 use Rattle.route_bytes.proofs.PromiseLaws.{measured-bytes}
+use Rattle.route_writer.proofs.RouteTheorems.{section-again, words-again, counted-again}
 use Rattle.wire.specs.declared.WriteAnswer.{WriteAnswer}
 use Rattle.wire.specs.declared.WriteAnswer.the-variants.{Bytes, Refused}
 use Rattle.updates.specs.Body.{lengthSize, withdrawnSize, attributesSize, attributesEnd, partsOf, withdrawnOf, attributesOf, announcedOf}
@@ -168,31 +163,15 @@ module _ (withdrawn attributes announced : List ℕ) (form : Form) (places : ℕ
 
 -- ---- and the rows in it
 
--- the rows of a store that is written are read again, from its bytes as a section
+-- of a store that is written, from its bytes as a section
 module _ (max : ℕ) (small : max ≤ 128) (form : Form) (ws : List ℕ) (wide : Words ws) (good : writing ws max form .verdict ≡ 0) where
-  pub rows-again : sectionOf (bytesOf ws max form) max (fixed form) ≡ record { rows = writing ws max form .rows; verdict = 0 }
-  unfolding bytesOf writing listBy
-  rows-again =
-      let rows : List Row = writing ws max form .rows in
-      let s : List ℕ = flat (rowBytes form) rows in
-      let h = store-rows max form ws wide good in
-      let c = rows-cut (WellFormed max form) (itemRow form) (GoodRow max form) (rowBytes form) (stands max small form) rows (h .0) in
-      section-list (upTo max) s (fixed form) (cut-not-strange max form s (map (rowBytes form) rows) (c .0))
-      ∙ cut-read (stepOf max (fixed form)) (WellFormed max form) (itemRow form) (decides max form) Plain s (map (rowBytes form) rows) (c .0)
-      ∙ ap (λ (l : List Row). record { rows = l; verdict = 0 }) (c .1)
+  -- its words are read again
+  section-words : flat words (sectionOf (bytesOf ws max form) max (fixed form) .rows) ≡ ws
+  section-words = ap (λ (r : Reading Row). flat words (r .rows)) (section-again max small form ws wide good) ∙ words-again max small form ws wide good
 
-  -- their words are the store
-  pub words-again : flat words (sectionOf (bytesOf ws max form) max (fixed form) .rows) ≡ ws
-  unfolding writing
-  words-again = ap (λ (r : Reading Row). flat words (r .rows)) rows-again ∙ store-rows max form ws wide good .1
-
-  -- a sixth of it in number
-  pub counted-again : length (bytesOf ws max form) ≤ listLimit → countAnswer (bytesOf ws max form) (sectionOf (bytesOf ws max form) max (fixed form)) ≡ Rows (length ws / 6)
-  counted-again short =
-      let s : List ℕ = bytesOf ws max form in
-      let r : Reading Row = sectionOf s max (fixed form) in
-      let six : 6 * length (r .rows) ≡ length ws = sym (words-length (r .rows)) ∙ ap length words-again in
-      count-good s r (length ws / 6) short (ap (λ (x : Reading Row). x .verdict) rows-again, tally-one (r .rows) ∙ omega arith)
+  -- a sixth of them in number
+  section-counted : length (bytesOf ws max form) ≤ listLimit → countAnswer (bytesOf ws max form) (sectionOf (bytesOf ws max form) max (fixed form)) ≡ Rows (length ws / 6)
+  section-counted short = ap (countAnswer (bytesOf ws max form)) (section-again max small form ws wide good) ∙ counted-again max small form ws wide good short
 
 module _ (withdrawn attributes announced : List ℕ) (form : Form) (places n : ℕ) (wrote : bodyAnswer withdrawn attributes announced form places ≡ Bytes n)
     (wide : Words withdrawn) (wide′ : Words announced) where
@@ -211,14 +190,14 @@ module _ (withdrawn attributes announced : List ℕ) (form : Form) (places n : �
       let fit = written-fit withdrawn attributes announced form places n wrote in
       let good = measured-bytes withdrawn (maxOf Ipv4) form _ (fit .first) .0 in
       ap (λ (s : List ℕ). counted s (fixed form)) (written-read withdrawn attributes announced form places n wrote .withdrawn)
-      ∙ beside _ _ _ (counted-again (maxOf Ipv4) (max-small Ipv4) form withdrawn wide good (fit .sizes .low))
+      ∙ beside _ _ _ (section-counted (maxOf Ipv4) (max-small Ipv4) form withdrawn wide good (fit .sizes .low))
 
   pub last-again : counted (announcedOf body) (fixed form) ≡ again announced
   last-again =
       let fit = written-fit withdrawn attributes announced form places n wrote in
       let good = measured-bytes announced (maxOf Ipv4) form _ (fit .last) .0 in
       ap (λ (s : List ℕ). counted s (fixed form)) (written-read withdrawn attributes announced form places n wrote .announced)
-      ∙ beside _ _ _ (counted-again (maxOf Ipv4) (max-small Ipv4) form announced wide′ good (omega (arith, fit .sizes .whole)))
+      ∙ beside _ _ _ (section-counted (maxOf Ipv4) (max-small Ipv4) form announced wide′ good (omega (arith, fit .sizes .whole)))
 
   pub update-counted : countUpdate body (fixed form) ≡ counts
   unfolding countUpdate
@@ -236,10 +215,10 @@ module _ (withdrawn attributes announced : List ℕ) (form : Form) (places n : �
   withdrawn-again =
       let fit = written-fit withdrawn attributes announced form places n wrote in
       ap (λ (s : List ℕ). flat words (sectionOf s (maxOf Ipv4) (fixed form) .rows)) (written-read withdrawn attributes announced form places n wrote .withdrawn)
-      ∙ words-again (maxOf Ipv4) (max-small Ipv4) form withdrawn wide (measured-bytes withdrawn (maxOf Ipv4) form _ (fit .first) .0)
+      ∙ section-words (maxOf Ipv4) (max-small Ipv4) form withdrawn wide (measured-bytes withdrawn (maxOf Ipv4) form _ (fit .first) .0)
 
   pub announced-again : flat words (sectionOf (announcedOf body) (maxOf Ipv4) (fixed form) .rows) ≡ announced
   announced-again =
       let fit = written-fit withdrawn attributes announced form places n wrote in
       ap (λ (s : List ℕ). flat words (sectionOf s (maxOf Ipv4) (fixed form) .rows)) (written-read withdrawn attributes announced form places n wrote .announced)
-      ∙ words-again (maxOf Ipv4) (max-small Ipv4) form announced wide′ (measured-bytes announced (maxOf Ipv4) form _ (fit .last) .0)
+      ∙ section-words (maxOf Ipv4) (max-small Ipv4) form announced wide′ (measured-bytes announced (maxOf Ipv4) form _ (fit .last) .0)
