@@ -10,7 +10,7 @@ const SHOWN: usize = 20;
 const SHOWN_BYTES: usize = 400;
 
 /// Refusals are numbered up to this one.
-const LAST_REFUSAL: usize = 16;
+const LAST_REFUSAL: usize = 18;
 
 #[derive(Default, Clone, Copy)]
 struct OpTotals {
