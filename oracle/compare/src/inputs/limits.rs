@@ -314,6 +314,7 @@ fn written_announcements_and_withdrawals() -> Vec<Request> {
         announcement(65_600, 32, &rows(65_515, 1)),
         write_withdrawal(ADD_PATH, 65_534, &rows(65_532, 0)),
         write_withdrawal(ADD_PATH, 0, &rows(65_533, 0)),
+        write_withdrawal(ADD_PATH, 0, &rows(65_533, 1)),
     ]
 }
 
