@@ -82,8 +82,8 @@ fn refusal_of_head(text: &str, value: &[u8]) -> Option<Outcome> {
     is_next_hop.then_some(Outcome::Refused(18))
 }
 
-/// Whether the request says 17 or 18 where the crate reads on, or names a cut next hop before its length. Which subfamilies it knows is not in
-/// the files given.
+/// Whether the crate reads on, or looks for a next hop that is cut, where the request says 17 or 18. Which subfamilies the crate knows is not
+/// in the files given.
 fn is_read_otherwise(value: &[u8], is_reach: bool) -> bool {
     match value {
         [0, 2, 1, length, ..] => is_reach && ![16, 32].contains(length),

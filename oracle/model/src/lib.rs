@@ -43,10 +43,7 @@ fn call(request: &Request) -> Done {
         10 => stored_update(request, bytes),
         11 => Ok((updates::read(bytes, reading(request))?.numbers(), vec![])),
         12 => update_parts(bytes),
-        13 => {
-            let rows = request.numbers(0);
-            written(request, routes::write(&rows, request.has(ADD_PATH), family(request))?, true)
-        }
+        13 => written(request, routes::write(&request.numbers(0), request.has(ADD_PATH), family(request))?, true),
         14 => {
             let (pairs, numbers) = (request.numbers(0), request.numbers(1));
             written(request, paths::write(&pairs, &numbers, width(request), rule(request))?, true)
@@ -56,11 +53,7 @@ fn call(request: &Request) -> Done {
             written(request, paths::write_aggregator(values[0], values[1], width(request))?, true)
         }
         16 => written(request, headers::write(request.argument, bytes)?, false),
-        17 => {
-            let body =
-                updates::write(&request.numbers(0), &request.parts[1], &request.numbers(2), request.has(ADD_PATH))?;
-            written(request, body, false)
-        }
+        17 => written_update(request),
         18 => attribute_at(request, bytes),
         19 => first_attribute(request, bytes),
         20 => standing_aggregator(bytes, &request.parts[1]),
@@ -256,6 +249,13 @@ fn announcement(request: &Request, value: &[u8]) -> Done {
     let (counts, lent) =
         if request.op == 22 { stored_rows(request, reach.rows)? } else { (counts(&reach.rows), vec![]) };
     Ok(([&head[..], &counts].concat(), lent))
+}
+
+/// An UPDATE body into the output; its limits are its own.
+fn written_update(request: &Request) -> Done {
+    let (withdrawn, announced) = (request.numbers(0), request.numbers(2));
+    let body = updates::write(&withdrawn, &request.parts[1], &announced, request.has(ADD_PATH))?;
+    written(request, body, false)
 }
 
 /// Bytes into the output: for a list or a value 1 first if they are too many, then 11 if there is no room.

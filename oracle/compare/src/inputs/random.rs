@@ -485,15 +485,6 @@ fn large_to_write(rng: &mut Rng, op: u8, settings: u8, size: usize) -> Request {
         }
         14 => large_written_path(rng, settings),
         15 => write_aggregator(rng, settings),
-        26 => {
-            let next_hop = next_hop(rng);
-            let numbers = large_rows(rng, settings, true, size - 5 - next_hop.len(), 16_600);
-            write_announcement(settings, rng.pick(&[70_000, 1_000]), &next_hop, &numbers)
-        }
-        27 => {
-            let numbers = large_rows(rng, settings, true, size - 3, 16_600);
-            write_withdrawal(settings, rng.pick(&[70_000, 1_000]), &numbers)
-        }
         16 => {
             let kind = rng.pick(&[1, 2, 2, 3, 5, 5]);
             let size = rng.pick(&[4_076, 4_077, 4_078, 65_515, 65_516, 65_517]);
@@ -504,12 +495,21 @@ fn large_to_write(rng: &mut Rng, op: u8, settings: u8, size: usize) -> Request {
             };
             request_on(16, settings, 70_000, [body, vec![], vec![]], kind)
         }
-        _ => {
+        17 => {
             let attributes = raw_attribute(rng.pick(&[60_000, 65_000, 65_535, 65_536, 4]));
             let rest = rng.pick(&[5_000, 500, 60, 20, 65_516]);
             let withdrawn = large_rows(rng, settings, false, rest, 8_000);
             let announced = large_rows(rng, settings, false, rest, 8_000);
             request_on(17, settings, 70_000, [words(&withdrawn), attributes, words(&announced)], 0)
+        }
+        26 => {
+            let next_hop = next_hop(rng);
+            let numbers = large_rows(rng, settings, true, size - 5 - next_hop.len(), 16_600);
+            write_announcement(settings, rng.pick(&[70_000, 1_000]), &next_hop, &numbers)
+        }
+        _ => {
+            let numbers = large_rows(rng, settings, true, size - 3, 16_600);
+            write_withdrawal(settings, rng.pick(&[70_000, 1_000]), &numbers)
         }
     }
 }
