@@ -218,12 +218,12 @@ impl Capture {
             ATTRIBUTE_AGGREGATOR => vec![on_bytes(8, self.width_setting(), (0, 0), attribute.value)],
             ATTRIBUTE_AS4_AGGREGATOR => vec![on_bytes(8, FOUR_BYTE_AS, (0, 0), attribute.value)],
             ATTRIBUTE_MP_REACH => self.announcement_requests(attribute.value)?,
-            ATTRIBUTE_MP_UNREACH => self.withdrawal_requests(attribute.value)?,
+            ATTRIBUTE_MP_UNREACH => self.withdrawal_requests(attribute.value),
             _ => vec![],
         })
     }
 
-    /// Whether routes of IPv6 have ids.
+    /// Add-Path where routes of IPv6 have ids.
     fn ipv6_setting(&self) -> u8 {
         if self.add_path_ipv6 {
             ADD_PATH
@@ -239,20 +239,21 @@ impl Capture {
             let (next_hop, rest) = value.get(4..)?.split_at_checked(usize::from(value[3]))?;
             let list = rest.get(1..)?;
             requests.extend(self.list_requests(list));
-            let rows = rows(list, self.add_path_ipv6)?;
-            requests.push(write_announcement(self.ipv6_setting(), value.len(), next_hop, &rows));
+            let rows = rows(list, self.add_path_ipv6);
+            requests.extend(rows.map(|rows| write_announcement(self.ipv6_setting(), value.len(), next_hop, &rows)));
         }
         Some(requests)
     }
 
     /// The value of MP_UNREACH_NLRI, likewise.
-    fn withdrawal_requests(&self, value: &[u8]) -> Option<Vec<Request>> {
+    fn withdrawal_requests(&self, value: &[u8]) -> Vec<Request> {
         let mut requests = [self.ipv6_setting(), GUESS].map(|settings| withdrawn(settings, ROWS, value)).concat();
         if let Some(list) = value.strip_prefix(&FAMILIES) {
             requests.extend(self.list_requests(list));
-            requests.push(write_withdrawal(self.ipv6_setting(), value.len(), &rows(list, self.add_path_ipv6)?));
+            let rows = rows(list, self.add_path_ipv6);
+            requests.extend(rows.map(|rows| write_withdrawal(self.ipv6_setting(), value.len(), &rows)));
         }
-        Some(requests)
+        requests
     }
 
     fn list_requests(&self, list: &[u8]) -> Vec<Request> {
