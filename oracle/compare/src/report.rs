@@ -10,7 +10,7 @@ const SHOWN: usize = 20;
 const SHOWN_BYTES: usize = 400;
 
 /// Refusals are numbered up to this one.
-const LAST_REFUSAL: usize = 16;
+const LAST_REFUSAL: usize = 18;
 
 #[derive(Default, Clone, Copy)]
 struct OpTotals {
@@ -41,10 +41,12 @@ impl Report {
         let totals = &mut self.ops[usize::from(request.op)];
         totals.requests += 1;
         let refusal = given.model.split(' ').nth(2).and_then(|field| field.parse::<usize>().ok());
-        if let Some(count) = refusal.and_then(|refusal| totals.refusals.get_mut(refusal)) {
+        let counted = refusal.and_then(|refusal| totals.refusals.get_mut(refusal));
+        // a request that the format does not give ends both programs alike
+        let mut differs = counted.is_none();
+        if let Some(count) = counted {
             *count += 1;
         }
-        let mut differs = false;
         if given.by_crate != "-" {
             totals.by_crate += 1;
             if given.by_crate != given.model {

@@ -1,11 +1,12 @@
 //! Where the crate and document 01 part on purpose, each with its smallest input, as docs/DIFFERENCES.md lists them.
 
+use super::mp_nlri::of_ipv6;
 use super::paths::segment_type;
 use super::private::{Inside, PrivateCalls};
 use super::warnings;
 use crate::error::{BgpValidationWarning, EncodingError, ParserError};
 use crate::models::*;
-use crate::parser::bgp::attributes::parse_attributes;
+use crate::parser::bgp::attributes::{parse_attributes, parse_nlri};
 use crate::parser::bgp::messages::{parse_bgp_message, parse_bgp_update_message};
 use crate::parser::utils::{encode_nlri_prefixes, parse_nlri_list, ReadUtils};
 use bytes::{Buf, Bytes, BytesMut};
@@ -71,6 +72,25 @@ pub const ALL: &[(&str, fn())] = &[
     ("an_empty_as4_path_is_built_upon", an_empty_as4_path_is_built_upon),
     ("a_refused_path_is_passed_over", a_refused_path_is_passed_over),
     ("a_set_counts_one_in_a_merge", a_set_counts_one_in_a_merge),
+    ("the_update_reader_reads_an_announcement_so", the_update_reader_reads_an_announcement_so),
+    ("other_families_are_taken", other_families_are_taken),
+    ("a_family_is_judged_before_the_third_byte", a_family_is_judged_before_the_third_byte),
+    ("next_hops_of_six_lengths_are_taken", next_hops_of_six_lengths_are_taken),
+    ("a_next_hop_is_looked_for_before_its_length_is_judged", a_next_hop_is_looked_for_before_its_length_is_judged),
+    ("addresses_of_a_next_hop_are_not_judged", addresses_of_a_next_hop_are_not_judged),
+    ("a_reserved_byte_is_logged_and_lost", a_reserved_byte_is_logged_and_lost),
+    ("a_list_of_one_byte_is_a_list_in_an_announcement", a_list_of_one_byte_is_a_list_in_an_announcement),
+    ("ids_are_guessed_in_announcements_and_withdrawals", ids_are_guessed_in_announcements_and_withdrawals),
+    ("announcements_have_no_greatest_size", announcements_have_no_greatest_size),
+    ("a_refused_announcement_is_kept_raw", a_refused_announcement_is_kept_raw),
+    (
+        "an_announcement_without_a_next_hop_is_written_without_its_length",
+        an_announcement_without_a_next_hop_is_written_without_its_length,
+    ),
+    ("a_withdrawal_is_written_with_its_next_hop", a_withdrawal_is_written_with_its_next_hop),
+    ("next_hops_of_every_kind_are_written", next_hops_of_every_kind_are_written),
+    ("ids_and_families_of_routes_are_written_as_they_are", ids_and_families_of_routes_are_written_as_they_are),
+    ("a_written_announcement_has_the_limit_of_its_attribute", a_written_announcement_has_the_limit_of_its_attribute),
 ];
 
 /// A message with an all-FF marker.
@@ -440,4 +460,198 @@ fn a_set_counts_one_in_a_merge() {
     assert_eq!(merged(&[1, 0], &[2, 2, 0, 0, 0, 7, 0, 0, 0, 8]), [(1, vec![])], "one is fewer than two");
     assert_eq!(merged(&[1, 2, 0, 1, 0, 2], &[2, 1, 0, 0, 0, 7]), [(2, vec![7])], "one is as many as one");
     assert_eq!(merged(&[2, 1, 0, 1], &[1, 0]), [(1, vec![])]);
+}
+
+/// The value of an announcement (MP_REACH_NLRI) or a withdrawal (MP_UNREACH_NLRI) as the UPDATE reader asks for it, and what is logged.
+fn read_nlri(value: &[u8], is_reach: bool) -> (Result<AttributeValue, ParserError>, Vec<String>) {
+    RECORDER.call_once(warnings::record_from_now_on);
+    let bytes = Bytes::copy_from_slice(value);
+    warnings::during(|| parse_nlri(bytes, &None, &None, &None, is_reach, false))
+}
+
+fn taken(value: &[u8], is_reach: bool) -> Nlri {
+    match read_nlri(value, is_reach).0.unwrap() {
+        AttributeValue::MpReachNlri(nlri) | AttributeValue::MpUnreachNlri(nlri) => nlri,
+        other => panic!("a value of another attribute: {other:?}"),
+    }
+}
+
+/// Whether a value is refused as cut.
+fn is_cut(value: &[u8], is_reach: bool) -> bool {
+    matches!(read_nlri(value, is_reach).0, Err(ParserError::TruncatedMsg(_)))
+}
+
+/// Whether a value is refused with a text that begins so.
+fn is_refused(value: &[u8], is_reach: bool, beginning: &str) -> bool {
+    matches!(read_nlri(value, is_reach).0, Err(ParserError::ParseError(text)) if text.starts_with(beginning))
+}
+
+/// An announcement of no routes of IPv6 unicast: a next hop of zeros, and the reserved byte.
+fn announcement(next_hop: u8, reserved: u8) -> Vec<u8> {
+    [&[0, 2, 1, next_hop][..], &vec![0; next_hop.into()], &[reserved]].concat()
+}
+
+/// What is written of an announcement or a withdrawal.
+fn written(nlri: &Nlri, is_reach: bool, add_path: bool) -> Vec<u8> {
+    let mut output = BytesMut::new();
+    Inside::encode_nlri(nlri, is_reach, add_path, &mut output).unwrap();
+    output.to_vec()
+}
+
+fn the_update_reader_reads_an_announcement_so() {
+    for (kind, is_reach, value) in [(14, true, announcement(16, 0)), (15, false, vec![0, 2, 1, 8, 0x20])] {
+        let section = [&[0x80, kind, value.len() as u8][..], &value].concat();
+        let attributes = read_section(&section).0.unwrap();
+        assert_eq!(attributes.inner[0].value, read_nlri(&value, is_reach).0.unwrap());
+    }
+}
+
+/// Of those that this build knows; a link-state family is read as a list too, with other subfamilies than its own. Another address family is
+/// refused.
+fn other_families_are_taken() {
+    for families in [[0, 1, 1], [0, 1, 2], [0, 2, 2], [0, 2, 128], [0, 2, 133], [0x40, 4, 1]] {
+        assert!(taken(&families, false).prefixes.is_empty());
+        assert!(taken(&[&families[..], &[0, 0]].concat(), true).prefixes.is_empty());
+    }
+    assert_eq!(taken(&[0, 1, 1, 8, 10], false).prefixes[0].to_string(), "10.0.0.0/8");
+    for families in [[0, 0, 1], [0, 3, 1], [2, 0, 1], [1, 2, 1]] {
+        assert!(is_refused(&families, false, "Unknown AFI type"));
+    }
+}
+
+fn a_family_is_judged_before_the_third_byte() {
+    for is_reach in [false, true] {
+        assert!(is_refused(&[0, 0], is_reach, "Unknown AFI type"));
+        assert!(is_cut(&[0, 1], is_reach) && is_cut(&[0], is_reach));
+    }
+}
+
+const TAKEN_NEXT_HOPS: [u8; 6] = [0, 4, 16, 24, 32, 48];
+
+/// Of IPv6 unicast; every other length is refused.
+fn next_hops_of_six_lengths_are_taken() {
+    for length in 0..=255 {
+        let value = announcement(length, 0);
+        if TAKEN_NEXT_HOPS.contains(&length) {
+            assert_eq!(taken(&value, true).next_hop.is_some(), length > 0);
+        } else {
+            assert!(is_refused(&value, true, "Invalid next hop length"));
+        }
+    }
+}
+
+/// A length that is refused is named before the reserved byte is looked for.
+fn a_next_hop_is_looked_for_before_its_length_is_judged() {
+    for length in 1..=255 {
+        let value = announcement(length, 0);
+        let without_reserved = &value[..value.len() - 1];
+        assert!(is_cut(&value[..4], true) && is_cut(&value[..value.len() - 2], true));
+        assert_eq!(is_cut(without_reserved, true), TAKEN_NEXT_HOPS.contains(&length));
+        assert_ne!(is_cut(without_reserved, true), is_refused(without_reserved, true, "Invalid next hop length"));
+    }
+}
+
+/// Two addresses of zeros are a global and a link-local one.
+fn addresses_of_a_next_hop_are_not_judged() {
+    let zero = std::net::Ipv6Addr::UNSPECIFIED;
+    assert_eq!(taken(&announcement(32, 0), true).next_hop, Some(NextHopAddress::Ipv6LinkLocal(zero, zero)));
+    assert_eq!(taken(&announcement(16, 0), true).next_hop, Some(NextHopAddress::Ipv6(zero)));
+}
+
+/// In the log alone: the attribute has no warning, and is written with a 0.
+fn a_reserved_byte_is_logged_and_lost() {
+    for reserved in 0..=255 {
+        let value = announcement(16, reserved);
+        let warned = read_nlri(&value, true).1;
+        assert_eq!(warned.len(), usize::from(reserved != 0));
+        assert!(warned.iter().all(|text| text.starts_with("NLRI reserved byte not 0")));
+        assert_eq!(written(&taken(&value, true), true, false), announcement(16, 0));
+        let warnings =
+            |value| read_section(&[vec![0x80, 14, 21], value].concat()).0.unwrap().validation_warnings().to_vec();
+        assert_eq!(warnings(value), warnings(announcement(16, 0)));
+    }
+}
+
+fn a_list_of_one_byte_is_a_list_in_an_announcement() {
+    for byte in 1..=128 {
+        assert!(is_cut(&[0, 2, 1, byte], false) && is_cut(&[announcement(16, 0), vec![byte]].concat(), true));
+    }
+    assert_eq!(taken(&[0, 2, 1, 0], false).prefixes.len(), 1);
+    assert!(is_refused(&[0, 2, 1, 129], false, "Invalid prefix length"));
+}
+
+fn ids_are_guessed_in_announcements_and_withdrawals() {
+    let list = vec![0, 0, 0, 7, 8, 0x20];
+    for (is_reach, head) in [(true, announcement(16, 0)), (false, vec![0, 2, 1])] {
+        assert_eq!(taken(&[head, list.clone()].concat(), is_reach).prefixes[0].path_id, Some(7));
+    }
+}
+
+fn announcements_have_no_greatest_size() {
+    let list = [8, 0x20].repeat(32_768);
+    assert_eq!(taken(&[announcement(16, 0), list.clone()].concat(), true).prefixes.len(), 32_768);
+    assert_eq!(taken(&[vec![0, 2, 1], list].concat(), false).prefixes.len(), 32_768);
+}
+
+/// With a warning, and the UPDATE's own routes stand.
+fn a_refused_announcement_is_kept_raw() {
+    for (kind, value) in [(14, vec![0, 2, 1]), (15, vec![0, 2])] {
+        let attribute = [&[0x80, kind, value.len() as u8][..], &value].concat();
+        let attributes = read_section(&attribute).0.unwrap();
+        assert!(matches!(&attributes.inner[0].value, AttributeValue::Raw(raw) if raw.bytes == value));
+        assert!(attributes.has_validation_warnings());
+        let body = [&[0, 0, 0, attribute.len() as u8][..], &attribute, &[8, 10]].concat();
+        let update = parse_bgp_update_message(Bytes::from(body), false, &AsnLength::Bits32).unwrap();
+        assert_eq!(update.announced_prefixes.len(), 1);
+    }
+}
+
+/// One that was read with a length of 0 too: what is written is a byte shorter, and refused when it is read again.
+fn an_announcement_without_a_next_hop_is_written_without_its_length() {
+    let nlri = taken(&announcement(0, 0), true);
+    let value = written(&nlri, true, false);
+    assert_eq!(value, [0, 2, 1, 0]);
+    assert!(is_cut(&value, true));
+}
+
+/// With its length before it and a logged warning, so that it is read as routes.
+fn a_withdrawal_is_written_with_its_next_hop() {
+    let nlri = taken(&announcement(16, 0), true);
+    RECORDER.call_once(warnings::record_from_now_on);
+    let (value, warned) = warnings::during(|| written(&nlri, false, false));
+    assert_eq!(value, announcement(16, 0)[..20]);
+    assert_eq!(warned.len(), 1);
+    assert!(!taken(&value, false).prefixes.is_empty());
+}
+
+/// As they are read; the family is that of the routes, whatever the next hop is.
+fn next_hops_of_every_kind_are_written() {
+    for length in TAKEN_NEXT_HOPS.into_iter().filter(|length| *length > 0) {
+        let bytes: Vec<u8> = (1..=length).collect();
+        let value = [&[0, 2, 1, length][..], &bytes, &[0]].concat();
+        assert_eq!(written(&taken(&value, true), true, false), value);
+    }
+}
+
+/// Whatever `add_path` says, though the encoder's comment has an error for an id without it; and no warning of a route of another family.
+fn ids_and_families_of_routes_are_written_as_they_are() {
+    let mut tagged = NetworkPrefix::from_str("2000::/8").unwrap();
+    tagged.path_id = Some(7);
+    let plain = NetworkPrefix::from_str("10.0.0.0/8").unwrap();
+    let nlri = of_ipv6(None, vec![tagged, plain]);
+    for add_path in [false, true] {
+        assert_eq!(written(&nlri, false, add_path), [0, 2, 1, 0, 0, 0, 7, 8, 0x20, 8, 10]);
+    }
+}
+
+/// The value alone has none; a length of two bytes limits it to 65,535 bytes, of one byte to 255.
+fn a_written_announcement_has_the_limit_of_its_attribute() {
+    let of_size = |size: usize| of_ipv6(None, vec![NetworkPrefix::from_str("::/0").unwrap(); size - 3]);
+    let encode =
+        |size, flag| Attribute { value: AttributeValue::MpUnreachNlri(of_size(size)), flag }.encode(AsnLength::Bits32);
+    assert_eq!(written(&of_size(65_536), false, false).len(), 65_536);
+    for (flag, most) in [(AttrFlags::EXTENDED, 65_535), (AttrFlags::OPTIONAL, 255)] {
+        assert!(encode(most, flag).is_ok());
+        assert!(matches!(encode(most + 1, flag), Err(EncodingError::ValueTooLarge { .. })));
+    }
 }

@@ -5,6 +5,7 @@ pub mod as4;
 pub mod attributes;
 pub mod facts;
 pub mod messages;
+pub mod mp_nlri;
 pub mod paths;
 pub mod private;
 pub mod routes;
@@ -68,6 +69,8 @@ fn call(request: &Request) -> Outcome {
         19 => attributes::first_of(request),
         20 => as4::aggregator(request),
         21 => as4::path(request),
+        22..=25 => mp_nlri::read(request),
+        26 | 27 => mp_nlri::write(request),
         _ => Outcome::NoCounterpart,
     }
 }
@@ -80,7 +83,7 @@ fn is_strict_path(request: &Request) -> bool {
 /// Refusal 1 of the readers, which comes before the crate is asked.
 fn over_long(request: &Request) -> bool {
     let most = match request.op {
-        2..=8 | 18 | 19 => MOST_BYTES,
+        2..=8 | 18 | 19 | 22..=25 => MOST_BYTES,
         10..=12 => MOST_BODY,
         _ => return false,
     };

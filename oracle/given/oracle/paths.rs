@@ -84,7 +84,7 @@ fn encoded(value: AttributeValue, request: &Request) -> Result<Vec<u8>, Encoding
     Ok(bytes[ATTRIBUTE_HEAD..].to_vec())
 }
 
-fn written_value(value: AttributeValue, request: &Request) -> Outcome {
+pub fn written_value(value: AttributeValue, request: &Request) -> Outcome {
     match encoded(value, request) {
         Ok(bytes) => written(bytes, MOST_BYTES),
         Err(error) => Outcome::Refused(writer_refusal(&error)),

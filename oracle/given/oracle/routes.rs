@@ -60,18 +60,23 @@ pub fn one_route(request: &Request) -> Outcome {
     }
 }
 
+/// How many rows, and how many of them have a host bit; and the rows.
+pub fn counted_rows(prefixes: &[NetworkPrefix]) -> (Vec<u64>, Contents) {
+    (vec![prefixes.len() as u64, host_rows(prefixes)], Contents::Rows(rows(prefixes)))
+}
+
 /// Ops 2 to 5: a list or a section, stored or counted.
 pub fn list_or_section(request: &Request) -> Outcome {
     let read = match (crate_reads_so(request), request.op) {
         (true, 2 | 3) => list(request),
         (true, _) => section(request),
-        (false, 2 | 3) if item_by_item_is_asked() => item_by_item(request),
+        (false, 2 | 3) if item_by_item_is_asked() => item_by_item(&request.parts[0], &family(request)),
         (false, _) => return Outcome::NoCounterpart,
     };
     match read {
         Ok(prefixes) => {
-            let stores = if request.op % 2 == 0 { vec![Contents::Rows(rows(&prefixes))] } else { vec![] };
-            Outcome::Done(vec![prefixes.len() as u64, host_rows(&prefixes)], stores)
+            let (counts, rows) = counted_rows(&prefixes);
+            Outcome::Done(counts, if request.op % 2 == 0 { vec![rows] } else { vec![] })
         }
         Err(refusal) => Outcome::Refused(refusal),
     }
@@ -83,17 +88,17 @@ fn list(request: &Request) -> Result<Vec<NetworkPrefix>, u32> {
 }
 
 /// Whether lists with neither Add-Path nor the guess are read item by item; it is not the crate's list reader.
-fn item_by_item_is_asked() -> bool {
+pub fn item_by_item_is_asked() -> bool {
     static ASKED: OnceLock<bool> = OnceLock::new();
     *ASKED.get_or_init(|| std::env::var_os("CRATE_ITEM_BY_ITEM").is_some())
 }
 
 /// The crate's reader of one item, again and again.
-fn item_by_item(request: &Request) -> Result<Vec<NetworkPrefix>, u32> {
-    let mut bytes = Bytes::copy_from_slice(&request.parts[0]);
+pub fn item_by_item(list: &[u8], afi: &Afi) -> Result<Vec<NetworkPrefix>, u32> {
+    let mut bytes = Bytes::copy_from_slice(list);
     let mut prefixes = vec![];
     while bytes.has_remaining() {
-        let item = bytes.read_nlri_prefix(&family(request), false);
+        let item = bytes.read_nlri_prefix(afi, false);
         prefixes.push(item.map_err(|error| reader_refusal(&error))?);
     }
     Ok(prefixes)

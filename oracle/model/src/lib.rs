@@ -4,6 +4,7 @@
 mod as4;
 mod attributes;
 mod headers;
+mod mp_nlri;
 mod paths;
 mod routes;
 mod updates;
@@ -42,10 +43,7 @@ fn call(request: &Request) -> Done {
         10 => stored_update(request, bytes),
         11 => Ok((updates::read(bytes, reading(request))?.numbers(), vec![])),
         12 => update_parts(bytes),
-        13 => {
-            let rows = request.numbers(0);
-            written(request, routes::write(&rows, request.has(ADD_PATH), family(request))?, true)
-        }
+        13 => written(request, routes::write(&request.numbers(0), request.has(ADD_PATH), family(request))?, true),
         14 => {
             let (pairs, numbers) = (request.numbers(0), request.numbers(1));
             written(request, paths::write(&pairs, &numbers, width(request), rule(request))?, true)
@@ -55,15 +53,16 @@ fn call(request: &Request) -> Done {
             written(request, paths::write_aggregator(values[0], values[1], width(request))?, true)
         }
         16 => written(request, headers::write(request.argument, bytes)?, false),
-        17 => {
-            let body =
-                updates::write(&request.numbers(0), &request.parts[1], &request.numbers(2), request.has(ADD_PATH))?;
-            written(request, body, false)
-        }
+        17 => written_update(request),
         18 => attribute_at(request, bytes),
         19 => first_attribute(request, bytes),
         20 => standing_aggregator(bytes, &request.parts[1]),
         21 => joined_path(request),
+        22 | 23 => announcement(request, bytes),
+        24 => stored_rows(request, mp_nlri::read_unreach(bytes, reading(request))?),
+        25 => Ok((counts(&mp_nlri::read_unreach(bytes, reading(request))?), vec![])),
+        26 => written(request, mp_nlri::write_reach(bytes, &request.numbers(1), request.has(ADD_PATH))?, true),
+        27 => written(request, mp_nlri::write_unreach(&request.numbers(0), request.has(ADD_PATH))?, true),
         _ => unreachable!("records gives the ops up to LAST_OP"),
     }
 }
@@ -241,6 +240,22 @@ fn joined_path(request: &Request) -> Done {
     let path = as4::path(&request.parts[0], &request.parts[1], standing)?;
     let (counts, lent) = stored_path(request, path)?;
     Ok(([vec![standing.number()], counts].concat(), lent))
+}
+
+/// The next hop's length and sum, 1 where the reserved byte is not 0, and the counts of the rows, which op 22 stores.
+fn announcement(request: &Request, value: &[u8]) -> Done {
+    let reach = mp_nlri::read_reach(value, reading(request))?;
+    let head = [reach.next_hop.len() as u64, sum_bytes(reach.next_hop), u64::from(reach.reserved != 0)];
+    let (counts, lent) =
+        if request.op == 22 { stored_rows(request, reach.rows)? } else { (counts(&reach.rows), vec![]) };
+    Ok(([&head[..], &counts].concat(), lent))
+}
+
+/// An UPDATE body into the output; its limits are its own.
+fn written_update(request: &Request) -> Done {
+    let (withdrawn, announced) = (request.numbers(0), request.numbers(2));
+    let body = updates::write(&withdrawn, &request.parts[1], &announced, request.has(ADD_PATH))?;
+    written(request, body, false)
 }
 
 /// Bytes into the output: for a list or a value 1 first if they are too many, then 11 if there is no room.

@@ -419,6 +419,148 @@ fn orders_side_by_side() {
     assert_eq!([(2, 2), (1, 2), (2, 1)].map(|rooms| refusal(old, new, FIRST_STANDS, rooms)), [0, 11, 11]);
 }
 
+/// The value of an announcement: IPv6 unicast, a next hop that claims as many bytes as it has, the reserved byte and a list.
+fn announcement(next_hop: &[u8], reserved: u8, list: &str) -> Vec<u8> {
+    [&[0, 2, 1, next_hop.len() as u8], next_hop, &[reserved], &hex(list)].concat()
+}
+
+fn withdrawal(list: &str) -> Vec<u8> {
+    [vec![0, 2, 1], hex(list)].concat()
+}
+
+/// A global address, and a link-local one after it.
+const NEXT_HOP: [u8; 32] =
+    [0x20, 1, 0x0D, 0xB8, 0, 0, 0, 0, 0, 0, 0, 0, 0, 0, 0, 1, 0xFE, 0x80, 0, 0, 0, 0, 0, 0, 0, 0, 0, 0, 0, 0, 0, 1];
+
+#[test]
+fn announcements() {
+    for length in [16, 32] {
+        let next_hop = &NEXT_HOP[..length];
+        let read = |settings, reserved, list| told(23, settings, announcement(next_hop, reserved, list));
+        let good = |rest: &str| format!("0 {length} {} {rest}", records::sum_bytes(next_hop));
+        assert_eq!(read(0, 0, ""), good("0 0 0"));
+        assert_eq!(read(0, 0, "20 20 01 0D B8 21 20 01 0D B8 40"), good("0 2 1"));
+        assert_eq!(read(IPV6, 255, "00"), good("1 1 0"), "the family is the value's own");
+        assert_eq!(read(ADD_PATH, 1, "00 00 00 07 80 20 01 0D B8 00 00 00 00 00 00 00 00 00 00 00 01"), good("1 1 0"));
+        assert_eq!(read(GUESS, 0, "00 00 00 07 09 20 FF"), good("0 1 1"));
+        assert_eq!(read(0, 1, "08"), REFUSED_ANNOUNCEMENT[0], "one byte, and not 8");
+        assert_eq!(read(0, 1, "00 81"), REFUSED_ANNOUNCEMENT[1]);
+    }
+}
+
+/// 2, 7, 17 and 18 of an announcement.
+const REFUSED_ANNOUNCEMENT: [&str; 4] = ["2 0 0 0 0 0", "7 0 0 0 0 0", "17 0 0 0 0 0", "18 0 0 0 0 0"];
+
+#[test]
+fn refused_announcements() {
+    let [cut, _, families, next_hop] = REFUSED_ANNOUNCEMENT;
+    let read = |text: &str| told(23, 0, hex(text));
+    for text in ["", "00", "FF FF", "00 02", "00 02 01"] {
+        assert_eq!(read(text), cut);
+    }
+    for text in ["00 01 01", "00 02 02", "01 02 01", "00 02 80 11 00", "02 00 01 10", "00 01 01 10 00"] {
+        assert_eq!(read(text), families, "before anything after them");
+    }
+    for length in (0..=255).filter(|length| ![16, 32].contains(length)) {
+        assert_eq!(told(23, 0, vec![0, 2, 1, length]), next_hop, "before its bytes");
+        assert_eq!(told(23, 0, announcement(&vec![0; length.into()], 0, "81")), next_hop);
+    }
+    for length in [16, 32] {
+        let whole = announcement(&NEXT_HOP[..length], 1, "");
+        for end in 3..whole.len() {
+            assert_eq!(told(23, 0, whole[..end].to_vec()), cut);
+        }
+    }
+    let zeros = |size: usize| [announcement(&[0; 16], 0, ""), vec![0; size - 21]].concat();
+    assert!(told(23, 0, zeros(65_535)).ends_with(" 0 65514 0"));
+    assert_eq!(told(23, 0, zeros(65_536)), "1 0 0 0 0 0");
+    assert_eq!(told(23, 0, vec![0; 65_536]), "1 0 0 0 0 0");
+}
+
+#[test]
+fn withdrawals() {
+    assert_eq!(told(25, 0, withdrawal("")), "0 0 0");
+    assert_eq!(told(25, 0, withdrawal("00 21 20 01 0D B8 40")), "0 2 1");
+    assert_eq!(told(25, ADD_PATH, withdrawal("00 00 00 07 08 20")), "0 1 0");
+    assert_eq!(told(25, 0, withdrawal("08")), "2 0 0", "one byte, and not 8");
+    assert_eq!(told(25, 0, withdrawal("81")), "7 0 0");
+    for text in ["", "00", "FF FF"] {
+        assert_eq!(told(25, 0, hex(text)), "2 0 0");
+    }
+    for text in ["00 01 01", "00 02 02 81", "01 02 01"] {
+        assert_eq!(told(25, 0, hex(text)), "17 0 0");
+    }
+    assert_eq!(told(25, 0, [withdrawal(""), vec![0; 65_532]].concat()), "0 65532 0");
+    assert_eq!(told(25, 0, vec![0; 65_536]), "1 0 0");
+}
+
+#[test]
+fn rows_of_announcements_and_withdrawals() {
+    let list = "20 20 01 0D B8 00";
+    let values = [(22, announcement(&NEXT_HOP, 1, list)), (24, withdrawal(list))];
+    for (op, value) in values {
+        let asked = |room_a| {
+            let request = Request { op, room_a, parts: [value.clone(), vec![], vec![]], ..Request::default() };
+            model::answer(&request)
+        };
+        let mut store = records::Lent::numbers(13);
+        store.put_numbers(&[32, 0, 0x2001_0DB8, 0, 0, 0, 0, 0, 0, 0, 0, 0]);
+        assert_eq!(asked(13).lent, [store]);
+        assert_eq!([asked(12).refusal, asked(11).refusal], [0, 11]);
+        assert!(asked(11).numbers.iter().all(|number| *number == 0), "no flag either");
+    }
+}
+
+/// What is written of a next hop and rows, or of rows alone, with so much room; or the refusal.
+fn written(op: u8, settings: u8, room_a: usize, parts: [Vec<u8>; 3]) -> Result<Vec<u8>, u32> {
+    let answer = model::answer(&Request { op, settings, room_a, parts, ..Request::default() });
+    let records::Lent::Bytes(output) = &answer.lent[0] else { panic!("an output of bytes") };
+    match answer.refusal {
+        0 => Ok(output[..answer.numbers[0] as usize].to_vec()),
+        refusal => Err(refusal),
+    }
+}
+
+/// Rows that are written as a list of this size, and the last word of the last row's address, of which nothing is written.
+fn rows_of(size: usize, last_word: u32) -> Vec<u32> {
+    let left = size as u32 % 9;
+    let last = [8 * left.checked_sub(1).expect("a last row"), 0, 0, 0, 0, last_word];
+    [[64, 0, 1, 2, 0, 0].repeat(size / 9), last.to_vec()].concat()
+}
+
+#[test]
+fn written_announcements() {
+    let write = |next_hop: &[u8], rows: &[u32], room| written(26, 0, room, [next_hop.to_vec(), words(rows), vec![]]);
+    let row = [32, 0, 0x2001_0DB8, 0, 0, 0];
+    for length in [16, 32] {
+        let value = announcement(&NEXT_HOP[..length], 0, "20 20 01 0D B8");
+        assert_eq!(write(&NEXT_HOP[..length], &row, value.len()), Ok(value.clone()));
+        assert_eq!(write(&NEXT_HOP[..length], &row, value.len() - 1), Err(11));
+    }
+    for length in [0, 4, 15, 17, 24, 31, 33, 48, 256, 272] {
+        assert_eq!(write(&vec![0; length], &row, 400), Err(18));
+        assert_eq!(write(&vec![0; length], &[129, 0, 0, 0, 0, 0], 0), Err(18), "before the rows");
+    }
+    assert_eq!(write(&NEXT_HOP, &row[..5], 0), Err(14));
+    assert_eq!(write(&NEXT_HOP, &rows_of(65_515, 0), 65_600), Err(1), "the whole value, and not the list");
+    assert_eq!(write(&NEXT_HOP[..16], &rows_of(65_515, 0), 0), Err(1));
+    assert_eq!(write(&NEXT_HOP[..16], &rows_of(65_514, 0), 65_535).map(|value| value.len()), Ok(65_535));
+    assert_eq!(write(&[0; 17], &rows_of(65_515, 0), 0), Err(18));
+}
+
+#[test]
+fn written_withdrawals() {
+    let write = |settings, rows: &[u32], room| written(27, settings, room, [words(rows), vec![], vec![]]);
+    assert_eq!(write(0, &[], 3), Ok(withdrawal("")));
+    assert_eq!(write(0, &[], 2), Err(11));
+    assert_eq!(write(ADD_PATH, &[256 + 8, 7, 0x2000_0000, 0, 0, 0], 9), Ok(withdrawal("00 00 00 07 08 20")));
+    assert_eq!(write(0, &[129, 0, 0, 0, 0, 0], 0), Err(14));
+    assert_eq!(write(ADD_PATH, &[8, 0, 0, 0, 0, 0], 64), Err(14));
+    assert_eq!(write(0, &rows_of(65_532, 0), 65_535).map(|value| value.len()), Ok(65_535));
+    assert_eq!(write(0, &rows_of(65_533, 0), 65_600), Err(1));
+    assert_eq!(write(0, &rows_of(65_533, 1), 65_600), Err(14));
+}
+
 #[test]
 fn the_format_page() {
     let request = Request { op: 3, parts: [hex("20 0A 00 00 01"), vec![], vec![]], ..Request::default() };

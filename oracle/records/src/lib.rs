@@ -19,7 +19,7 @@ pub const EXTENDED: u8 = 32;
 pub const LAST_SETTINGS: u8 = 63;
 
 /// Ops are numbered from 1 up to this one.
-pub const LAST_OP: u8 = 21;
+pub const LAST_OP: u8 = 27;
 
 /// The most places of a room and bytes of a part.
 pub const MOST: usize = 400_000;
@@ -71,6 +71,8 @@ impl Request {
             17 => whole(0) && whole(2),
             18 => self.parts[1].len() == 4,
             21 => usize::from(self.argument) <= self.parts[2].len(),
+            26 => whole(1),
+            27 => whole(0),
             _ => true,
         };
         (1..=LAST_OP).contains(&self.op) && self.settings <= LAST_SETTINGS && parts_given
@@ -197,11 +199,11 @@ pub struct Answer {
 pub fn numbers_of(op: u8) -> usize {
     match op {
         1 | 9 => 8,
-        2..=7 => 2,
+        2..=7 | 24 | 25 => 2,
         8 | 20 | 21 => 3,
         10..=12 => 6,
         18 => 7,
-        19 => 5,
+        19 | 22 | 23 => 5,
         _ => 1,
     }
 }
@@ -209,9 +211,9 @@ pub fn numbers_of(op: u8) -> usize {
 /// The stores and outputs an op is lent, as they are before the call.
 pub fn lent_of(request: &Request) -> Vec<Lent> {
     match request.op {
-        2 | 4 => vec![Lent::numbers(request.room_a)],
+        2 | 4 | 22 | 24 => vec![Lent::numbers(request.room_a)],
         6 | 10 | 21 => vec![Lent::numbers(request.room_a), Lent::numbers(request.room_b)],
-        13..=17 => vec![Lent::bytes(request.room_a)],
+        13..=17 | 26 | 27 => vec![Lent::bytes(request.room_a)],
         _ => vec![],
     }
 }

@@ -3,7 +3,8 @@
 use super::as4::{joined, standing};
 use super::attributes::{search, walk};
 use super::examples::{headers, on_bytes};
-use super::pieces::EXTENDED_LENGTH;
+use super::mp_nlri::{announced, withdrawn, write_announcement, write_withdrawal};
+use super::pieces::{EXTENDED_LENGTH, FAMILIES};
 use records::ending::about;
 use records::{Request, ADD_PATH, FOUR_BYTE_AS, GUESS, IPV6, STRICT};
 use std::collections::BTreeSet;
@@ -98,6 +99,23 @@ fn attributes(section: &[u8]) -> Option<Vec<Attribute<'_>>> {
         left = rest;
     }
     left.is_empty().then_some(found)
+}
+
+/// The rows of a list of IPv6 routes, if it is whole.
+fn rows(mut list: &[u8], with_id: bool) -> Option<Vec<u32>> {
+    let mut rows = vec![];
+    while !list.is_empty() {
+        let (id, rest) = list.split_at_checked(if with_id { 4 } else { 0 })?;
+        let (length, rest) = rest.split_first()?;
+        let (octets, rest) = rest.split_at_checked(usize::from(*length).div_ceil(8))?;
+        let mut words = [0; 20];
+        words[4 - id.len()..4].copy_from_slice(id);
+        words.get_mut(4..4 + octets.len())?.copy_from_slice(octets);
+        rows.push(u32::from(*length) + if with_id { 256 } else { 0 });
+        rows.extend(words.chunks_exact(4).map(|four| u32::from_be_bytes([four[0], four[1], four[2], four[3]])));
+        list = rest;
+    }
+    Some(rows)
 }
 
 /// Types that are asked for in every section, whether they are there or not.
@@ -199,22 +217,47 @@ impl Capture {
             ATTRIBUTE_AS4_PATH => path(FOUR_BYTE_AS),
             ATTRIBUTE_AGGREGATOR => vec![on_bytes(8, self.width_setting(), (0, 0), attribute.value)],
             ATTRIBUTE_AS4_AGGREGATOR => vec![on_bytes(8, FOUR_BYTE_AS, (0, 0), attribute.value)],
-            ATTRIBUTE_MP_REACH => {
-                let next_hop = usize::from(*attribute.value.get(3)?);
-                self.ipv6_requests(attribute.value, 4 + next_hop + 1)?
-            }
-            ATTRIBUTE_MP_UNREACH => self.ipv6_requests(attribute.value, 3)?,
+            ATTRIBUTE_MP_REACH => self.announcement_requests(attribute.value)?,
+            ATTRIBUTE_MP_UNREACH => self.withdrawal_requests(attribute.value),
             _ => vec![],
         })
     }
 
-    /// The route list of an MP attribute of IPv6 unicast; it begins at `start`.
-    fn ipv6_requests(&self, value: &[u8], start: usize) -> Option<Vec<Request>> {
-        if value.get(..3)? != [0, 2, 1] {
-            return Some(vec![]);
+    /// Add-Path where routes of IPv6 have ids.
+    fn ipv6_setting(&self) -> u8 {
+        if self.add_path_ipv6 {
+            ADD_PATH
+        } else {
+            0
         }
+    }
+
+    /// The value of MP_REACH_NLRI as the session was and by the guess; of IPv6 unicast also its list, and its routes to be written back.
+    fn announcement_requests(&self, value: &[u8]) -> Option<Vec<Request>> {
+        let mut requests = [self.ipv6_setting(), GUESS].map(|settings| announced(settings, ROWS, value)).concat();
+        if value.starts_with(&FAMILIES) {
+            let (next_hop, rest) = value.get(4..)?.split_at_checked(usize::from(value[3]))?;
+            let list = rest.get(1..)?;
+            requests.extend(self.list_requests(list));
+            let rows = rows(list, self.add_path_ipv6);
+            requests.extend(rows.map(|rows| write_announcement(self.ipv6_setting(), value.len(), next_hop, &rows)));
+        }
+        Some(requests)
+    }
+
+    /// The value of MP_UNREACH_NLRI, likewise.
+    fn withdrawal_requests(&self, value: &[u8]) -> Vec<Request> {
+        let mut requests = [self.ipv6_setting(), GUESS].map(|settings| withdrawn(settings, ROWS, value)).concat();
+        if let Some(list) = value.strip_prefix(&FAMILIES) {
+            requests.extend(self.list_requests(list));
+            let rows = rows(list, self.add_path_ipv6);
+            requests.extend(rows.map(|rows| write_withdrawal(self.ipv6_setting(), value.len(), &rows)));
+        }
+        requests
+    }
+
+    fn list_requests(&self, list: &[u8]) -> Vec<Request> {
         let settings: &[u8] = if self.add_path_ipv6 { &[ADD_PATH] } else { &[0, GUESS] };
-        let list = value.get(start..)?;
-        Some(settings.iter().map(|setting| on_bytes(2, IPV6 | setting, (ROWS, 0), list)).collect())
+        settings.iter().map(|setting| on_bytes(2, IPV6 | setting, (ROWS, 0), list)).collect()
     }
 }

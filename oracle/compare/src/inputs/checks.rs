@@ -217,25 +217,30 @@ fn aggregators() -> Vec<Request> {
     requests
 }
 
-/// Rows to write: each way not to be writable, alone and after a good row, and 14 before 11.
+/// Rows to write, the first of them good, and each way not to be writable.
+pub fn rows_to_write(settings: u8) -> [Vec<u32>; 11] {
+    let (mark, id) = if settings & ADD_PATH != 0 { (256, 7) } else { (0, 0) };
+    let most = if settings & IPV6 != 0 { 128 } else { 32 };
+    [
+        vec![mark + 8, id, 0x0A00_0000, 0, 0, 0],
+        vec![mark + most, id, 1, 0, 0, 0],
+        vec![mark + most + 1, id, 1, 0, 0, 0],
+        vec![mark + 256 + 8, id, 0x0A00_0000, 0, 0, 0],
+        vec![8, id, 0x0A00_0000, 0, 0, 0],
+        vec![mark + 8, 1, 0x0A00_0000, 0, 0, 0],
+        vec![mark + 8, id, 0x0A01_0000, 0, 0, 0],
+        vec![mark + 8, id, 0x0A00_0000, 0, 0, 1],
+        vec![mark + 32, id, 0x0A00_0000, 1, 0, 0],
+        vec![mark, id, 0, 0, 0],
+        vec![],
+    ]
+}
+
+/// Rows to write, alone and after a good row, and 14 before 11.
 fn written_rows() -> Vec<Request> {
     let mut requests = vec![];
     for settings in [0, ADD_PATH, IPV6, IPV6 | ADD_PATH] {
-        let (mark, id) = if settings & ADD_PATH != 0 { (256, 7) } else { (0, 0) };
-        let most = if settings & IPV6 != 0 { 128 } else { 32 };
-        let rows: [Vec<u32>; 11] = [
-            vec![mark + 8, id, 0x0A00_0000, 0, 0, 0],
-            vec![mark + most, id, 1, 0, 0, 0],
-            vec![mark + most + 1, id, 1, 0, 0, 0],
-            vec![mark + 256 + 8, id, 0x0A00_0000, 0, 0, 0],
-            vec![8, id, 0x0A00_0000, 0, 0, 0],
-            vec![mark + 8, 1, 0x0A00_0000, 0, 0, 0],
-            vec![mark + 8, id, 0x0A01_0000, 0, 0, 0],
-            vec![mark + 8, id, 0x0A00_0000, 0, 0, 1],
-            vec![mark + 32, id, 0x0A00_0000, 1, 0, 0],
-            vec![mark, id, 0, 0, 0],
-            vec![],
-        ];
+        let rows = rows_to_write(settings);
         for row in &rows {
             let after = [rows[0].as_slice(), row].concat();
             for (words_lent, room) in [(row, 64), (row, 6), (row, 0), (&after, 64), (&after, 0)] {

@@ -4,7 +4,9 @@
 use super::as4::{self, joined};
 use super::attributes::{search, walk};
 use super::examples::{self, on_bytes, request, words, PATH_SETTINGS};
-use super::hosts;
+use super::hosts::{self, READINGS};
+use super::mp_nlri::NEXT_HOP;
+use super::pieces;
 use records::{Request, ADD_PATH, FOUR_BYTE_AS, GUESS, IPV6};
 
 /// Requests in a fixed order, made one at a time.
@@ -17,6 +19,7 @@ impl Short {
                 .chain(written_messages())
                 .chain(written_rows())
                 .chain(aggregators())
+                .chain(announcements_and_withdrawals())
                 .chain(hosts::every_way())
                 .chain(malformed_pairs())
                 .chain(headers())
@@ -58,8 +61,6 @@ static BYTES: [u8; 256] = {
     all
 };
 
-const READINGS: [u8; 3] = [0, GUESS, ADD_PATH];
-
 fn lists() -> impl Iterator<Item = Request> {
     let all_settings = READINGS.map(|reading| [reading, reading | IPV6]).concat();
     let around_zero = strings(&[0, 1, 8, 32, 33, 255], 3..=6).chain(strings(&[0, 8, 24], 7..=9));
@@ -95,6 +96,26 @@ fn updates() -> impl Iterator<Item = Request> {
         requests.push(on_bytes(12, 0, (0, 0), &bytes));
         requests
     })
+}
+
+/// Values over the bytes of the families and of a next hop's length; every byte in the place of each of these; and short lists in each reading.
+fn announcements_and_withdrawals() -> impl Iterator<Item = Request> {
+    let short =
+        strings(&[0, 1, 2, 16, 255], 0..=4).flat_map(|value| [23, 25].map(|op| on_bytes(op, GUESS, (0, 0), &value)));
+    let every_byte = (0..4).flat_map(|at| {
+        BYTES.into_iter().flat_map(move |byte| {
+            let mut values = [pieces::announcement(&NEXT_HOP, 0, &[8, 0x20]), pieces::withdrawal(&[8, 0x20])];
+            values.iter_mut().for_each(|value| value[at] = byte);
+            [on_bytes(23, GUESS, (0, 0), &values[0]), on_bytes(25, GUESS, (0, 0), &values[1])]
+        })
+    });
+    let lists = strings(&[0, 1, 8, 33, 129], 0..=4).flat_map(|list| {
+        let values = [(22, pieces::announcement(&NEXT_HOP, 0, &list)), (24, pieces::withdrawal(&list))];
+        READINGS
+            .into_iter()
+            .flat_map(move |reading| values.clone().map(|(op, value)| on_bytes(op, reading, (18, 0), &value)))
+    });
+    short.chain(every_byte).chain(lists)
 }
 
 /// Sections over no length, a length and the extended bit, of one type and of MP_REACH_NLRI.

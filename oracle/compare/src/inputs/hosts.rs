@@ -11,7 +11,7 @@ pub fn all() -> Vec<Request> {
     [edges(), lists(), mixed_lists(), refused_lists(), updates(), refused_updates()].concat()
 }
 
-const READINGS: [u8; 3] = [0, ADD_PATH, GUESS];
+pub const READINGS: [u8; 3] = [0, ADD_PATH, GUESS];
 
 /// An id that the guess takes for one; of all its other bits each is set.
 const ID: [u8; 4] = [0, 0xFF, 0xFF, 0xFF];
@@ -96,7 +96,7 @@ pub fn every_way() -> impl Iterator<Item = Request> {
 
 /// The request's example, the route that it is sent for, and both; whole octets, and one bit less; items whose length byte stands elsewhere
 /// with an id than without; and IPv6.
-const MIXED: &[&str] = &[
+pub const MIXED: &[&str] = &[
     "09 0A FF",
     "09 0A 80",
     "09 0A FF 09 0A 80",
@@ -129,7 +129,7 @@ fn mixed_lists() -> Vec<Request> {
 }
 
 /// Rows with a host bit before an item that is refused, in both forms.
-const REFUSED: &[&str] = &[
+pub const REFUSED: &[&str] = &[
     "09 0A FF 81",
     "09 0A FF 09 0A",
     "09 0A FF 09 0B FF 18 0A 01",
@@ -164,8 +164,7 @@ fn section(reading: u8, items: &[&[u8]]) -> Vec<u8> {
 
 /// An IPv6 announcement with a host bit, of which an UPDATE's sections have nothing.
 fn attribute() -> Vec<u8> {
-    let value = [&[0, 2, 1, 16][..], &[0; 16], &[0, 9, 0x20, 0xFF]].concat();
-    pieces::with_head(0x80, 14, &value)
+    pieces::with_head(0x80, 14, &pieces::announcement(&[0; 16], 0, &[9, 0x20, 0xFF]))
 }
 
 /// Every pair of sections with no rows, rows of either kind and of both, and rows before a refusal; and a single byte.

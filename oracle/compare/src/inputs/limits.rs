@@ -4,6 +4,7 @@
 use super::as4::{joined, standing, ABSENT, FIRST_STANDS};
 use super::attributes::{search, walk};
 use super::examples::{on_bytes, request, words, HEADER_SETTINGS};
+use super::mp_nlri::{write_announcement, write_withdrawal, NEXT_HOP};
 use super::pieces;
 use records::{Request, ADD_PATH, EXTENDED, FOUR_BYTE_AS, GUESS, IPV6, STRICT};
 
@@ -24,6 +25,8 @@ pub fn all() -> Vec<Request> {
         over_long_sections(),
         joined_paths(),
         long_joined_paths(),
+        announcements_and_withdrawals(),
+        written_announcements_and_withdrawals(),
     ]
     .concat()
 }
@@ -275,6 +278,44 @@ fn long_joined_paths() -> Vec<Request> {
     let new = [[vec![2, 255], vec![3; 1_020]].concat().repeat(64), vec![2, 31], vec![3; 124]].concat();
     let rooms = [(2 * (64 + 65), 32_639), (2 * (64 + 65), 32_638)];
     rooms.map(|rooms| joined([&old, &new], ABSENT, rooms)).to_vec()
+}
+
+/// Values of default routes, without ids or with ids 0. What is over the limit is else good, or of other families too.
+fn announcements_and_withdrawals() -> Vec<Request> {
+    let announcement = |op, settings, room, size: usize| {
+        on_bytes(op, settings, (room, 0), &pieces::announcement(&NEXT_HOP[..16], 1, &vec![0; size - 21]))
+    };
+    let withdrawal =
+        |op, settings, size: usize| on_bytes(op, settings, (0, 0), &pieces::withdrawal(&vec![0; size - 3]));
+    vec![
+        announcement(23, 0, 0, 65_534),
+        // 13,102 rows with ids and four zeros more
+        announcement(22, GUESS, 6 * 13_106, 65_535),
+        announcement(22, GUESS, 0, 65_536),
+        on_bytes(23, GUESS, (0, 0), &vec![0; 65_536]),
+        withdrawal(25, 0, 65_535),
+        withdrawal(24, GUESS, 65_536),
+    ]
+}
+
+/// Up to 3,120 rows of 21 bytes and a shorter one: 65,514 bytes after the head of an announcement and 65,532 after that of a withdrawal are the
+/// most. The list alone is never too long. 18 and 14 come first, and 1 before 11.
+fn written_announcements_and_withdrawals() -> Vec<Request> {
+    let rows = |size: u32, last_word: u32| {
+        let last = [256 + 8 * (size % 21 - 5), 7, 0, 0, 0, last_word];
+        [[256 + 128, 7, 1, 2, 3, 4].repeat(size as usize / 21), last.to_vec()].concat()
+    };
+    let announcement =
+        |room, next_hop: usize, rows: &[u32]| write_announcement(ADD_PATH, room, &NEXT_HOP[..next_hop], rows);
+    vec![
+        announcement(65_535, 16, &rows(65_514, 0)),
+        announcement(65_600, 16, &rows(65_515, 0)),
+        announcement(0, 17, &rows(65_515, 0)),
+        announcement(65_600, 32, &rows(65_515, 1)),
+        write_withdrawal(ADD_PATH, 65_534, &rows(65_532, 0)),
+        write_withdrawal(ADD_PATH, 0, &rows(65_533, 0)),
+        write_withdrawal(ADD_PATH, 0, &rows(65_533, 1)),
+    ]
 }
 
 /// One or two attributes of a type that the crate keeps raw, so that the section has exactly this size.

@@ -10,6 +10,7 @@ pub mod examples;
 pub mod exhaustive;
 pub mod hosts;
 pub mod limits;
+pub mod mp_nlri;
 pub mod pieces;
 pub mod random;
 
@@ -19,7 +20,8 @@ use records::Request;
 
 /// Document 01's examples, and the numbers and orders of checks of it and of the requests: these stand in the sample too.
 pub fn numbers() -> Vec<Request> {
-    [examples::all(), checks::all(), attributes::all(), as4::all(), hosts::all(), limits::all()].concat()
+    let checks = [checks::all(), attributes::all(), as4::all(), hosts::all(), mp_nlri::all()].concat();
+    [examples::all(), checks, limits::all()].concat()
 }
 
 /// An endless source of requests, the same for the same seed and captures.
@@ -48,12 +50,16 @@ impl Inputs {
         }
     }
 
-    /// A request on a captured message, its bytes damaged.
+    /// A request on a captured message, its bytes damaged; rows to write stay whole numbers.
     fn damaged_capture(&mut self) -> Request {
         let at = self.rng.under(self.captures.len());
         let requests = &self.captures[at].requests;
         let mut request = requests[self.rng.under(requests.len())].clone();
-        pieces::damage(&mut self.rng, &mut request.parts[0]);
+        let part = &mut request.parts[0];
+        pieces::damage(&mut self.rng, part);
+        if request.op == 27 {
+            part.truncate(part.len() / 4 * 4);
+        }
         request
     }
 }

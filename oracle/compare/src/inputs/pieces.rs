@@ -167,9 +167,9 @@ pub fn attribute_list(rng: &mut Rng, width: usize) -> Vec<Vec<u8>> {
             }
             8 => {
                 let routes = list(rng, 2, false, true, false);
-                (14, [&[0, 2, 1, 16], rng.bytes(16).as_slice(), &[0], &routes].concat())
+                (14, announcement(&rng.bytes(16), 0, &routes))
             }
-            9 => (15, [vec![0, 2, 1], list(rng, 2, false, true, false)].concat()),
+            9 => (15, withdrawal(&list(rng, 2, false, true, false))),
             _ => {
                 let size = rng.under(9);
                 (rng.byte(), rng.bytes(size))
@@ -191,6 +191,19 @@ pub fn with_head(flags: u8, kind: u8, value: &[u8]) -> Vec<u8> {
     let length = (value.len() as u16).to_be_bytes();
     let told = if flags & EXTENDED_LENGTH != 0 { &length[..] } else { &length[1..] };
     [&[flags, kind], told, value].concat()
+}
+
+/// The families of IPv6 unicast.
+pub const FAMILIES: [u8; 3] = [0, 2, 1];
+
+/// The value of an announcement: the families, a next hop after its length modulo 256, the reserved byte and a list.
+pub fn announcement(next_hop: &[u8], reserved: u8, list: &[u8]) -> Vec<u8> {
+    [&FAMILIES[..], &[next_hop.len() as u8], next_hop, &[reserved], list].concat()
+}
+
+/// The value of a withdrawal: the families and a list.
+pub fn withdrawal(list: &[u8]) -> Vec<u8> {
+    [&FAMILIES[..], list].concat()
 }
 
 /// Attributes of any flags, whose types come again and again; the values are any bytes.

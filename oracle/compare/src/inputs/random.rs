@@ -5,6 +5,7 @@ use super::as4_pairs::{self, AS_TRANS};
 use super::attributes::{search, walk};
 use super::examples::{on_bytes, words};
 use super::limits::raw_attribute;
+use super::mp_nlri::{write_announcement, write_withdrawal};
 use super::pieces::{self, damage, Segments};
 use crate::rng::Rng;
 use records::{Request, ADD_PATH, FOUR_BYTE_AS, GUESS, IPV6, LAST_OP, LAST_SETTINGS};
@@ -29,7 +30,10 @@ pub fn request_of(rng: &mut Rng, op: u8, settings: u8) -> Request {
         18 => walked(rng, settings),
         19 => searched(rng, settings),
         20 => standing_one(rng, settings),
-        _ => joined_paths(rng, settings),
+        21 => joined_paths(rng, settings),
+        22..=25 => announced_or_withdrawn(rng, op, settings),
+        26 => written_announcement(rng, settings),
+        _ => written_withdrawal(rng, settings),
     }
 }
 
@@ -367,12 +371,58 @@ fn joined_paths(rng: &mut Rng, settings: u8) -> Request {
     Request { settings, ..joined([&pair.old, &pair.new], [&both[0], &both[1]], rooms) }
 }
 
+/// A next hop: mostly of 16 or 32 bytes, at times of a length near these or of another family's.
+fn next_hop(rng: &mut Rng) -> Vec<u8> {
+    let length = if rng.one_in(16) { rng.pick(&OTHER_NEXT_HOPS) } else { rng.pick(&[16, 32]) };
+    rng.bytes(length.into())
+}
+
+/// Lengths that no next hop of IPv6 has.
+const OTHER_NEXT_HOPS: [u8; 10] = [0, 4, 12, 15, 17, 24, 31, 33, 48, 255];
+
+/// What comes before the list of an announcement (ops 22 and 23) or a withdrawal.
+fn before_list(rng: &mut Rng, op: u8) -> Vec<u8> {
+    if op > 23 {
+        return pieces::withdrawal(&[]);
+    }
+    let reserved = if rng.one_in(4) { rng.byte() } else { 0 };
+    pieces::announcement(&next_hop(rng), reserved, &[])
+}
+
+/// Mostly good values; at times other families, another next-hop length than its bytes are, a cut head, or damage anywhere.
+fn announced_or_withdrawn(rng: &mut Rng, op: u8, settings: u8) -> Request {
+    let (list, count) = list_bytes(rng, settings, true);
+    let mut value = [before_list(rng, op), list].concat();
+    match rng.under(16) {
+        0 => value[rng.under(3)] = rng.pick(&[0, 1, 2, 3, 4, 64, 71, 128, 133, 255]),
+        1 if op <= 23 => value[3] = if rng.one_in(2) { rng.pick(&[16, 32]) } else { rng.pick(&OTHER_NEXT_HOPS) },
+        2 => value.truncate(rng.under(value.len().min(40))),
+        3 => damage(rng, &mut value),
+        _ => {}
+    }
+    let places = room(rng, 6 * count);
+    on_bytes(op, settings, (places, 0), &value)
+}
+
+fn written_announcement(rng: &mut Rng, settings: u8) -> Request {
+    let next_hop = next_hop(rng);
+    let (numbers, bytes) = rows(rng, settings, true);
+    let places = room(rng, 5 + next_hop.len() + bytes);
+    write_announcement(settings, places, &next_hop, &numbers)
+}
+
+fn written_withdrawal(rng: &mut Rng, settings: u8) -> Request {
+    let (numbers, bytes) = rows(rng, settings, true);
+    let places = room(rng, 3 + bytes);
+    write_withdrawal(settings, places, &numbers)
+}
+
 /// A request near the greatest size of its op.
 pub fn large(rng: &mut Rng, op: u8) -> Request {
     let settings = any_settings(rng);
     let size = rng.pick(&[65_514, 65_515, 65_516, 65_517, 65_534, 65_535, 65_536, 65_540]);
     match op {
-        13..=17 => large_to_write(rng, op, settings, size),
+        13..=17 | 26 | 27 => large_to_write(rng, op, settings, size),
         _ => large_to_read(rng, op, settings, size),
     }
 }
@@ -404,7 +454,8 @@ fn large_to_read(rng: &mut Rng, op: u8, settings: u8, size: usize) -> Request {
         18 => walk(&large_section(rng, size), rng.pick(&[0, 30_000, 65_000, size as u32 - 3, size as u32, u32::MAX])),
         19 => search(&large_section(rng, size), rng.pick(&[14, 15, 200, 201])),
         20 => standing([&vec![7; size], &[]]),
-        _ => large_joined(rng, size),
+        21 => large_joined(rng, size),
+        _ => large_announced_or_withdrawn(rng, op, settings, size),
     }
 }
 
@@ -416,6 +467,14 @@ fn large_joined(rng: &mut Rng, size: usize) -> Request {
     let both = if rng.one_in(2) { aggregators(rng) } else { Default::default() };
     let rooms = (rng.pick(&[140_000, 600]), rng.pick(&[60_000, 1_000]));
     joined([&paths[0], &paths[1]], [&both[0], &both[1]], rooms)
+}
+
+fn large_announced_or_withdrawn(rng: &mut Rng, op: u8, settings: u8, size: usize) -> Request {
+    let head = before_list(rng, op);
+    let list = large_list(rng, size - head.len(), settings & ADD_PATH != 0, true);
+    let value = [head, list].concat();
+    let places = rng.pick(&[400_000, 393_084, 393_083, 90_000, 60]);
+    on_bytes(op, settings, (places, 0), &value)
 }
 
 fn large_to_write(rng: &mut Rng, op: u8, settings: u8, size: usize) -> Request {
@@ -436,12 +495,21 @@ fn large_to_write(rng: &mut Rng, op: u8, settings: u8, size: usize) -> Request {
             };
             request_on(16, settings, 70_000, [body, vec![], vec![]], kind)
         }
-        _ => {
+        17 => {
             let attributes = raw_attribute(rng.pick(&[60_000, 65_000, 65_535, 65_536, 4]));
             let rest = rng.pick(&[5_000, 500, 60, 20, 65_516]);
             let withdrawn = large_rows(rng, settings, false, rest, 8_000);
             let announced = large_rows(rng, settings, false, rest, 8_000);
             request_on(17, settings, 70_000, [words(&withdrawn), attributes, words(&announced)], 0)
+        }
+        26 => {
+            let next_hop = next_hop(rng);
+            let numbers = large_rows(rng, settings, true, size - 5 - next_hop.len(), 16_600);
+            write_announcement(settings, rng.pick(&[70_000, 1_000]), &next_hop, &numbers)
+        }
+        _ => {
+            let numbers = large_rows(rng, settings, true, size - 3, 16_600);
+            write_withdrawal(settings, rng.pick(&[70_000, 1_000]), &numbers)
         }
     }
 }

@@ -3,7 +3,7 @@
 use crate::error::{EncodingError, ParserError};
 use crate::models::*;
 use crate::oracle::private::{Inside, PrivateCalls};
-use crate::parser::bgp::attributes::{attr_02_17_as_path, attr_07_18_aggregator};
+use crate::parser::bgp::attributes::{attr_02_17_as_path, attr_03_next_hop, attr_07_18_aggregator, attr_14_15_nlri};
 use bytes::{Bytes, BytesMut};
 use std::net::IpAddr;
 
@@ -30,5 +30,13 @@ impl PrivateCalls for Inside {
 
     fn encode_as_path(path: &AsPath, width: AsnLength, output: &mut BytesMut) -> Result<(), EncodingError> {
         attr_02_17_as_path::encode_as_path(path, width, output)
+    }
+
+    fn parse_mp_next_hop(value: Bytes) -> Result<Option<NextHopAddress>, ParserError> {
+        attr_03_next_hop::parse_mp_next_hop(value)
+    }
+
+    fn encode_nlri(nlri: &Nlri, reachable: bool, add_path: bool, output: &mut BytesMut) -> Result<(), EncodingError> {
+        attr_14_15_nlri::encode_nlri(nlri, reachable, add_path, output)
     }
 }
