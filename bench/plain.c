@@ -25,6 +25,8 @@ enum {
     NOT_WRITABLE = 14,
     REPEATED_MP = 15,
     EMPTY_SEGMENT = 16,
+    OTHER_FAMILY = 17,
+    BAD_NEXT_HOP = 18,
 };
 
 enum { MOST_BYTES = 65535, MOST_BODY = 65516, HEADER = 19, ROW = 6, HAS_ID = 256 };
@@ -298,15 +300,79 @@ uint64_t plain_count_nlri_list(const uint8_t *s, size_t n, uint8_t ipv6, uint8_t
     return count_in_form(s, n, of, form_of(settings));
 }
 
+// What is counted of a list, once its rows are put where there is room.
+INLINE uint64_t parse_list(const uint8_t *s, size_t n, family of, form form, uint32_t *store, size_t places) {
+    uint64_t counted = count_in_form(s, n, of, form);
+    if (refusal_of(counted)) return counted;
+    if (rows_of(counted) > places / ROW) return refused(NO_ROOM);
+    fill_in_form(s, n, of, form, store);
+    return counted;
+}
+
 uint64_t plain_parse_nlri_list(const uint8_t *s, size_t n, uint8_t ipv6, uint8_t settings, uint32_t *store,
                                size_t places) {
     if (n > MOST_BYTES) return refused(OVER_LONG);
     FAMILY(of, ipv6);
-    uint64_t counted = count_in_form(s, n, of, form_of(settings));
-    if (refusal_of(counted)) return counted;
-    if (rows_of(counted) > places / ROW) return refused(NO_ROOM);
-    fill_in_form(s, n, of, form_of(settings), store);
-    return counted;
+    return parse_list(s, n, of, form_of(settings), store, places);
+}
+
+// ---- MP_REACH_NLRI and MP_UNREACH_NLRI of IPv6 unicast ----
+
+// The family 2 and the subfamily 1; the bytes of both, and those of an MP_REACH_NLRI before and after its next hop.
+enum { IPV6_UNICAST = 0x000201, PAIR = 3, BEFORE_HOP = 4, AROUND_HOP = 5 };
+
+INLINE bool is_next_hop(size_t bytes) { return bytes == 16 || bytes == 32; }
+
+// The refusal of a value without so many bytes, of which the pair of families comes first; or 0.
+INLINE uint64_t value_refusal(const uint8_t *value, size_t n, size_t least) {
+    if (n > MOST_BYTES) return refused(OVER_LONG);
+    if (n < PAIR) return refused(TOO_SHORT);
+    if ((read2(value) << 8 | value[2]) != IPV6_UNICAST) return refused(OTHER_FAMILY);
+    return n < least ? refused(TOO_SHORT) : 0;
+}
+
+// What the answer of an MP_REACH_NLRI has of the bytes before its list, and how many they are; or the refusal.
+INLINE uint64_t reach_head(const uint8_t *value, size_t n, size_t *bytes) {
+    uint64_t refusal = value_refusal(value, n, BEFORE_HOP);
+    if (refusal) return refusal;
+    size_t hop = value[BEFORE_HOP - 1];
+    if (!is_next_hop(hop)) return refused(BAD_NEXT_HOP);
+    *bytes = AROUND_HOP + hop;
+    if (n < *bytes) return refused(TOO_SHORT);
+    return answer(0, 0, hop | (value[*bytes - 1] ? 256 : 0));
+}
+
+// The answer of a list with that of the bytes before it.
+INLINE uint64_t with_head(uint64_t listed, uint64_t head) { return refusal_of(listed) ? listed : listed | head; }
+
+uint64_t plain_count_mp_reach_nlri(const uint8_t *value, size_t n, uint8_t settings) {
+    size_t bytes;
+    uint64_t head = reach_head(value, n, &bytes);
+    if (refusal_of(head)) return head;
+    FAMILY(of, true);
+    return with_head(count_in_form(value + bytes, n - bytes, of, form_of(settings)), head);
+}
+
+uint64_t plain_parse_mp_reach_nlri(const uint8_t *value, size_t n, uint8_t settings, uint32_t *store, size_t places) {
+    size_t bytes;
+    uint64_t head = reach_head(value, n, &bytes);
+    if (refusal_of(head)) return head;
+    FAMILY(of, true);
+    return with_head(parse_list(value + bytes, n - bytes, of, form_of(settings), store, places), head);
+}
+
+uint64_t plain_count_mp_unreach_nlri(const uint8_t *value, size_t n, uint8_t settings) {
+    uint64_t refusal = value_refusal(value, n, PAIR);
+    if (refusal) return refusal;
+    FAMILY(of, true);
+    return count_in_form(value + PAIR, n - PAIR, of, form_of(settings));
+}
+
+uint64_t plain_parse_mp_unreach_nlri(const uint8_t *value, size_t n, uint8_t settings, uint32_t *store, size_t places) {
+    uint64_t refusal = value_refusal(value, n, PAIR);
+    if (refusal) return refusal;
+    FAMILY(of, true);
+    return parse_list(value + PAIR, n - PAIR, of, form_of(settings), store, places);
 }
 
 // ---- The UPDATE body ----
@@ -765,14 +831,42 @@ static void write_in_form(const uint32_t *rows, bool ipv6, bool id, uint8_t *out
     return id ? write_rows(rows, false, true, out, bytes) : write_rows(rows, false, false, out, bytes);
 }
 
+// The bytes of rows after `head` bytes, where there is room for all of them, or the refusal.
+INLINE uint64_t measure_after(size_t head, const uint32_t *rows, size_t places, bool ipv6, bool id, size_t room) {
+    uint64_t bytes = measure_in_form(rows, places, ipv6, id);
+    if (refusal_of(bytes)) return bytes;
+    if (head + bytes > MOST_BYTES) return refused(OVER_LONG);
+    return head + bytes > room ? refused(NO_ROOM) : bytes;
+}
+
 uint64_t plain_encode_nlri_prefixes(const uint32_t *rows, size_t places, uint8_t ipv6, uint8_t add_path, uint8_t *out,
                                     size_t room) {
-    uint64_t bytes = measure_in_form(rows, places, ipv6, add_path);
-    if (refusal_of(bytes)) return bytes;
-    if (bytes > MOST_BYTES) return refused(OVER_LONG);
-    if (bytes > room) return refused(NO_ROOM);
-    write_in_form(rows, ipv6, add_path, out, bytes);
+    uint64_t bytes = measure_after(0, rows, places, ipv6, add_path, room);
+    if (!refusal_of(bytes)) write_in_form(rows, ipv6, add_path, out, bytes);
     return bytes;
+}
+
+uint64_t plain_encode_mp_reach_nlri(const uint8_t *next_hop, size_t hop, const uint32_t *rows, size_t places,
+                                    uint8_t add_path, uint8_t *out, size_t room) {
+    if (!is_next_hop(hop)) return refused(BAD_NEXT_HOP);
+    uint64_t bytes = measure_after(AROUND_HOP + hop, rows, places, true, add_path, room);
+    if (refusal_of(bytes)) return bytes;
+    write4(out, IPV6_UNICAST << 8 | (uint32_t)hop);
+    memcpy(out + BEFORE_HOP, next_hop, 16);
+    if (hop == 32) memcpy(out + BEFORE_HOP + 16, next_hop + 16, 16);
+    out[BEFORE_HOP + hop] = 0;
+    write_in_form(rows, true, add_path, out + AROUND_HOP + hop, bytes);
+    return AROUND_HOP + hop + bytes;
+}
+
+uint64_t plain_encode_mp_unreach_nlri(const uint32_t *rows, size_t places, uint8_t add_path, uint8_t *out,
+                                      size_t room) {
+    uint64_t bytes = measure_after(PAIR, rows, places, true, add_path, room);
+    if (refusal_of(bytes)) return bytes;
+    write2(out, IPV6_UNICAST >> 8);
+    out[2] = IPV6_UNICAST & 0xFF;
+    write_in_form(rows, true, add_path, out + PAIR, bytes);
+    return PAIR + bytes;
 }
 
 // The first refusal of a path to write that has one.
