@@ -1,5 +1,5 @@
-/* Reads the slot records of a file and prints the IPv6 routes of each UPDATE in them: those that its MP_UNREACH_NLRI withdraws, and the next
- * hops and the routes of its MP_REACH_NLRI. Either attribute of another family is passed over, with a word.
+/* Reads the slot records of a file and prints the IPv6 routes of each UPDATE in them: those that its MP_UNREACH_NLRI withdraws, and the
+ * next hops and the routes of its MP_REACH_NLRI. Either attribute of another family is passed over, with a word.
  *
  * usage: list_ipv6 FILE     `-` is standard input
  *

@@ -121,9 +121,9 @@ static const char *print_slots(struct input *in, unsigned long *refused, update_
     return NULL;
 }
 
-/* All of an example: the file that its one argument names, `-` for standard input, to the end. Answers the exit status: 0 where every message
- * and all of it that the example reads was good; 1 where something was refused; 2 where the input cannot be read to its end as records, or the
- * output cannot be written, with a sentence on standard error. */
+/* All of an example: the file that its one argument names, `-` for standard input, to the end. Answers the exit status: 0 where every
+ * message and all of it that the example reads was good; 1 where something was refused; 2 where the input cannot be read to its end as
+ * records, or the output cannot be written, with a sentence on standard error. */
 static int list_slots(const char *me, int argc, char **argv, update_printer *print_update) {
     struct input in = {NULL, stdin, buffer, 0, 0, 0};
     unsigned long refused = 0;
