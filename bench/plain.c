@@ -300,26 +300,24 @@ uint64_t plain_count_nlri_list(const uint8_t *s, size_t n, uint8_t ipv6, uint8_t
     return count_in_form(s, n, of, form_of(settings));
 }
 
-// What is counted of a list, once its rows are put where there is room.
-INLINE uint64_t parse_list(const uint8_t *s, size_t n, family of, form form, uint32_t *store, size_t places) {
-    uint64_t counted = count_in_form(s, n, of, form);
-    if (refusal_of(counted)) return counted;
-    if (rows_of(counted) > places / ROW) return refused(NO_ROOM);
-    fill_in_form(s, n, of, form, store);
-    return counted;
+// What is counted of a list, or the refusal where the rows have no room.
+INLINE uint64_t with_room(uint64_t counted, size_t places) {
+    return rows_of(counted) > places / ROW ? refused(NO_ROOM) : counted;
 }
 
 uint64_t plain_parse_nlri_list(const uint8_t *s, size_t n, uint8_t ipv6, uint8_t settings, uint32_t *store,
                                size_t places) {
     if (n > MOST_BYTES) return refused(OVER_LONG);
     FAMILY(of, ipv6);
-    return parse_list(s, n, of, form_of(settings), store, places);
+    uint64_t counted = with_room(count_in_form(s, n, of, form_of(settings)), places);
+    if (!refusal_of(counted)) fill_in_form(s, n, of, form_of(settings), store);
+    return counted;
 }
 
 // ---- MP_REACH_NLRI and MP_UNREACH_NLRI of IPv6 unicast ----
 
 // The family 2 and the subfamily 1; the bytes of both, and those of an MP_REACH_NLRI before and after its next hop.
-enum { IPV6_UNICAST = 0x000201, PAIR = 3, BEFORE_HOP = 4, AROUND_HOP = 5 };
+enum { IPV6_UNICAST = 0x000201, PAIR = 3, BEFORE_HOP = 4, AROUND_HOP = 5, SHORT = 64 };
 
 INLINE bool is_next_hop(size_t bytes) { return bytes == 16 || bytes == 32; }
 
@@ -342,37 +340,55 @@ INLINE uint64_t reach_head(const uint8_t *value, size_t n, size_t *bytes) {
     return answer(0, 0, hop | (value[*bytes - 1] ? 256 : 0));
 }
 
+// The list of a value. One up to SHORT bytes goes by instances of the loops in the call itself: most values have a route
+// or two, and would feel another call.
+INLINE uint64_t count_value(const uint8_t *s, size_t n, family of, form form) {
+    if (n > SHORT) return count_in_form(s, n, of, form);
+    if (form == WITHOUT_ID) return count_list(s, n, of, WITHOUT_ID);
+    return form == WITH_ID ? count_list(s, n, of, WITH_ID) : count_list(s, n, of, GUESS);
+}
+
+INLINE void fill_value(const uint8_t *s, size_t n, family of, form form, uint32_t *store) {
+    if (n > SHORT) return fill_in_form(s, n, of, form, store);
+    if (form == WITHOUT_ID) return fill_list(s, n, of, WITHOUT_ID, store);
+    return form == WITH_ID ? fill_list(s, n, of, WITH_ID, store) : fill_list(s, n, of, GUESS, store);
+}
+
+INLINE uint64_t count_ipv6(const uint8_t *s, size_t n, uint8_t settings) {
+    FAMILY(of, true);
+    return count_value(s, n, instance(of, true), form_of(settings));
+}
+
+INLINE uint64_t parse_ipv6(const uint8_t *s, size_t n, uint8_t settings, uint32_t *store, size_t places) {
+    FAMILY(of, true);
+    uint64_t counted = with_room(count_value(s, n, instance(of, true), form_of(settings)), places);
+    if (!refusal_of(counted)) fill_value(s, n, instance(of, true), form_of(settings), store);
+    return counted;
+}
+
 // The answer of a list with that of the bytes before it.
 INLINE uint64_t with_head(uint64_t listed, uint64_t head) { return refusal_of(listed) ? listed : listed | head; }
 
 uint64_t plain_count_mp_reach_nlri(const uint8_t *value, size_t n, uint8_t settings) {
     size_t bytes;
     uint64_t head = reach_head(value, n, &bytes);
-    if (refusal_of(head)) return head;
-    FAMILY(of, true);
-    return with_head(count_in_form(value + bytes, n - bytes, of, form_of(settings)), head);
+    return refusal_of(head) ? head : with_head(count_ipv6(value + bytes, n - bytes, settings), head);
 }
 
 uint64_t plain_parse_mp_reach_nlri(const uint8_t *value, size_t n, uint8_t settings, uint32_t *store, size_t places) {
     size_t bytes;
     uint64_t head = reach_head(value, n, &bytes);
-    if (refusal_of(head)) return head;
-    FAMILY(of, true);
-    return with_head(parse_list(value + bytes, n - bytes, of, form_of(settings), store, places), head);
+    return refusal_of(head) ? head : with_head(parse_ipv6(value + bytes, n - bytes, settings, store, places), head);
 }
 
 uint64_t plain_count_mp_unreach_nlri(const uint8_t *value, size_t n, uint8_t settings) {
     uint64_t refusal = value_refusal(value, n, PAIR);
-    if (refusal) return refusal;
-    FAMILY(of, true);
-    return count_in_form(value + PAIR, n - PAIR, of, form_of(settings));
+    return refusal ? refusal : count_ipv6(value + PAIR, n - PAIR, settings);
 }
 
 uint64_t plain_parse_mp_unreach_nlri(const uint8_t *value, size_t n, uint8_t settings, uint32_t *store, size_t places) {
     uint64_t refusal = value_refusal(value, n, PAIR);
-    if (refusal) return refusal;
-    FAMILY(of, true);
-    return parse_list(value + PAIR, n - PAIR, of, form_of(settings), store, places);
+    return refusal ? refusal : parse_ipv6(value + PAIR, n - PAIR, settings, store, places);
 }
 
 // ---- The UPDATE body ----
@@ -831,42 +847,51 @@ static void write_in_form(const uint32_t *rows, bool ipv6, bool id, uint8_t *out
     return id ? write_rows(rows, false, true, out, bytes) : write_rows(rows, false, false, out, bytes);
 }
 
-// The bytes of rows after `head` bytes, where there is room for all of them, or the refusal.
-INLINE uint64_t measure_after(size_t head, const uint32_t *rows, size_t places, bool ipv6, bool id, size_t room) {
-    uint64_t bytes = measure_in_form(rows, places, ipv6, id);
-    if (refusal_of(bytes)) return bytes;
-    if (head + bytes > MOST_BYTES) return refused(OVER_LONG);
-    return head + bytes > room ? refused(NO_ROOM) : bytes;
-}
-
 uint64_t plain_encode_nlri_prefixes(const uint32_t *rows, size_t places, uint8_t ipv6, uint8_t add_path, uint8_t *out,
                                     size_t room) {
-    uint64_t bytes = measure_after(0, rows, places, ipv6, add_path, room);
-    if (!refusal_of(bytes)) write_in_form(rows, ipv6, add_path, out, bytes);
+    uint64_t bytes = measure_in_form(rows, places, ipv6, add_path);
+    if (refusal_of(bytes)) return bytes;
+    if (bytes > MOST_BYTES) return refused(OVER_LONG);
+    if (bytes > room) return refused(NO_ROOM);
+    write_in_form(rows, ipv6, add_path, out, bytes);
     return bytes;
+}
+
+// The bytes of a value whose rows come after `head` bytes, or the refusal. Its loops are instances of its own, as those of
+// reading.
+INLINE uint64_t measure_value(size_t head, const uint32_t *rows, size_t places, bool id, size_t room) {
+    uint64_t bytes = id ? measure_rows(rows, places, true, true) : measure_rows(rows, places, true, false);
+    if (refusal_of(bytes)) return bytes;
+    if (head + bytes > MOST_BYTES) return refused(OVER_LONG);
+    return head + bytes > room ? refused(NO_ROOM) : head + bytes;
+}
+
+INLINE void write_value(const uint32_t *rows, bool id, uint8_t *out, size_t bytes) {
+    return id ? write_rows(rows, true, true, out, bytes) : write_rows(rows, true, false, out, bytes);
 }
 
 uint64_t plain_encode_mp_reach_nlri(const uint8_t *next_hop, size_t hop, const uint32_t *rows, size_t places,
                                     uint8_t add_path, uint8_t *out, size_t room) {
     if (!is_next_hop(hop)) return refused(BAD_NEXT_HOP);
-    uint64_t bytes = measure_after(AROUND_HOP + hop, rows, places, true, add_path, room);
+    size_t head = AROUND_HOP + hop;
+    uint64_t bytes = measure_value(head, rows, places, add_path, room);
     if (refusal_of(bytes)) return bytes;
     write4(out, IPV6_UNICAST << 8 | (uint32_t)hop);
     memcpy(out + BEFORE_HOP, next_hop, 16);
     if (hop == 32) memcpy(out + BEFORE_HOP + 16, next_hop + 16, 16);
-    out[BEFORE_HOP + hop] = 0;
-    write_in_form(rows, true, add_path, out + AROUND_HOP + hop, bytes);
-    return AROUND_HOP + hop + bytes;
+    out[head - 1] = 0;
+    write_value(rows, add_path, out + head, bytes - head);
+    return bytes;
 }
 
 uint64_t plain_encode_mp_unreach_nlri(const uint32_t *rows, size_t places, uint8_t add_path, uint8_t *out,
                                       size_t room) {
-    uint64_t bytes = measure_after(PAIR, rows, places, true, add_path, room);
+    uint64_t bytes = measure_value(PAIR, rows, places, add_path, room);
     if (refusal_of(bytes)) return bytes;
     write2(out, IPV6_UNICAST >> 8);
     out[2] = IPV6_UNICAST & 0xFF;
-    write_in_form(rows, true, add_path, out + PAIR, bytes);
-    return PAIR + bytes;
+    write_value(rows, add_path, out + PAIR, bytes - PAIR);
+    return bytes;
 }
 
 // The first refusal of a path to write that has one.
