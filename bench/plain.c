@@ -316,12 +316,13 @@ uint64_t plain_parse_nlri_list(const uint8_t *s, size_t n, uint8_t ipv6, uint8_t
 
 // ---- MP_REACH_NLRI and MP_UNREACH_NLRI of IPv6 unicast ----
 
-// The family 2 and the subfamily 1; the bytes of both, and those of an MP_REACH_NLRI before and after its next hop.
+// The family 2 and the subfamily 1, and the bytes of both; the bytes of an MP_REACH_NLRI before its next hop, and before
+// and after it; the most bytes of a short list.
 enum { IPV6_UNICAST = 0x000201, PAIR = 3, BEFORE_HOP = 4, AROUND_HOP = 5, SHORT = 64 };
 
 INLINE bool is_next_hop(size_t bytes) { return bytes == 16 || bytes == 32; }
 
-// The refusal of a value without so many bytes, of which the pair of families comes first; or 0.
+// The refusal of a value that is too long, of another pair, or of fewer than `least` bytes; or 0.
 INLINE uint64_t value_refusal(const uint8_t *value, size_t n, size_t least) {
     if (n > MOST_BYTES) return refused(OVER_LONG);
     if (n < PAIR) return refused(TOO_SHORT);
@@ -340,8 +341,8 @@ INLINE uint64_t reach_head(const uint8_t *value, size_t n, size_t *bytes) {
     return answer(0, 0, hop | (value[*bytes - 1] ? 256 : 0));
 }
 
-// The list of a value. One up to SHORT bytes goes by instances of the loops in the call itself: most values have a route
-// or two, and would feel another call.
+// The list of a value. A short one goes by instances of the loops in the call itself: most values have a route or two,
+// and would feel another call.
 INLINE uint64_t count_value(const uint8_t *s, size_t n, family of, form form) {
     if (n > SHORT) return count_in_form(s, n, of, form);
     if (form == WITHOUT_ID) return count_list(s, n, of, WITHOUT_ID);
@@ -857,8 +858,8 @@ uint64_t plain_encode_nlri_prefixes(const uint32_t *rows, size_t places, uint8_t
     return bytes;
 }
 
-// The bytes of a value whose rows come after `head` bytes, or the refusal. Its loops are instances of its own, as those of
-// reading.
+// The bytes of a value whose rows come after `head` bytes, or the refusal. Its loops stand in the call itself, as those
+// of reading.
 INLINE uint64_t measure_value(size_t head, const uint32_t *rows, size_t places, bool id, size_t room) {
     uint64_t bytes = id ? measure_rows(rows, places, true, true) : measure_rows(rows, places, true, false);
     if (refusal_of(bytes)) return bytes;
