@@ -265,8 +265,7 @@ uint64_t doorbramble_encode_nlri_prefixes(const uint32_t *rows, size_t rows_len,
 
 /* A value is its family in two bytes and its subfamily in one; in MP_REACH_NLRI then the length of the next hop in one byte, the next hop and
  * a reserved byte; and last the list, all IPv6, which may be empty, and which `settings` says how to read as for doorbramble_parse_nlri_list.
- * One of another family is refused with 17, of which nothing past the subfamily is looked at. It is no fault of the peer, but a value that
- * these calls are not for. */
+ * Of a value of another family nothing past the subfamily is looked at. Its 17 is no fault of the peer: these calls are not for it. */
 
 /* How many routes an MP_REACH_NLRI announces, and how many of these have host bits. Its next hop is the bytes of the value from
  * DOORBRAMBLE_NEXT_HOP_OFFSET on: 16 are a global address, and 32 a global one and then a link-local one. Answer: rows, hosts,
