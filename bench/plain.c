@@ -25,6 +25,8 @@ enum {
     NOT_WRITABLE = 14,
     REPEATED_MP = 15,
     EMPTY_SEGMENT = 16,
+    OTHER_FAMILY = 17,
+    BAD_NEXT_HOP = 18,
 };
 
 enum { MOST_BYTES = 65535, MOST_BODY = 65516, HEADER = 19, ROW = 6, HAS_ID = 256 };
@@ -298,15 +300,96 @@ uint64_t plain_count_nlri_list(const uint8_t *s, size_t n, uint8_t ipv6, uint8_t
     return count_in_form(s, n, of, form_of(settings));
 }
 
+// What is counted of a list, or the refusal where the rows have no room.
+INLINE uint64_t with_room(uint64_t counted, size_t places) {
+    return rows_of(counted) > places / ROW ? refused(NO_ROOM) : counted;
+}
+
 uint64_t plain_parse_nlri_list(const uint8_t *s, size_t n, uint8_t ipv6, uint8_t settings, uint32_t *store,
                                size_t places) {
     if (n > MOST_BYTES) return refused(OVER_LONG);
     FAMILY(of, ipv6);
-    uint64_t counted = count_in_form(s, n, of, form_of(settings));
-    if (refusal_of(counted)) return counted;
-    if (rows_of(counted) > places / ROW) return refused(NO_ROOM);
-    fill_in_form(s, n, of, form_of(settings), store);
+    uint64_t counted = with_room(count_in_form(s, n, of, form_of(settings)), places);
+    if (!refusal_of(counted)) fill_in_form(s, n, of, form_of(settings), store);
     return counted;
+}
+
+// ---- MP_REACH_NLRI and MP_UNREACH_NLRI of IPv6 unicast ----
+
+// The family 2 and the subfamily 1, and the bytes of both; the bytes of an MP_REACH_NLRI before its next hop, and before
+// and after it; the most bytes of a short list.
+enum { IPV6_UNICAST = 0x000201, PAIR = 3, BEFORE_HOP = 4, AROUND_HOP = 5, SHORT = 64 };
+
+INLINE bool is_next_hop(size_t bytes) { return bytes == 16 || bytes == 32; }
+
+// The refusal of a value that is too long, of another pair, or of fewer than `least` bytes; or 0.
+INLINE uint64_t value_refusal(const uint8_t *value, size_t n, size_t least) {
+    if (n > MOST_BYTES) return refused(OVER_LONG);
+    if (n < PAIR) return refused(TOO_SHORT);
+    if ((read2(value) << 8 | value[2]) != IPV6_UNICAST) return refused(OTHER_FAMILY);
+    return n < least ? refused(TOO_SHORT) : 0;
+}
+
+// What the answer of an MP_REACH_NLRI has of the bytes before its list, and how many they are; or the refusal.
+INLINE uint64_t reach_head(const uint8_t *value, size_t n, size_t *bytes) {
+    uint64_t refusal = value_refusal(value, n, BEFORE_HOP);
+    if (refusal) return refusal;
+    size_t hop = value[BEFORE_HOP - 1];
+    if (!is_next_hop(hop)) return refused(BAD_NEXT_HOP);
+    *bytes = AROUND_HOP + hop;
+    if (n < *bytes) return refused(TOO_SHORT);
+    return answer(0, 0, hop | (value[*bytes - 1] ? 256 : 0));
+}
+
+// The list of a value. A short one goes by instances of the loops in the call itself: most values have a route or two,
+// and would feel another call.
+INLINE uint64_t count_value(const uint8_t *s, size_t n, family of, form form) {
+    if (n > SHORT) return count_in_form(s, n, of, form);
+    if (form == WITHOUT_ID) return count_list(s, n, of, WITHOUT_ID);
+    return form == WITH_ID ? count_list(s, n, of, WITH_ID) : count_list(s, n, of, GUESS);
+}
+
+INLINE void fill_value(const uint8_t *s, size_t n, family of, form form, uint32_t *store) {
+    if (n > SHORT) return fill_in_form(s, n, of, form, store);
+    if (form == WITHOUT_ID) return fill_list(s, n, of, WITHOUT_ID, store);
+    return form == WITH_ID ? fill_list(s, n, of, WITH_ID, store) : fill_list(s, n, of, GUESS, store);
+}
+
+INLINE uint64_t count_ipv6(const uint8_t *s, size_t n, uint8_t settings) {
+    FAMILY(of, true);
+    return count_value(s, n, instance(of, true), form_of(settings));
+}
+
+INLINE uint64_t parse_ipv6(const uint8_t *s, size_t n, uint8_t settings, uint32_t *store, size_t places) {
+    FAMILY(of, true);
+    uint64_t counted = with_room(count_value(s, n, instance(of, true), form_of(settings)), places);
+    if (!refusal_of(counted)) fill_value(s, n, instance(of, true), form_of(settings), store);
+    return counted;
+}
+
+// The answer of a list with that of the bytes before it.
+INLINE uint64_t with_head(uint64_t listed, uint64_t head) { return refusal_of(listed) ? listed : listed | head; }
+
+uint64_t plain_count_mp_reach_nlri(const uint8_t *value, size_t n, uint8_t settings) {
+    size_t bytes;
+    uint64_t head = reach_head(value, n, &bytes);
+    return refusal_of(head) ? head : with_head(count_ipv6(value + bytes, n - bytes, settings), head);
+}
+
+uint64_t plain_parse_mp_reach_nlri(const uint8_t *value, size_t n, uint8_t settings, uint32_t *store, size_t places) {
+    size_t bytes;
+    uint64_t head = reach_head(value, n, &bytes);
+    return refusal_of(head) ? head : with_head(parse_ipv6(value + bytes, n - bytes, settings, store, places), head);
+}
+
+uint64_t plain_count_mp_unreach_nlri(const uint8_t *value, size_t n, uint8_t settings) {
+    uint64_t refusal = value_refusal(value, n, PAIR);
+    return refusal ? refusal : count_ipv6(value + PAIR, n - PAIR, settings);
+}
+
+uint64_t plain_parse_mp_unreach_nlri(const uint8_t *value, size_t n, uint8_t settings, uint32_t *store, size_t places) {
+    uint64_t refusal = value_refusal(value, n, PAIR);
+    return refusal ? refusal : parse_ipv6(value + PAIR, n - PAIR, settings, store, places);
 }
 
 // ---- The UPDATE body ----
@@ -772,6 +855,43 @@ uint64_t plain_encode_nlri_prefixes(const uint32_t *rows, size_t places, uint8_t
     if (bytes > MOST_BYTES) return refused(OVER_LONG);
     if (bytes > room) return refused(NO_ROOM);
     write_in_form(rows, ipv6, add_path, out, bytes);
+    return bytes;
+}
+
+// The bytes of a value whose rows come after `head` bytes, or the refusal. Its loops stand in the call itself, as those
+// of reading.
+INLINE uint64_t measure_value(size_t head, const uint32_t *rows, size_t places, bool id, size_t room) {
+    uint64_t bytes = id ? measure_rows(rows, places, true, true) : measure_rows(rows, places, true, false);
+    if (refusal_of(bytes)) return bytes;
+    if (head + bytes > MOST_BYTES) return refused(OVER_LONG);
+    return head + bytes > room ? refused(NO_ROOM) : head + bytes;
+}
+
+INLINE void write_value(const uint32_t *rows, bool id, uint8_t *out, size_t bytes) {
+    return id ? write_rows(rows, true, true, out, bytes) : write_rows(rows, true, false, out, bytes);
+}
+
+uint64_t plain_encode_mp_reach_nlri(const uint8_t *next_hop, size_t hop, const uint32_t *rows, size_t places,
+                                    uint8_t add_path, uint8_t *out, size_t room) {
+    if (!is_next_hop(hop)) return refused(BAD_NEXT_HOP);
+    size_t head = AROUND_HOP + hop;
+    uint64_t bytes = measure_value(head, rows, places, add_path, room);
+    if (refusal_of(bytes)) return bytes;
+    write4(out, IPV6_UNICAST << 8 | (uint32_t)hop);
+    memcpy(out + BEFORE_HOP, next_hop, 16);
+    if (hop == 32) memcpy(out + BEFORE_HOP + 16, next_hop + 16, 16);
+    out[head - 1] = 0;
+    write_value(rows, add_path, out + head, bytes - head);
+    return bytes;
+}
+
+uint64_t plain_encode_mp_unreach_nlri(const uint32_t *rows, size_t places, uint8_t add_path, uint8_t *out,
+                                      size_t room) {
+    uint64_t bytes = measure_value(PAIR, rows, places, add_path, room);
+    if (refusal_of(bytes)) return bytes;
+    write2(out, IPV6_UNICAST >> 8);
+    out[2] = IPV6_UNICAST & 0xFF;
+    write_value(rows, add_path, out + PAIR, bytes - PAIR);
     return bytes;
 }
 

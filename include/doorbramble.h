@@ -1,5 +1,5 @@
-/* Doorbramble for C: slot records and attribute sections read; BGP messages, UPDATE bodies, route lists, AS_PATH and AGGREGATOR read and
- * written; AS_PATH and AS4_PATH merged.
+/* Doorbramble for C: slot records and attribute sections read; BGP messages, UPDATE bodies, route lists, MP_REACH_NLRI, MP_UNREACH_NLRI,
+ * AS_PATH and AGGREGATOR read and written; AS_PATH and AS4_PATH merged.
  *
  * The functions are those of the static library that `rt staticlib firmware` writes, target/staticlib/libfirmware.a. Each is proved to
  * give the answer that its contract in crates/firmware/src names, for every input, and to end. None keeps a pointer, allocates, or
@@ -55,7 +55,7 @@ extern "C" {
 /* of this header: the major number rises when a caller that was compiled before would break, the minor one when calls or fields are
  * added. doorbramble_version() is that of the library. */
 #define DOORBRAMBLE_VERSION_MAJOR 1
-#define DOORBRAMBLE_VERSION_MINOR 5
+#define DOORBRAMBLE_VERSION_MINOR 6
 
 /* ---- refusal numbers */
 
@@ -93,6 +93,10 @@ extern "C" {
 #define DOORBRAMBLE_REPEATED_MP_NLRI 15
 /* a segment has no AS numbers: the strict calls on an AS_PATH alone */
 #define DOORBRAMBLE_EMPTY_SEGMENT 16
+/* MP_REACH_NLRI or MP_UNREACH_NLRI is of another family and subfamily than IPv6 unicast, which are 2 and 1 */
+#define DOORBRAMBLE_OTHER_FAMILY 17
+/* a next hop, read or to write, is not 16 or 32 bytes */
+#define DOORBRAMBLE_NEXT_HOP_LENGTH 18
 
 /* ---- message types, settings, sizes */
 
@@ -214,7 +218,7 @@ uint64_t doorbramble_encode_bgp_update_message(const uint32_t *withdrawn, size_t
 
 /* ---- attributes */
 
-/* types: four whose values have calls below, and two of which a section that is searched has no second */
+/* types whose values have calls below; of the last two a section that is searched has no second */
 #define DOORBRAMBLE_AS_PATH 2
 #define DOORBRAMBLE_AGGREGATOR 7
 #define DOORBRAMBLE_AS4_PATH 17
@@ -253,6 +257,36 @@ uint64_t doorbramble_parse_nlri_list(const uint8_t *s, size_t s_len, uint8_t ipv
 /* Rows as a list, with path ids or without, at the front of out. Answer: bytes. Refusals: 14, 1, then 11. */
 uint64_t doorbramble_encode_nlri_prefixes(const uint32_t *rows, size_t rows_len, uint8_t ipv6, uint8_t add_path, uint8_t *out,
                                           size_t out_len);
+
+/* ---- MP_REACH_NLRI and MP_UNREACH_NLRI, of IPv6 unicast routes (RFC 4760 sections 3 and 4, RFC 2545 section 3) */
+
+/* where the next hop stands in the value of an MP_REACH_NLRI */
+#define DOORBRAMBLE_NEXT_HOP_OFFSET 4
+
+/* A value is its family in two bytes and its subfamily in one; in MP_REACH_NLRI then the length of the next hop in one byte, the next hop and
+ * a reserved byte; and last the list, all IPv6, which may be empty, and which `settings` says how to read as for doorbramble_parse_nlri_list.
+ * Of a value of another family nothing past the subfamily is looked at. Its 17 is no fault of the peer: these calls are not for it. */
+
+/* How many routes an MP_REACH_NLRI announces, and how many of these have host bits. Its next hop is the bytes of the value from
+ * DOORBRAMBLE_NEXT_HOP_OFFSET on: 16 are a global address, and 32 a global one and then a link-local one. Answer: rows, hosts,
+ * next_hop_length; reserved_set, where the reserved byte is not 0, which is no refusal. Refusals: 1, then in byte order 2, 17, 18, and 2 and 7
+ * of the list. Under three bytes are 2 whatever they are, and 18 comes before a 2 for the next hop's own bytes. */
+uint64_t doorbramble_count_mp_reach_nlri(const uint8_t *value, size_t value_len, uint8_t settings);
+
+/* The same, with the rows at the front of store. Refusals: as above, then 11. Room for DOORBRAMBLE_BODY_ROWS rows is enough for every value of
+ * an UPDATE. */
+uint64_t doorbramble_parse_mp_reach_nlri(const uint8_t *value, size_t value_len, uint8_t settings, uint32_t *store, size_t store_len);
+
+/* An MP_REACH_NLRI of a next hop and rows, with path ids or without, at the front of out. The reserved byte is 0: a value that was read with
+ * reserved_set is not written back the same. Answer: bytes. Refusals: 18, 14, 1 where the whole value is over 65,535 bytes, then 11. */
+uint64_t doorbramble_encode_mp_reach_nlri(const uint8_t *next_hop, size_t next_hop_len, const uint32_t *rows, size_t rows_len,
+                                          uint8_t add_path, uint8_t *out, size_t out_len);
+
+/* The same three of an MP_UNREACH_NLRI, which withdraws its routes, and has no next hop and no reserved byte. Answers: rows, hosts; the same;
+ * bytes. Refusals: those above but 18. */
+uint64_t doorbramble_count_mp_unreach_nlri(const uint8_t *value, size_t value_len, uint8_t settings);
+uint64_t doorbramble_parse_mp_unreach_nlri(const uint8_t *value, size_t value_len, uint8_t settings, uint32_t *store, size_t store_len);
+uint64_t doorbramble_encode_mp_unreach_nlri(const uint32_t *rows, size_t rows_len, uint8_t add_path, uint8_t *out, size_t out_len);
 
 /* ---- AS_PATH and AGGREGATOR, of AS numbers of two bytes or of four */
 
@@ -374,9 +408,13 @@ static inline unsigned doorbramble_announced_verdict(uint64_t answer) { return d
 static inline unsigned doorbramble_withdrawn_hosts(uint64_t answer) { return doorbramble_field_a(answer); }
 static inline unsigned doorbramble_announced_hosts(uint64_t answer) { return doorbramble_field_b(answer); }
 
-/* of a list: its rows, and how many of them have host bits */
+/* of a list, and of an MP_REACH_NLRI or MP_UNREACH_NLRI: its rows, and how many of them have host bits */
 static inline unsigned doorbramble_rows(uint64_t answer) { return doorbramble_field_a(answer); }
 static inline unsigned doorbramble_hosts(uint64_t answer) { return doorbramble_field_b(answer); }
+
+/* of an MP_REACH_NLRI alone: the bytes of its next hop, 16 or 32, and 0 with a refusal; whether its reserved byte is not 0 */
+static inline unsigned doorbramble_next_hop_length(uint64_t answer) { return doorbramble_field_c_low(answer); }
+static inline int doorbramble_reserved_set(uint64_t answer) { return doorbramble_field_c_high(answer) != 0; }
 
 /* of an AS_PATH, read or merged */
 static inline unsigned doorbramble_segments(uint64_t answer) { return doorbramble_field_a(answer); }

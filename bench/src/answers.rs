@@ -7,6 +7,9 @@ use records::{ADD_PATH, EXTENDED, FOUR_BYTE_AS, GUESS, IPV6, STRICT};
 /// The refusal where a store has too few places.
 const NO_ROOM: u64 = 11;
 
+/// Where the next hop stands in an announcement.
+pub const NEXT_HOP: usize = 4;
+
 /// The four fields of an answer word; the last is the refusal.
 pub fn fields(word: u64) -> [u64; 4] {
     [0, 16, 32, 48].map(|shift| word >> shift & 0xFFFF)
@@ -14,7 +17,7 @@ pub fn fields(word: u64) -> [u64; 4] {
 
 /// Whether the C boundary has a call for this op.
 pub fn has_call(op: u8) -> bool {
-    matches!(op, 2 | 3 | 6..=21)
+    matches!(op, 2 | 3 | 6..=27)
 }
 
 pub fn four_bytes(request: &Request) -> u8 {
@@ -46,10 +49,11 @@ pub fn answer<L: Library>(request: &Request) -> Answer {
         9 => header::<L>(request),
         10 | 11 => update::<L>(request, &mut lent),
         12 => parts::<L>(request),
-        13..=17 => written::<L>(request, &mut lent),
+        13..=17 | 26 | 27 => written::<L>(request, &mut lent),
         18 | 19 => attribute::<L>(request),
         20 => standing::<L>(&request.parts[0], &request.parts[1]),
         21 => merged::<L>(request, &mut lent),
+        22..=25 => mp_value::<L>(request, &mut lent),
         _ => read::<L>(request, &mut lent),
     };
     let refusal = fields(word)[3] as u32;
@@ -198,6 +202,25 @@ fn merged<L: Library>(request: &Request, lent: &mut [Lent]) -> (u64, Vec<u64>) {
     (word, vec![number, segments, count])
 }
 
+/// The next hop of an announcement is a part of its value; a withdrawal has none.
+fn mp_value<L: Library>(request: &Request, lent: &mut [Lent]) -> (u64, Vec<u64>) {
+    let (value, settings) = (request.parts[0].as_slice(), list_settings(request));
+    let word = match (request.op, lent) {
+        (22, [rows]) => L::parse_mp_reach_nlri(value, settings, store(rows)),
+        (23, _) => L::count_mp_reach_nlri(value, settings),
+        (24, [rows]) => L::parse_mp_unreach_nlri(value, settings, store(rows)),
+        _ => L::count_mp_unreach_nlri(value, settings),
+    };
+    let [rows, hosts, c, refusal] = fields(word);
+    if refusal != 0 || request.op >= 24 {
+        assert_eq!(c, 0, "a withdrawal has no next hop");
+        return (word, vec![rows, hosts]);
+    }
+    let (length, reserved) = (c & 0xFF, c >> 8);
+    let next_hop = &value[NEXT_HOP..NEXT_HOP + length as usize];
+    (word, vec![length, sum_bytes(next_hop), reserved, rows, hosts])
+}
+
 fn written<L: Library>(request: &Request, lent: &mut [Lent]) -> (u64, Vec<u64>) {
     let (first, second) = (request.numbers(0), request.numbers(1));
     let (four, with_id, out) = (four_bytes(request), add_path(request), output(lent));
@@ -207,7 +230,9 @@ fn written<L: Library>(request: &Request, lent: &mut [Lent]) -> (u64, Vec<u64>) 
         14 => L::encode_as_path(&first, &second, four, out),
         15 => L::encode_aggregator(first[0], first[1], four, out),
         16 => L::encode_bgp_message(request.argument, &request.parts[0], out),
-        _ => L::encode_bgp_update_message(&first, &request.parts[1], &request.numbers(2), with_id, out),
+        17 => L::encode_bgp_update_message(&first, &request.parts[1], &request.numbers(2), with_id, out),
+        26 => L::encode_mp_reach_nlri(&request.parts[0], &second, with_id, out),
+        _ => L::encode_mp_unreach_nlri(&first, with_id, out),
     };
     (word, vec![fields(word)[0]])
 }

@@ -98,7 +98,7 @@ fn compare_timed(name: &str, asked: &Request) -> io::Result<bool> {
         op => op,
     };
     let asked = &Request { op: compared_as, ..asked.clone() };
-    let list = matches!(asked.op, 2 | 3 | 10 | 11) && !asked.has(ADD_PATH);
+    let list = matches!(asked.op, 2 | 3 | 10 | 11 | 22..=25) && !asked.has(ADD_PATH);
     let settings = asked.settings | if list { GUESS } else { 0 };
     compare(name, asked, &Request { settings, ..asked.clone() })
 }
@@ -110,6 +110,8 @@ impl<'a> Cases<'a> {
         made.ten()?;
         made.host_lists()?;
         made.captured_lists()?;
+        made.mp_values("MP_REACH_NLRI", 22)?;
+        made.mp_values("MP_UNREACH_NLRI", 24)?;
         made.updates()?;
         made.attributes()?;
         made.paths()?;
@@ -203,7 +205,7 @@ impl<'a> Cases<'a> {
             let mut rng = Rng::new(seed as u64);
             let settings = inputs::settings(lengths, list_settings);
             let tenths: Vec<Vec<u8>> = (0..10).map(|_| lengths.tenth(&mut rng, with_id)).collect();
-            let reads = both_sizes(&tenths, |list| inputs::read_list(list, settings));
+            let reads = both_sizes(&tenths, |list| inputs::read_rows(2, list, settings));
             self.sizes(what, Kind::Read, list_settings != GUESS, reads)?;
         }
         Ok(())
@@ -224,13 +226,12 @@ impl<'a> Cases<'a> {
             let mut rng = Rng::new(100 + seed as u64);
             let settings = inputs::settings(lengths, list_settings);
             let lists = ten_lists(&mut rng, lengths, with_id);
-            let reads: Vec<Request> = lists.iter().map(|list| inputs::read_list(list, settings)).collect();
+            let reads: Vec<Request> = lists.iter().map(|list| inputs::read_rows(2, list, settings)).collect();
             self.add(&format!("read list: ten {what}"), Kind::ReadTen, &reads)?;
             let counts: Vec<Request> = reads.iter().map(inputs::counting).collect();
             self.add(&format!("count list: ten {what}"), Kind::Count, &counts)?;
             if list_settings != GUESS {
-                let writes: Vec<Request> = reads.iter().map(inputs::write_back).collect();
-                self.add(&format!("write list: ten {what}"), Kind::Write, &writes)?;
+                self.add_writes(&format!("list: ten {what}"), &reads)?;
             }
         }
         Ok(())
@@ -240,13 +241,41 @@ impl<'a> Cases<'a> {
     fn host_lists(&mut self) -> io::Result<()> {
         let mut rng = Rng::new(500);
         let tenths: Vec<Vec<u8>> = (0..10).map(|_| Lengths::Hosts4.tenth(&mut rng, false)).collect();
-        let [large, _] = both_sizes(&tenths, |list| inputs::read_list(list, 0));
+        let [large, _] = both_sizes(&tenths, |list| inputs::read_rows(2, list, 0));
         self.read_and_count("list: mixed lengths, one in eight with host bits, 64 KB", Kind::Read, &large)
     }
 
     fn captured_lists(&mut self) -> io::Result<()> {
         let reads = inputs::captured(self.captures, 2);
         self.read_and_count("list: IPv6 of the captures", Kind::Read, &reads)
+    }
+
+    /// The values of an attribute, captured ones and some of the greatest size.
+    fn mp_values(&mut self, attribute: &str, op: u8) -> io::Result<()> {
+        let captured = inputs::captured(self.captures, op);
+        self.read_and_count(&format!("{attribute}: captures"), Kind::Read, &captured)?;
+        self.add_writes(&format!("{attribute}: captures"), &captured)?;
+        let kinds = [
+            ("64 KB", false, 0),
+            ("Add-Path, 64 KB", true, ADD_PATH),
+            ("guess, 64 KB", false, GUESS),
+            ("guess, with ids, 64 KB", true, GUESS),
+        ];
+        for (seed, (what, with_id, settings)) in kinds.into_iter().enumerate() {
+            let mut rng = Rng::new(600 + 10 * u64::from(op) + seed as u64);
+            let reads = [inputs::read_rows(op, &inputs::large_value(&mut rng, op, with_id), settings)];
+            self.read_and_count(&format!("{attribute}: {what}"), Kind::Read, &reads)?;
+            if settings != GUESS {
+                self.add_writes(&format!("{attribute}: {what}"), &reads)?;
+            }
+        }
+        Ok(())
+    }
+
+    /// Adds a case that writes what these requests read.
+    fn add_writes(&mut self, what: &str, reads: &[Request]) -> io::Result<()> {
+        let writes: Vec<Request> = reads.iter().map(inputs::write_back).collect();
+        self.add(&format!("write {what}"), Kind::Write, &writes)
     }
 
     /// Adds a case for the reading requests and one for their counting.
@@ -296,8 +325,7 @@ impl<'a> Cases<'a> {
     fn paths(&mut self) -> io::Result<()> {
         let reads = inputs::captured(self.captures, 6);
         self.read_and_count("path: captures", Kind::Path, &reads)?;
-        let writes: Vec<Request> = reads.iter().map(inputs::write_back).collect();
-        self.add("write path: captures", Kind::Write, &writes)?;
+        self.add_writes("path: captures", &reads)?;
         self.strict_paths("captures", &reads)?;
         for width in [4, 2] {
             let mut rng = Rng::new(300 + width as u64);
@@ -385,8 +413,8 @@ fn crate_must_answer(kind: Kind, asked: &Request) -> bool {
 
 /// Requests of tiny calls again and again.
 fn often_enough(requests: &[Request]) -> Vec<Request> {
-    let bytes: usize = requests.iter().map(|asked| asked.parts[0].len()).sum();
-    let tiny_op = matches!(requests[0].op, 7..=9 | 15 | 16 | 18..=21 | inputs::COUNT_MERGED);
+    let bytes: usize = requests.iter().flat_map(|asked| &asked.parts).map(Vec::len).sum();
+    let tiny_op = matches!(requests[0].op, 7..=9 | 15 | 16 | 18..=27 | inputs::COUNT_MERGED);
     let is_tiny = tiny_op && bytes / requests.len() < 1_000;
     let times = if is_tiny { TINY_CALLS.div_ceil(requests.len()) } else { 1 };
     requests.iter().cycle().take(times * requests.len()).cloned().collect()

@@ -1,11 +1,11 @@
 //! Made inputs, the same on every machine: route lists, paths, and what is rebuilt from captured messages.
 
-use crate::answers::aggregators;
+use crate::answers::{aggregators, NEXT_HOP};
 use compare::inputs::captures::Capture;
 use compare::inputs::examples::{on_bytes, request, words};
 use compare::inputs::pieces::message;
 use compare::rng::Rng;
-use records::{Lent, Request, ADD_PATH, EXTENDED, FOUR_BYTE_AS, GUESS, IPV6, STRICT};
+use records::{Answer, Lent, Request, ADD_PATH, EXTENDED, FOUR_BYTE_AS, GUESS, IPV6, STRICT};
 
 /// Counting a merged path, which the records have no op for: the same request as op 21 otherwise, and compared as that.
 pub const COUNT_MERGED: u8 = 121;
@@ -18,6 +18,9 @@ const AS_TRANS: u16 = 23_456;
 
 /// The most bytes of a tenth of a list, so that ten of them are a list of the greatest size.
 const TENTH: usize = 6_553;
+
+/// The most bytes of a value.
+const MOST_BYTES: usize = 65_535;
 
 /// Words of pairs and AS numbers that are enough for every merged path.
 const MOST_PAIRS: usize = 2 * 65_534;
@@ -110,15 +113,33 @@ impl Lengths {
 
     /// A tenth of the greatest list.
     pub fn tenth(self, rng: &mut Rng, with_id: bool) -> Vec<u8> {
+        self.list(rng, with_id, TENTH)
+    }
+
+    /// As many items as so many bytes have room for.
+    fn list(self, rng: &mut Rng, with_id: bool, most: usize) -> Vec<u8> {
         let mut list = vec![];
         loop {
             let item = self.item(rng, with_id);
-            if list.len() + item.len() > TENTH {
+            if list.len() + item.len() > most {
                 return list;
             }
             list.extend(item);
         }
     }
+}
+
+/// The greatest announcement, by a global and a link-local next hop, or the greatest withdrawal, as its op says: routes of IPv6
+/// about as often as in the routing table.
+pub fn large_value(rng: &mut Rng, op: u8, with_id: bool) -> Vec<u8> {
+    let mut value = vec![0, 2, 1];
+    if op == 22 {
+        value.push(32);
+        value.extend(rng.bytes(32));
+        value.push(0);
+    }
+    let list = Lengths::Table6.list(rng, with_id, MOST_BYTES - value.len());
+    [value, list].concat()
 }
 
 /// A tenth of the greatest AS_PATH value.
@@ -134,11 +155,16 @@ pub fn path_tenth(rng: &mut Rng, width: usize) -> Vec<u8> {
     }
 }
 
-/// A request to read this list, with room for its rows and no more.
-pub fn read_list(list: &[u8], settings: u8) -> Request {
-    let counted = model::answer(&on_bytes(3, settings, (0, 0), list));
+/// A request to read a list, an announcement or a withdrawal, as the op says, with room for its rows and no more.
+pub fn read_rows(op: u8, bytes: &[u8], settings: u8) -> Request {
+    let counted = model::answer(&on_bytes(op + 1, settings, (0, 0), bytes));
     assert_eq!(counted.refusal, 0, "a made list is good");
-    on_bytes(2, settings, (6 * counted.numbers[0] as usize, 0), list)
+    on_bytes(op, settings, (row_words(op, &counted) as usize, 0), bytes)
+}
+
+/// The words of the rows that the reading op, or its counting, found; before them stands what an announcement has besides.
+fn row_words(op: u8, answer: &Answer) -> u64 {
+    6 * answer.numbers[if op == 22 { 3 } else { 0 }]
 }
 
 pub fn read_path(value: &[u8], settings: u8) -> Request {
@@ -153,7 +179,7 @@ fn stored(read: &Request) -> Vec<Vec<u8>> {
     let answer = model::answer(read);
     assert_eq!(answer.refusal, 0, "only good inputs are written back");
     let counts = match read.op {
-        2 => vec![6 * answer.numbers[0]],
+        2 | 22 | 24 => vec![row_words(read.op, &answer)],
         6 => vec![2 * answer.numbers[0], answer.numbers[1]],
         _ => vec![6 * answer.numbers[0], 6 * answer.numbers[2]],
     };
@@ -175,12 +201,19 @@ pub fn write_back(read: &Request) -> Request {
         2 => request(13, read.settings, (room, 0), [first, vec![], vec![]], 0),
         6 => request(14, read.settings, (room, 0), [first, second, vec![]], 0),
         10 => request(17, read.settings, (room, 0), [first, attributes(&read.parts[0]).to_vec(), second], 0),
+        22 => request(26, read.settings, (room, 0), [next_hop(&read.parts[0]).to_vec(), first, vec![]], 0),
+        24 => request(27, read.settings, (room, 0), [first, vec![], vec![]], 0),
         op => panic!("op {op} has no writer here"),
     }
 }
 
 fn two(bytes: &[u8]) -> usize {
     usize::from(bytes[0]) << 8 | usize::from(bytes[1])
+}
+
+/// The next hop of a good announcement.
+fn next_hop(value: &[u8]) -> &[u8] {
+    &value[NEXT_HOP..][..usize::from(value[NEXT_HOP - 1])]
 }
 
 /// The attribute section of a good body.
@@ -209,13 +242,16 @@ pub fn announcement(rng: &mut Rng, list: &[u8]) -> Vec<u8> {
     [&[0, 0], &(section.len() as u16).to_be_bytes(), section.as_slice(), list].concat()
 }
 
-/// The requests of an op on all captured messages, not the strict ones; of lists and UPDATEs those that the crate reads so.
+/// The requests of an op on all captured messages, not the strict ones; of those with lists the ones that the crate reads so,
+/// which are by the guess where the session has no ids.
 pub fn captured(captures: &[Capture], op: u8) -> Vec<Request> {
-    let listed = matches!(op, 2 | 10);
-    let crate_reads_so = |request: &Request| request.has(ADD_PATH) || request.has(GUESS);
-    let all = captures.iter().flat_map(|capture| &capture.requests);
-    let wanted = |request: &&Request| request.op == op && !request.has(STRICT) && (!listed || crate_reads_so(request));
-    all.filter(wanted).cloned().collect()
+    let listed = matches!(op, 2 | 10 | 22 | 24);
+    let of_message = |capture: &Capture| {
+        let asked = capture.requests.iter().filter(|request| request.op == op && !request.has(STRICT));
+        let crate_reads_so = if asked.clone().any(|request| request.has(ADD_PATH)) { ADD_PATH } else { GUESS };
+        asked.filter(|request| !listed || request.has(crate_reads_so)).cloned().collect::<Vec<_>>()
+    };
+    captures.iter().flat_map(of_message).collect()
 }
 
 /// The attribute sections of the captured UPDATEs, as requests to search one type.

@@ -67,6 +67,20 @@ libraries! {
         s.as_ptr() => Bytes, s.len() => usize, ipv6 => u8, settings => u8,
         store.as_mut_ptr() => Store, store.len() => usize
     );
+    fn count_mp_reach_nlri(value: &[u8], settings: u8) passes (
+        value.as_ptr() => Bytes, value.len() => usize, settings => u8
+    );
+    fn parse_mp_reach_nlri(value: &[u8], settings: u8, store: &mut [u32]) passes (
+        value.as_ptr() => Bytes, value.len() => usize, settings => u8,
+        store.as_mut_ptr() => Store, store.len() => usize
+    );
+    fn count_mp_unreach_nlri(value: &[u8], settings: u8) passes (
+        value.as_ptr() => Bytes, value.len() => usize, settings => u8
+    );
+    fn parse_mp_unreach_nlri(value: &[u8], settings: u8, store: &mut [u32]) passes (
+        value.as_ptr() => Bytes, value.len() => usize, settings => u8,
+        store.as_mut_ptr() => Store, store.len() => usize
+    );
     fn count_as_path(value: &[u8], four_bytes: u8) passes (
         value.as_ptr() => Bytes, value.len() => usize, four_bytes => u8
     );
@@ -110,6 +124,14 @@ libraries! {
     );
     fn encode_nlri_prefixes(rows: &[u32], ipv6: u8, add_path: u8, out: &mut [u8]) passes (
         rows.as_ptr() => Words, rows.len() => usize, ipv6 => u8, add_path => u8,
+        out.as_mut_ptr() => Output, out.len() => usize
+    );
+    fn encode_mp_reach_nlri(next_hop: &[u8], rows: &[u32], add_path: u8, out: &mut [u8]) passes (
+        next_hop.as_ptr() => Bytes, next_hop.len() => usize, rows.as_ptr() => Words, rows.len() => usize,
+        add_path => u8, out.as_mut_ptr() => Output, out.len() => usize
+    );
+    fn encode_mp_unreach_nlri(rows: &[u32], add_path: u8, out: &mut [u8]) passes (
+        rows.as_ptr() => Words, rows.len() => usize, add_path => u8,
         out.as_mut_ptr() => Output, out.len() => usize
     );
     fn encode_as_path(pairs: &[u32], numbers: &[u32], four_bytes: u8, out: &mut [u8]) passes (

@@ -8,9 +8,9 @@ use crate::library::Library;
 use crate::measure::{timed, Side};
 use bytes::{Bytes, BytesMut};
 use crate_oracle::error::ParserError;
-use crate_oracle::models::{Afi, AsPath, Asn, AsnLength, BgpMessage, BgpUpdateMessage, NetworkPrefix};
+use crate_oracle::models::{Afi, AsPath, Asn, AsnLength, BgpMessage, BgpUpdateMessage, NetworkPrefix, Nlri};
 use crate_oracle::oracle::private::{Inside, PrivateCalls};
-use crate_oracle::oracle::{messages, paths, routes};
+use crate_oracle::oracle::{messages, mp_nlri, paths, routes};
 use crate_oracle::parser::bgp::attributes::parse_attributes;
 use crate_oracle::parser::bgp::messages::{parse_bgp_message, parse_bgp_update_message};
 use crate_oracle::parser::utils::{encode_nlri_prefixes, parse_nlri_list};
@@ -147,6 +147,7 @@ impl Calls {
             10 | 11 | COUNT_HOSTS => self.updates::<L>(),
             18 | 19 => self.attributes::<L>(),
             20 | 21 | COUNT_MERGED => self.side_by_side::<L>(),
+            22..=25 => self.mp_values::<L>(),
             _ => self.writers::<L>(),
         }
     }
@@ -218,6 +219,16 @@ impl Calls {
         }
     }
 
+    /// Announcements and withdrawals.
+    fn mp_values<L: Library>(&self) -> Side {
+        match self.op() {
+            22 => self.batch(|call, to| L::parse_mp_reach_nlri(call.s(), call.settings, to.two(call).0)),
+            23 => self.batch(|call, _| L::count_mp_reach_nlri(call.s(), call.settings)),
+            24 => self.batch(|call, to| L::parse_mp_unreach_nlri(call.s(), call.settings, to.two(call).0)),
+            _ => self.batch(|call, _| L::count_mp_unreach_nlri(call.s(), call.settings)),
+        }
+    }
+
     fn writers<L: Library>(&self) -> Side {
         match self.op() {
             13 => self
@@ -236,6 +247,10 @@ impl Calls {
                 let attributes = &call.request.parts[1];
                 L::encode_bgp_update_message(withdrawn, attributes, announced, call.add_path, to.output(call))
             }),
+            26 => {
+                self.batch(|call, to| L::encode_mp_reach_nlri(call.s(), &call.words[1], call.add_path, to.output(call)))
+            }
+            27 => self.batch(|call, to| L::encode_mp_unreach_nlri(&call.words[0], call.add_path, to.output(call))),
             op => panic!("no writer for op {op}"),
         }
     }
@@ -261,6 +276,7 @@ impl Calls {
                 self.owning(|bytes, call| parse_attributes(bytes, &width(call), call.has(ADD_PATH), None, None, None))
             }
             21 | COUNT_MERGED => self.owning_of(both_paths, |paths, _| merged_by_crate(paths)),
+            22..=25 => self.owning(|bytes, call| mp_nlri::parse(bytes, call.op <= 23, call.has(ADD_PATH))),
             _ => self.crate_writers(),
         }
     }
@@ -300,7 +316,11 @@ impl Calls {
                 Inside::encode_aggregator(asn, address, width)
             }),
             16 => writing(self.values_of(message), |message, width| message.encode(width)),
-            _ => writing(self.values_of(update), |update, width| update.encode(width)),
+            17 => writing(self.values_of(update), |update, width| update.encode(width)),
+            op => writing(self.values_of(nlri), move |(nlri, add_path), _| {
+                let mut output = BytesMut::new();
+                Inside::encode_nlri(nlri, op == 26, *add_path, &mut output).map(|()| output)
+            }),
         }
     }
 
@@ -365,6 +385,15 @@ fn family(request: &Request) -> Afi {
 fn prefixes(call: &Call) -> Vec<NetworkPrefix> {
     let request = &call.request;
     routes::prefixes(&call.words[0], request.has(ADD_PATH), family(request)).expect("writable rows")
+}
+
+/// The routes of an announcement or a withdrawal to write, and whether they have ids.
+fn nlri(call: &Call) -> (Nlri, bool) {
+    let (is_reach, add_path) = (call.request.op == 26, call.request.has(ADD_PATH));
+    let rows = &call.words[usize::from(is_reach)];
+    let prefixes = routes::prefixes(rows, add_path, Afi::Ipv6).expect("writable rows");
+    let read = || Inside::parse_mp_next_hop(Bytes::from(call.request.parts[0].clone())).expect("a next hop");
+    (mp_nlri::of_ipv6(if is_reach { read() } else { None }, prefixes), add_path)
 }
 
 fn path(call: &Call) -> AsPath {

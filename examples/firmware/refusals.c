@@ -10,7 +10,7 @@
 #define FILL_BYTE 0xA5
 #define FILL_WORD 0xA5A5A5A5u
 
-enum { PLACES = 32 };
+enum { PLACES = 64 };
 
 static uint8_t out[PLACES];
 static uint32_t one[PLACES];
@@ -889,6 +889,237 @@ static void rows(void) {
                  doorbramble_encode_nlri_prefixes(host_bits, 6, 0, DOORBRAMBLE_GUESS, out, 2), not_writable);
 }
 
+#define GLOBAL 0x20, 0x01, 0x0D, 0xB8, 0, 0, 0, 0, 0, 0, 0, 0, 0, 0, 0, 1
+#define LINK_LOCAL 0xFE, 0x80, 0, 0, 0, 0, 0, 0, 0, 0, 0, 0, 0, 0, 0, 2
+#define ROUTE 64, 0x20, 0x01, 0x0D, 0xB8, 0, 0, 0, 1
+
+/* 2001:db8:0:1::/64 announced by one next hop and by two, and withdrawn; the row that each is read to */
+static const uint8_t reach[] = {0, 2, 1, 16, GLOBAL, 0, ROUTE}, reach_both[] = {0, 2, 1, 32, GLOBAL, LINK_LOCAL, 0, ROUTE};
+static const uint8_t unreach[] = {0, 2, 1, ROUTE};
+static const uint32_t mp_row[] = {64, 0, 0x20010DB8, 1, 0, 0};
+
+/* the two readings of an attribute, and where its list starts in the shortest value */
+struct mp_reader {
+    uint64_t (*count)(const uint8_t *, size_t, uint8_t);
+    uint64_t (*parse)(const uint8_t *, size_t, uint8_t, uint32_t *, size_t);
+    size_t list;
+};
+
+static const struct mp_reader by_reach = {doorbramble_count_mp_reach_nlri, doorbramble_parse_mp_reach_nlri, 21};
+static const struct mp_reader by_unreach = {doorbramble_count_mp_unreach_nlri, doorbramble_parse_mp_unreach_nlri, 3};
+
+/* both readings answer so, and the one that is lent a store puts these words there; with a place less there is no room for them */
+static void check_mp(const char *what, struct mp_reader by, const uint8_t *value, size_t size, uint8_t settings, uint64_t wanted,
+                     const uint32_t *words, size_t count) {
+    check_answer(what, by.count(value, size, settings), wanted);
+    check_store(what, by.parse(value, size, settings, one, count), wanted, words, count);
+    if (count > 0)
+        check_answer(what, by.parse(value, size, settings, one, count - 1), refused(DOORBRAMBLE_NO_ROOM));
+}
+
+/* both readings refuse a value so, with a store and with none, since every other refusal comes before 11 */
+static void check_mp_refused(const char *what, struct mp_reader by, const uint8_t *value, size_t size, unsigned refusal) {
+    check_answer(what, by.count(value, size, 0), refused(refusal));
+    check_answer(what, by.parse(value, size, 0, one, PLACES), refused(refusal));
+    check_answer(what, by.parse(value, size, 0, NULL, 0), refused(refusal));
+}
+
+/* a value of either attribute: its first bytes as those above, and then this list */
+static const uint8_t *mp_value(struct mp_reader by, const uint8_t *list, size_t size) {
+    static uint8_t value[PLACES];
+    memcpy(value, reach, by.list);
+    memcpy(value + by.list, list, size);
+    return value;
+}
+
+static void mp_reach(void) {
+    uint8_t reserved[sizeof reach];
+    uint64_t answer = doorbramble_count_mp_reach_nlri(reach_both, sizeof reach_both, 0);
+    unsigned wrong = 0, i;
+
+    check_mp("mp_reach_nlri: a next hop", by_reach, reach, sizeof reach, 0, accepted(1, 0, 16), mp_row, 6);
+    check_mp("mp_reach_nlri: two next hops", by_reach, reach_both, sizeof reach_both, 0, accepted(1, 0, 32), mp_row, 6);
+    expect("the fields of an MP_REACH_NLRI", doorbramble_rows(answer) == 1 && doorbramble_hosts(answer) == 0 &&
+                                                 doorbramble_next_hop_length(answer) == 32 && !doorbramble_reserved_set(answer));
+    expect("the next hop", memcmp(reach + DOORBRAMBLE_NEXT_HOP_OFFSET, (const uint8_t[]){GLOBAL}, 16) == 0);
+    memcpy(reserved, reach, sizeof reach);
+    for (i = 0; i < 256; i++) {
+        reserved[20] = (uint8_t)i;
+        answer = doorbramble_count_mp_reach_nlri(reserved, sizeof reserved, 0);
+        wrong += answer != accepted(1, 0, 16 + (i == 0 ? 0 : 256)) || doorbramble_reserved_set(answer) != (i != 0);
+    }
+    expect("count_mp_reach_nlri: reserved bytes of every number", wrong == 0);
+    check_mp("mp_reach_nlri: a reserved byte", by_reach, reserved, sizeof reserved, 0, accepted(1, 0, 16 + 256), mp_row, 6);
+    check_out("encode_mp_reach_nlri: which is written as 0", doorbramble_encode_mp_reach_nlri(reserved + 4, 16, mp_row, 6, 0, out, 30),
+              accepted(30, 0, 0), reach, sizeof reach);
+    answer = doorbramble_count_mp_reach_nlri(reserved, sizeof reserved - 1, 0);
+    check_answer("count_mp_reach_nlri: 2 after a reserved byte", answer, refused(DOORBRAMBLE_TRUNCATED));
+    expect("the fields of a refused MP_REACH_NLRI", doorbramble_rows(answer) == 0 && doorbramble_hosts(answer) == 0 &&
+                                                        doorbramble_next_hop_length(answer) == 0 && !doorbramble_reserved_set(answer));
+}
+
+/* the lists of either attribute, each read by `settings` as a list alone, without the rule for one byte */
+static void mp_lists(struct mp_reader by, uint64_t head) {
+    static const uint8_t tagged[] = {0, 0, 0, 7, 8, 0x20}, zero[] = {0}, byte[] = {7}, host[] = {3, 0x3F},
+                         mixed[] = {0, 0, 0, 0, 8, 0x20, 8, 0xFC};
+    static const uint32_t seven[] = {8 + DOORBRAMBLE_ROW_HAS_ID, 7, 0x20000000, 0, 0, 0}, all[] = {0, 0, 0, 0, 0, 0};
+    static const uint32_t bits[] = {3, 0, 0x3F000000, 0, 0, 0};
+    static const uint32_t guessed[] = {8 + DOORBRAMBLE_ROW_HAS_ID, 0, 0x20000000, 0, 0, 0, 8, 0, 0xFC000000, 0, 0, 0};
+    const size_t list = by.list;
+
+    check_mp("mp_nlri: an empty list", by, mp_value(by, zero, 0), list, 0, accepted(0, 0, head), NULL, 0);
+    check_mp("mp_nlri: one byte, 0", by, mp_value(by, zero, 1), list + 1, 0, accepted(1, 0, head), all, 6);
+    check_mp_refused("mp_nlri: one byte, another: 2 and not 8", by, mp_value(by, byte, 1), list + 1, DOORBRAMBLE_TRUNCATED);
+    check_mp("mp_nlri: host bits", by, mp_value(by, host, 2), list + 2, 0, accepted(1, 1, head), bits, 6);
+    check_mp("mp_nlri: Add-Path", by, mp_value(by, tagged, 6), list + 6, DOORBRAMBLE_ADD_PATH, accepted(1, 0, head), seven, 6);
+    check_mp("mp_nlri: both settings are Add-Path", by, mp_value(by, tagged, 6), list + 6, 3, accepted(1, 0, head), seven, 6);
+    check_mp("mp_nlri: the guess", by, mp_value(by, tagged, 6), list + 6, DOORBRAMBLE_GUESS, accepted(1, 0, head), seven, 6);
+    check_mp("mp_nlri: the guess in one form and the other", by, mp_value(by, mixed, 8), list + 8, DOORBRAMBLE_GUESS, accepted(2, 0, head),
+             guessed, 12);
+    check_answer("mp_nlri: no other bit is read", by.count(mp_value(by, tagged, 6), list + 6, 0xFC), refused(DOORBRAMBLE_TRUNCATED));
+}
+
+/* 7 in either list, before a later 2; and each family and subfamily, of which one pair is taken, and in either attribute after 2 alone */
+static void mp_families(struct mp_reader by, uint64_t taken) {
+    static const uint8_t long_prefix[] = {0, 129}, before_cut[] = {129, 8}, after_cut[] = {16, 129};
+    static const uint8_t pairs[][3] = {{0, 1, 1}, {0, 2, 2}, {0, 2, 0}, {1, 2, 1}, {2, 0, 1}, {0, 0, 0}};
+    uint8_t value[sizeof reach];
+    unsigned wrong = 0, i;
+
+    check_mp_refused("mp_nlri: 7", by, mp_value(by, long_prefix, 2), by.list + 2, DOORBRAMBLE_PREFIX_LENGTH);
+    check_mp_refused("mp_nlri: 7 before a later 2", by, mp_value(by, before_cut, 2), by.list + 2, DOORBRAMBLE_PREFIX_LENGTH);
+    check_mp_refused("mp_nlri: 2 where a 7 might follow", by, mp_value(by, after_cut, 2), by.list + 2, DOORBRAMBLE_TRUNCATED);
+    for (i = 0; i < sizeof pairs / sizeof pairs[0]; i++)
+        check_mp_refused("mp_nlri: 17 of three bytes", by, pairs[i], 3, DOORBRAMBLE_OTHER_FAMILY);
+    for (i = 0; i < 3; i++) {
+        check_mp_refused("mp_nlri: 2 under three bytes", by, reach, i, DOORBRAMBLE_TRUNCATED);
+        check_mp_refused("mp_nlri: 2 under three bytes, whatever they are", by, (const uint8_t[]){0xFF, 0xFF}, i, DOORBRAMBLE_TRUNCATED);
+    }
+    check_mp_refused("mp_nlri: 2 of nothing", by, NULL, 0, DOORBRAMBLE_TRUNCATED);
+    memcpy(value, reach, sizeof reach);
+    for (i = 0; i < 65536; i++) {
+        value[0] = (uint8_t)(i >> 8);
+        value[1] = (uint8_t)i;
+        wrong += by.count(value, by.list, 0) != (i == 2 ? taken : refused(DOORBRAMBLE_OTHER_FAMILY));
+    }
+    expect("mp_nlri: families of every number", wrong == 0);
+    value[0] = 0, value[1] = 2, wrong = 0;
+    for (i = 0; i < 256; i++) {
+        value[2] = (uint8_t)i;
+        wrong += by.count(value, by.list, 0) != (i == 1 ? taken : refused(DOORBRAMBLE_OTHER_FAMILY));
+    }
+    expect("mp_nlri: subfamilies of every number", wrong == 0);
+}
+
+/* next hops of each length, read and to write, of which two are taken; and each size that a value may be cut to */
+static void next_hops(void) {
+    static uint8_t zeros[5 + 255] = {0, 2, 1}, other[4] = {0, 1, 1, 24};
+    const uint64_t length = refused(DOORBRAMBLE_NEXT_HOP_LENGTH), cut = refused(DOORBRAMBLE_TRUNCATED);
+    unsigned wrong = 0, wrong_cut = 0, wrong_written = 0, i;
+
+    for (i = 0; i < 256; i++) {
+        const int taken = i == 16 || i == 32;
+        zeros[3] = (uint8_t)i;
+        wrong += doorbramble_count_mp_reach_nlri(zeros, 5 + i, 0) != (taken ? accepted(0, 0, i) : length);
+        wrong_cut += doorbramble_count_mp_reach_nlri(zeros, 4, 0) != (taken ? cut : length);
+        wrong_cut += doorbramble_count_mp_reach_nlri(zeros, 3, 0) != cut;
+    }
+    expect("count_mp_reach_nlri: next hops of every length", wrong == 0);
+    expect("count_mp_reach_nlri: 18 before the bytes of the next hop, and after a 2 for its length", wrong_cut == 0);
+    check_mp_refused("mp_reach_nlri: 18", by_reach, zeros, sizeof zeros, DOORBRAMBLE_NEXT_HOP_LENGTH);
+    check_mp_refused("mp_reach_nlri: 17 before 18", by_reach, other, 4, DOORBRAMBLE_OTHER_FAMILY);
+    for (i = 0, wrong_cut = 0; i < sizeof reach_both; i++)
+        wrong_cut += doorbramble_count_mp_reach_nlri(reach_both, i, 0) != (i == 37 ? accepted(0, 0, 32) : cut);
+    for (i = 0; i < sizeof reach; i++)
+        wrong_cut += doorbramble_count_mp_reach_nlri(reach, i, 0) != (i == 21 ? accepted(0, 0, 16) : cut);
+    for (i = 0; i < sizeof unreach; i++)
+        wrong_cut += doorbramble_count_mp_unreach_nlri(unreach, i, 0) != (i == 3 ? accepted(0, 0, 0) : cut);
+    expect("mp_nlri: 2 of every size", wrong_cut == 0);
+    for (i = 0; i < sizeof zeros; i++) {
+        const uint64_t answer = doorbramble_encode_mp_reach_nlri(zeros, i, NULL, 0, 0, out, PLACES);
+        wrong_written += answer != (i == 16 || i == 32 ? accepted(5 + i, 0, 0) : length);
+    }
+    expect("encode_mp_reach_nlri: next hops of every length", wrong_written == 0);
+    clear();
+}
+
+static void mp_writers(void) {
+    static const uint8_t tagged[] = {0, 2, 1, 0, 0, 0, 7, 8, 0x20};
+    static const uint32_t seven[] = {8 + DOORBRAMBLE_ROW_HAS_ID, 7, 0x20000000, 0, 0, 0}, past_octets[] = {8, 0, 0x20010000, 0, 0, 0};
+    const uint64_t not_writable = refused(DOORBRAMBLE_NOT_WRITABLE), no_room = refused(DOORBRAMBLE_NO_ROOM);
+    const uint8_t *next_hops = reach_both + DOORBRAMBLE_NEXT_HOP_OFFSET;
+
+    check_out("encode_mp_reach_nlri: a next hop", doorbramble_encode_mp_reach_nlri(next_hops, 16, mp_row, 6, 0, out, PLACES),
+              accepted(30, 0, 0), reach, sizeof reach);
+    check_out("encode_mp_reach_nlri: two next hops", doorbramble_encode_mp_reach_nlri(next_hops, 32, mp_row, 6, 0, out, 46),
+              accepted(46, 0, 0), reach_both, sizeof reach_both);
+    check_out("encode_mp_reach_nlri: no rows", doorbramble_encode_mp_reach_nlri(next_hops, 16, NULL, 0, 0, out, 21), accepted(21, 0, 0),
+              reach, 21);
+    check_answer("encode_mp_reach_nlri: 18 before 14", doorbramble_encode_mp_reach_nlri(next_hops, 17, mp_row, 5, 0, out, PLACES),
+                 refused(DOORBRAMBLE_NEXT_HOP_LENGTH));
+    check_answer("encode_mp_reach_nlri: 18, no next hop", doorbramble_encode_mp_reach_nlri(NULL, 0, mp_row, 6, 0, NULL, 0),
+                 refused(DOORBRAMBLE_NEXT_HOP_LENGTH));
+    check_answer("encode_mp_reach_nlri: 14, a part of a row", doorbramble_encode_mp_reach_nlri(next_hops, 16, mp_row, 5, 0, out, PLACES),
+                 not_writable);
+    check_answer("encode_mp_reach_nlri: 14, no mark", doorbramble_encode_mp_reach_nlri(next_hops, 16, mp_row, 6, 1, out, PLACES),
+                 not_writable);
+    check_answer("encode_mp_reach_nlri: 14 before 11", doorbramble_encode_mp_reach_nlri(next_hops, 16, past_octets, 6, 0, NULL, 0),
+                 not_writable);
+    check_answer("encode_mp_reach_nlri: 11", doorbramble_encode_mp_reach_nlri(next_hops, 16, mp_row, 6, 0, out, 29), no_room);
+    check_answer("encode_mp_reach_nlri: 11, two next hops", doorbramble_encode_mp_reach_nlri(next_hops, 32, mp_row, 6, 0, out, 45),
+                 no_room);
+
+    check_out("encode_mp_unreach_nlri", doorbramble_encode_mp_unreach_nlri(mp_row, 6, 0, out, 12), accepted(12, 0, 0), unreach,
+              sizeof unreach);
+    check_out("encode_mp_unreach_nlri: by any flag", doorbramble_encode_mp_unreach_nlri(seven, 6, 200, out, PLACES), accepted(9, 0, 0),
+              tagged, 9);
+    check_out("encode_mp_unreach_nlri: no rows", doorbramble_encode_mp_unreach_nlri(NULL, 0, 0, out, 3), accepted(3, 0, 0), unreach, 3);
+    check_answer("encode_mp_unreach_nlri: 14", doorbramble_encode_mp_unreach_nlri(seven, 6, 0, out, PLACES), not_writable);
+    check_answer("encode_mp_unreach_nlri: 14 before 11", doorbramble_encode_mp_unreach_nlri(mp_row, 7, 0, NULL, 0), not_writable);
+    check_answer("encode_mp_unreach_nlri: 11", doorbramble_encode_mp_unreach_nlri(mp_row, 6, 0, out, 11), no_room);
+}
+
+/* The longest values, of rows of a byte each, and one byte more. The limit is of the whole value: such a list would be taken alone. */
+static void mp_limits(void) {
+    static uint32_t rows[65533 * DOORBRAMBLE_ROW_WORDS];
+    static uint8_t value[65536], written[65535], zeros[65536];
+    const uint8_t *hops = reach_both + DOORBRAMBLE_NEXT_HOP_OFFSET;
+    const uint64_t too_long = refused(DOORBRAMBLE_TOO_LONG), longest = accepted(65535, 0, 0), no_room = refused(DOORBRAMBLE_NO_ROOM);
+
+    memcpy(value, reach_both, 36);
+    check_answer("count_mp_reach_nlri: 65,498 rows", doorbramble_count_mp_reach_nlri(value, 65535, 0), accepted(65498, 0, 32));
+    check_mp_refused("mp_reach_nlri: 1", by_reach, value, 65536, DOORBRAMBLE_TOO_LONG);
+    memset(value + 3, 0, 33);
+    check_answer("count_mp_unreach_nlri: 65,532 rows", doorbramble_count_mp_unreach_nlri(value, 65535, 0), accepted(65532, 0, 0));
+    check_mp_refused("mp_unreach_nlri: 1", by_unreach, value, 65536, DOORBRAMBLE_TOO_LONG);
+    check_mp_refused("mp_reach_nlri: 1 before 17", by_reach, zeros, 65536, DOORBRAMBLE_TOO_LONG);
+    check_mp_refused("mp_unreach_nlri: 1 before 17", by_unreach, zeros, 65536, DOORBRAMBLE_TOO_LONG);
+    check_mp_refused("mp_unreach_nlri: 17 at the limit", by_unreach, zeros, 65535, DOORBRAMBLE_OTHER_FAMILY);
+
+    check_answer("encode_mp_reach_nlri: the longest", doorbramble_encode_mp_reach_nlri(hops, 16, rows, 6 * 65514, 0, written, 65535),
+                 longest);
+    check_answer("encode_mp_reach_nlri: 11 at the limit", doorbramble_encode_mp_reach_nlri(hops, 16, rows, 6 * 65514, 0, written, 65534),
+                 no_room);
+    check_answer("encode_mp_reach_nlri: 1 before 11", doorbramble_encode_mp_reach_nlri(hops, 16, rows, 6 * 65515, 0, NULL, 0), too_long);
+    check_answer("encode_mp_reach_nlri: the longest, two", doorbramble_encode_mp_reach_nlri(hops, 32, rows, 6 * 65498, 0, written, 65535),
+                 longest);
+    check_answer("encode_mp_reach_nlri: 1, two", doorbramble_encode_mp_reach_nlri(hops, 32, rows, 6 * 65499, 0, written, 65535), too_long);
+    check_answer("encode_mp_unreach_nlri: the longest", doorbramble_encode_mp_unreach_nlri(rows, 6 * 65532, 0, written, 65535), longest);
+    expect("encode_mp_unreach_nlri: the longest, as it was read", memcmp(written, value, 65535) == 0);
+    check_answer("encode_mp_unreach_nlri: 1 before 11", doorbramble_encode_mp_unreach_nlri(rows, 6 * 65533, 0, NULL, 0), too_long);
+}
+
+static void mp_values(void) {
+    mp_reach();
+    mp_lists(by_reach, 16);
+    mp_lists(by_unreach, 0);
+    mp_families(by_reach, accepted(0, 0, 16));
+    mp_families(by_unreach, accepted(0, 0, 0));
+    next_hops();
+    mp_writers();
+    mp_limits();
+}
+
 static void slots(void) {
     static uint8_t longest[DOORBRAMBLE_RECORD_SIZE + DOORBRAMBLE_KEPT_LIMIT + 1] = {0xC5, 0x3A, 0xFF, 0xFF, 2};
     static const uint8_t settings[] = {0, DOORBRAMBLE_ADD_PATH, DOORBRAMBLE_GUESS, DOORBRAMBLE_ADD_PATH};
@@ -931,7 +1162,7 @@ static void slots(void) {
 
 static void version(void) {
     uint64_t answer = doorbramble_version();
-    check_answer("version", answer, accepted(1, 5, 0));
+    check_answer("version", answer, accepted(1, 6, 0));
     expect("the version of the header", doorbramble_version_major(answer) == DOORBRAMBLE_VERSION_MAJOR &&
                                             doorbramble_version_minor(answer) == DOORBRAMBLE_VERSION_MINOR);
 }
@@ -1004,6 +1235,7 @@ int main(void) {
     malformed_hosts();
     host_limits();
     rows();
+    mp_values();
     paths();
     strict_paths();
     empty_segments();
