@@ -50,10 +50,15 @@ fn split(request: &Request, is_reach: bool) -> (&[u8], Option<&[u8]>) {
     (head, Some(list))
 }
 
+/// A value as the UPDATE reader has it read.
+pub fn parse(value: Bytes, is_reach: bool, add_path: bool) -> Result<AttributeValue, ParserError> {
+    parse_nlri(value, &None, &None, &None, is_reach, add_path)
+}
+
 /// What the crate reads in a value, and whether it warns of the reserved byte.
 fn ask(value: &[u8], is_reach: bool, add_path: bool) -> Result<(Nlri, bool), Outcome> {
     let bytes = Bytes::copy_from_slice(value);
-    let (read, warned) = warnings::during(|| parse_nlri(bytes, &None, &None, &None, is_reach, add_path));
+    let (read, warned) = warnings::during(|| parse(bytes, is_reach, add_path));
     if let Err(ParserError::ParseError(text)) = &read {
         if let Some(refusal) = refusal_of_head(text, value) {
             return Err(refusal);
