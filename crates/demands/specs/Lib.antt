@@ -8,6 +8,7 @@ pub mod Paths
 pub mod As4
 pub mod Attributes
 pub mod Updates
+pub mod MpNlri
 pub mod Written
 pub mod Slots
 pub mod Numbers

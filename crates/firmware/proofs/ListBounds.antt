@@ -25,7 +25,7 @@ use Rattle.routes.specs.declared.ListAnswer.the-variants as L
 use Rattle.routes.specs.declared.RoutesAnswer.{RoutesAnswer}
 use Rattle.routes.specs.Promises.{listMeaning, countAnswer, hasRoom, readAnswer, withHosts, countList, readList, rowsMeaning, routesMeaning, rowsIn, hostsIn, verdictIn}
 use Rattle.route_writer.specs.Promises as routeWriter
-use Rattle.route_writer.proofs.PromiseLaws.{after-any}
+use Rattle.route_writer.proofs.PromiseLaws.{after-any, write-front}
 use Rattle.words.specs.Word.{inFields, Narrow}
 use Rattle.words.proofs.WordLaws.{refused-narrow, number-narrow}
 
@@ -110,5 +110,4 @@ pub write-after-narrow : (before : ℕ) (ws : List ℕ) (max : ℕ) (form : Form
 write-after-narrow before ws max form places = after-any before ws max form places (λ (a : WriteAnswer). Narrow (inFields (writeMeaning a))) number-narrow refused-narrow
 
 pub write-list-narrow : (ws : List ℕ) (max : ℕ) (form : Form) (places : ℕ) → Narrow (inFields (writeMeaning (routeWriter.writeAnswer ws max form places)))
-unfolding routeWriter.writeAnswer
-write-list-narrow ws max form places = write-after-narrow 0 ws max form places
+write-list-narrow ws max form places = rw (← write-front ws max form places) (write-after-narrow 0 ws max form places)

@@ -3,6 +3,7 @@
 use Prim.Native.Nat.{ℕ, zero, suc, _+_, _≤_, _<_}
 use mathlib.Core.Path.{_≡_, refl, sym, ap, _∙_}
 use mathlib.Core.List.{List}
+use native.Mathlib.Nat.{zero-add}
 use native.Mathlib.Omega.{arith}
 use lib.ListN.{length}
 use lib.Dec.{leb}
@@ -77,6 +78,11 @@ pub filled-front : (a : WriteAnswer) (bytes d : List ℕ) → filledAfter (write
 filled-front (Bytes n) bytes d = refl
 filled-front (Refused n) bytes d = refl
 
+-- and so is the answer
+pub write-front : (ws : List ℕ) (max : ℕ) (form : Form) (places : ℕ) → writeAfter 0 ws max form places ≡ writeAnswer ws max form places
+unfolding writeAfter writeAnswer
+write-front ws max form places = ap (λ (n : ℕ). answerBy (writing ws max form .verdict) (limited listLimit n places) Refused) (zero-add (length (bytesOf ws max form)))
+
 module _ (ws : List ℕ) (max : ℕ) (form : Form) (d : List ℕ) where
   leave : (a : WriteAnswer) → writeAnswer ws max form (length d) ≡ a → filled (writeMeaning a) (bytesOf ws max form) d ≡ outAfter ws max form d
   unfolding outAfter
@@ -85,21 +91,18 @@ module _ (ws : List ℕ) (max : ℕ) (form : Form) (d : List ℕ) where
   -- the answer and the output of the call after nothing
   pub front-told : (a : WriteAnswer) (d′ : List ℕ) → a ≡ writeAfter 0 ws max form (length d) → d′ ≡ filledAfter (writeMeaning a) 0 (bytesOf ws max form) d
       → (a ≡ writeAnswer ws max form (length d)) × (d′ ≡ outAfter ws max form d)
-  unfolding writeAnswer
-  front-told a d′ e f = (e, f ∙ filled-front a (bytesOf ws max form) d ∙ leave a (sym e))
+  front-told a d′ e f = let is = e ∙ write-front ws max form (length d) in (is, f ∙ filled-front a (bytesOf ws max form) d ∙ leave a (sym is))
 
   pub leave-bytes : (n : ℕ) → measured ws max form ≡ Bytes n → n ≤ listLimit → n ≤ length d
       → (Bytes n ≡ writeAnswer ws max form (length d)) × (laid d 0 (bytesOf ws max form) ≡ outAfter ws max form d)
-  unfolding writeAnswer
   leave-bytes n e le fits =
-      let same : n ≡ 0 + n = omega arith in
-      let is : Bytes n ≡ writeAfter 0 ws max form (length d) = ap Bytes same ∙ after-bytes 0 ws max form (length d) n e (omega arith) (omega arith) in
+      let is : Bytes n ≡ writeAnswer ws max form (length d) =
+      ap Bytes (sym (zero-add n)) ∙ after-bytes 0 ws max form (length d) n e (omega arith) (omega arith) ∙ write-front ws max form (length d) in
       (is, leave (Bytes n) (sym is))
 
   -- and back: rows that were written could be, are within the limit, had room, and stand in the output
   pub written-bytes : (n : ℕ) → writeAnswer ws max form (length d) ≡ Bytes n
       → (writing ws max form .verdict ≡ 0) × (length (bytesOf ws max form) ≡ n) × (n ≤ listLimit) × (n ≤ length d) × (outAfter ws max form d ≡ laid d 0 (bytesOf ws max form))
-  unfolding writeAnswer
   written-bytes n e =
-      let h = after-written 0 ws max form (length d) n e in
+      let h = after-written 0 ws max form (length d) n (write-front ws max form (length d) ∙ e) in
       (h .0, omega (arith, h .1), h .2, h .3, sym (leave (Bytes n) e))

@@ -10,18 +10,20 @@ use Rattle.wire.specs.declared.WriteAnswer.the-variants.{Refused}
 use Rattle.families.specs.declared.Form.{Form}
 use Rattle.route_bytes.specs.Encode.{writing, bytesOf}
 
--- as the end of a value of which `before` bytes stand before the rows, into an output of so many places: 14 row by row, then 1 over all of it, and 11 last
+-- into an output of so many places: 14 row by row, then 1, and 11 last
+unfoldable pub writeAnswer : List ℕ → ℕ → Form → ℕ → WriteAnswer
+writeAnswer ws max form places = answerBy (writing ws max form .verdict) (limited listLimit (length (bytesOf ws max form)) places) Refused
+
+-- the output afterwards: the bytes from its front where they were written, and else as it was
+unfoldable pub outAfter : List ℕ → ℕ → Form → List ℕ → List ℕ
+outAfter ws max form out = filled (writeMeaning (writeAnswer ws max form (length out))) (bytesOf ws max form) out
+
+-- ---- as the end of a value, after so many bytes of it
+
+-- 1 is over all of them, and all of them are the answer
 unfoldable pub writeAfter : ℕ → List ℕ → ℕ → Form → ℕ → WriteAnswer
 writeAfter before ws max form places = answerBy (writing ws max form .verdict) (limited listLimit (before + length (bytesOf ws max form)) places) Refused
 
--- the output afterwards: the rows' bytes after the first `before` places where they were written, and else as it was
 abbrev pub filledAfter : Answer → ℕ → List ℕ → List ℕ → List ℕ
 filledAfter (given values) before bytes out = laid out before bytes
 filledAfter (refusal n) before bytes out = out
-
--- at the front of an output
-unfoldable pub writeAnswer : List ℕ → ℕ → Form → ℕ → WriteAnswer
-writeAnswer ws max form places = writeAfter 0 ws max form places
-
-unfoldable pub outAfter : List ℕ → ℕ → Form → List ℕ → List ℕ
-outAfter ws max form out = filled (writeMeaning (writeAnswer ws max form (length out))) (bytesOf ws max form) out
