@@ -37,6 +37,9 @@ use Rattle.paths.specs.declared.PathRule.the-variants.{Crate, Strict}
 use Rattle.paths.specs.Promises.{pathMeaning}
 use Rattle.path_writer.specs.Write.{mostNumbers, segmentBytes, addsUp, allFit, writeFault, lentOf, lentPath, pathBytes}
 use Rattle.path_writer.specs.Promises as pathWriter
+use Rattle.mp_nlri.specs.Value.{isHopSize, pairFault, headOf, reachHead, reachBytes, unreachBytes}
+use Rattle.mp_nlri.specs.Read.{reachMeaning, countReach, readReach, countUnreach, readUnreach}
+use Rattle.mp_nlri.specs.Write.{routeBytes, writeReach, writeUnreach}
 use Rattle.as4.specs.Standing as as4
 use Rattle.as4.specs.Standing.{asTrans, sizeFault, ignored, standingMeaning}
 use Rattle.as4.specs.Merge as Merge
@@ -56,7 +59,7 @@ use Rattle.slot_table.specs.Line.{digits, fieldsText, sectionText, entryOf, ent
 use Rattle.slot_table.specs.Table.{linesOf, endingText}
 use Rattle.slot_table.specs.declared.Ending.the-variants as Ending
 use Rattle.words.specs.Word.{fields, inFields, wordOf}
-use Rattle.firmware.specs.Fields.{messageFields, updateFields, hostFields, slotFields, attributeFields, versionFields, aggregatorSize, rowWords, pairWords, keptLimit, bodyRows}
+use Rattle.firmware.specs.Fields.{messageFields, updateFields, hostFields, reachFields, slotFields, attributeFields, versionFields, aggregatorSize, rowWords, pairWords, keptLimit, bodyRows}
 use Rattle.messages.specs.declared.Edition.{Edition}
 use Rattle.messages.specs.declared.Edition.the-variants.{Rfc4271, Rfc8654}
 use Rattle.messages.specs.declared.MessageAnswer.the-variants.{Message}
@@ -103,6 +106,8 @@ refusalNumbers =
     ∷ line refusals.notWritable 14
     ∷ line refusals.repeatedMpNlri 15
     ∷ line refusals.emptySegment 16
+    ∷ line refusals.otherFamily 17
+    ∷ line refusals.nextHopLength 18
     ∷ line refusals.listLimit 65535
     ∷ line refusals.bodyLimit 65516
     ∷ []
@@ -843,7 +848,7 @@ settings =
     ∷ line keptLimit 65535
     ∷ line bodyRows 65512
     -- the version of the calls for C
-    ∷ line (wordOf versionFields) 0x50001
+    ∷ line (wordOf versionFields) 0x60001
     -- an attribute: where its value starts, its length, its type and its flags
     ∷ line (wordOf (attributeFields (A.Attribute 0x50 2 8 3 11))) 0x500200030008
     ∷ line (wordOf (attributeFields A.Absent)) 0
@@ -979,12 +984,140 @@ oldAndNew =
     ∷ line (mergedInto (2 ∷ 0 ∷ []) [] [] [] 0 0) 11
     ∷ []
 
+-- ---- "K7. IPv6 announcements"
+
+-- MP_REACH_NLRI of a next hop of so many zeros, a reserved byte and a list
+abbrev pub announcement : ℕ → ℕ → List ℕ → List ℕ
+announcement hop reserved list = 0 ∷ 2 ∷ 1 ∷ hop ∷ zeros hop ++ (reserved ∷ list)
+
+-- MP_UNREACH_NLRI of a list
+abbrev pub withdrawal : List ℕ → List ℕ
+withdrawal list = 0 ∷ 2 ∷ 1 ∷ list
+
+-- C's word of each that is counted: the rows, those with a host bit, the next hop's length and 256 for the reserved byte, the refusal number
+abbrev pub reachWord : AddPath → List ℕ → ℕ
+reachWord setting v = wordOf (reachFields (countReach v setting))
+
+abbrev pub unreachWord : AddPath → List ℕ → ℕ
+unreachWord setting v = wordOf (inFields (routesMeaning (countUnreach v setting)))
+
+-- the refusal number of each that is counted, and that is read into a store of so many places
+abbrev pub reachFault : List ℕ → ℕ
+reachFault v = numberIn (reachMeaning (countReach v Off))
+
+abbrev pub unreachFault : List ℕ → ℕ
+unreachFault v = numberIn (routesMeaning (countUnreach v Off))
+
+abbrev pub reachInto : List ℕ → ℕ → ℕ
+reachInto v places = numberIn (reachMeaning (readReach v Off places))
+
+abbrev pub unreachInto : List ℕ → ℕ → ℕ
+unreachInto v places = numberIn (routesMeaning (readUnreach v Off places))
+
+-- of writing rows after a next hop of so many bytes, and without one, into so many places
+abbrev pub reachWritten : ℕ → List ℕ → ℕ → ℕ
+reachWritten hop rows places = numberIn (writeMeaning (writeReach hop rows Plain places))
+
+abbrev pub unreachWritten : List ℕ → ℕ → ℕ
+unreachWritten rows places = numberIn (writeMeaning (writeUnreach rows Plain places))
+
+-- 2001:db8::/32 as a row, and one that no writer takes
+abbrev pub documentation : List ℕ
+documentation = 32 ∷ 0 ∷ 0x20010DB8 ∷ 0 ∷ 0 ∷ 0 ∷ []
+
+abbrev pub unwritable : List ℕ
+unwritable = 129 ∷ zeros 5
+
+abbrev pub announcements : List Line
+announcements =
+    -- a next hop of 16 bytes or 32, the reserved byte flagged; the rows and those with a host bit
+    line (reachWord Off (announcement 16 0 [])) 0x1000000000
+    ∷ line (reachWord Off (announcement 32 0 [])) 0x2000000000
+    ∷ line (reachWord Off (announcement 16 1 [])) 0x11000000000
+    ∷ line (reachWord Off (announcement 32 255 [])) 0x12000000000
+    ∷ line (reachWord Off (announcement 16 0 (32 ∷ 0x20 ∷ 1 ∷ 0x0D ∷ 0xB8 ∷ 0 ∷ []))) 0x1000000002
+    ∷ line (reachWord Off (announcement 16 0 (33 ∷ zeros 4 ++ 0x40 ∷ []))) 0x1000010001
+    ∷ line (unreachWord Off (withdrawal [])) 0
+    ∷ line (unreachWord Off (withdrawal (32 ∷ 0x20 ∷ 1 ∷ 0x0D ∷ 0xB8 ∷ 0 ∷ []))) 2
+    ∷ line (unreachWord Off (withdrawal (1 ∷ 0x40 ∷ []))) 0x10001
+    -- with ids, and by the guess
+    ∷ line (reachWord On (announcement 16 0 (0 ∷ 0 ∷ 0 ∷ 7 ∷ 8 ∷ 0x20 ∷ []))) 0x1000000001
+    ∷ line (reachWord Guess (announcement 16 0 (0 ∷ 0 ∷ 0 ∷ 7 ∷ 8 ∷ 0x20 ∷ []))) 0x1000000001
+    ∷ line (reachWord Off (announcement 16 0 (0 ∷ 0 ∷ 0 ∷ 7 ∷ 8 ∷ 0x20 ∷ []))) 0x2000000000000
+    ∷ line (unreachWord On (withdrawal (0 ∷ 0 ∷ 0 ∷ 7 ∷ 8 ∷ 0x20 ∷ []))) 1
+    ∷ line (unreachWord Guess (withdrawal (0 ∷ 0 ∷ 0 ∷ 7 ∷ 8 ∷ 0x20 ∷ []))) 1
+    -- 2 under three bytes, whatever they are
+    ∷ line (reachFault []) 2
+    ∷ line (reachFault (9 ∷ 9 ∷ [])) 2
+    ∷ line (unreachFault []) 2
+    ∷ line (unreachFault (0 ∷ 1 ∷ [])) 2
+    -- 17 for another pair, be more there or not: another family by either byte, both bytes exchanged, another subfamily
+    ∷ line (reachFault (0 ∷ 1 ∷ 1 ∷ [])) 17
+    ∷ line (reachFault (1 ∷ 2 ∷ 1 ∷ [])) 17
+    ∷ line (reachFault (2 ∷ 0 ∷ 1 ∷ [])) 17
+    ∷ line (reachFault (0 ∷ 2 ∷ 0 ∷ [])) 17
+    ∷ line (reachFault (0 ∷ 2 ∷ 2 ∷ [])) 17
+    ∷ line (reachFault (0 ∷ 2 ∷ 128 ∷ 24 ∷ zeros 25)) 17
+    ∷ line (unreachFault (0 ∷ 1 ∷ 1 ∷ [])) 17
+    ∷ line (unreachFault (1 ∷ 2 ∷ 1 ∷ [])) 17
+    ∷ line (unreachFault (0 ∷ 2 ∷ 2 ∷ 129 ∷ [])) 17
+    -- no length byte, 2; another length, 18, be its bytes there or not; the next hop or the reserved byte not there, 2
+    ∷ line (reachFault (0 ∷ 2 ∷ 1 ∷ [])) 2
+    ∷ line (reachFault (0 ∷ 2 ∷ 1 ∷ 0 ∷ [])) 18
+    ∷ line (reachFault (0 ∷ 2 ∷ 1 ∷ 4 ∷ [])) 18
+    ∷ line (reachFault (0 ∷ 2 ∷ 1 ∷ 24 ∷ [])) 18
+    ∷ line (reachFault (announcement 0 0 [])) 18
+    ∷ line (reachFault (announcement 4 0 [])) 18
+    ∷ line (reachFault (announcement 15 0 [])) 18
+    ∷ line (reachFault (announcement 17 0 [])) 18
+    ∷ line (reachFault (announcement 24 0 [])) 18
+    ∷ line (reachFault (announcement 31 0 [])) 18
+    ∷ line (reachFault (announcement 33 0 [])) 18
+    ∷ line (reachFault (announcement 48 0 [])) 18
+    ∷ line (reachFault (announcement 255 0 [])) 18
+    ∷ line (reachFault (0 ∷ 2 ∷ 1 ∷ 16 ∷ [])) 2
+    ∷ line (reachFault (0 ∷ 2 ∷ 1 ∷ 16 ∷ zeros 16)) 2
+    ∷ line (reachFault (0 ∷ 2 ∷ 1 ∷ 32 ∷ zeros 32)) 2
+    -- the list's own, by IPv6's longest prefix: no rule of one byte
+    ∷ line (reachFault (announcement 16 0 (8 ∷ []))) 2
+    ∷ line (reachFault (announcement 16 0 (0 ∷ []))) 0
+    ∷ line (reachFault (announcement 16 0 (128 ∷ zeros 16))) 0
+    ∷ line (reachFault (announcement 16 0 (129 ∷ zeros 17))) 7
+    ∷ line (unreachFault (withdrawal (8 ∷ []))) 2
+    ∷ line (unreachFault (withdrawal (129 ∷ zeros 17))) 7
+    -- 1 before all, and 11 last: six places a row
+    ∷ line (reachFault (zeros 65536)) 1
+    ∷ line (unreachFault (zeros 65536)) 1
+    ∷ line (reachInto (announcement 16 0 (0 ∷ [])) 6) 0
+    ∷ line (reachInto (announcement 16 0 (0 ∷ [])) 5) 11
+    ∷ line (reachInto (announcement 16 0 (0 ∷ 8 ∷ [])) 0) 2
+    ∷ line (unreachInto (withdrawal (0 ∷ [])) 6) 0
+    ∷ line (unreachInto (withdrawal (0 ∷ [])) 5) 11
+    ∷ line (unreachInto (withdrawal (0 ∷ 129 ∷ [])) 0) 7
+    -- written: the pair, the length, the next hop, a reserved byte of 0, the routes
+    ∷ line (be (reachBytes (zeros 15 ++ 7 ∷ []) (routeBytes documentation Plain))) 0x0002011000000000000000000000000000000007002020010DB8
+    ∷ line (length (reachBytes (zeros 32) [])) 37
+    ∷ line (be (unreachBytes (routeBytes documentation Plain))) 0x0002012020010DB8
+    -- 18 first, then 14, then 11
+    ∷ line (reachWritten 15 unwritable 0) 18
+    ∷ line (reachWritten 24 unwritable 0) 18
+    ∷ line (reachWritten 16 unwritable 0) 14
+    ∷ line (reachWritten 32 unwritable 0) 14
+    ∷ line (reachWritten 16 documentation 25) 11
+    ∷ line (reachWritten 16 documentation 26) 0
+    ∷ line (reachWritten 32 [] 36) 11
+    ∷ line (reachWritten 32 [] 37) 0
+    ∷ line (unreachWritten unwritable 0) 14
+    ∷ line (unreachWritten documentation 7) 11
+    ∷ line (unreachWritten documentation 8) 0
+    ∷ []
+
 abbrev pub table : List Line
-table = refusalNumbers ++ (headers ++ (bodies ++ (lists ++ (pathsAndAggregators ++ (oldAndNew ++ (attributes ++ (emptySegments ++ (longMessages ++ (octetCounts ++ (hostRows ++ (limits ++ (settings ++ lister))))))))))))
+table = refusalNumbers ++ (headers ++ (bodies ++ (lists ++ (pathsAndAggregators ++ (oldAndNew ++ (attributes ++ (emptySegments ++ (longMessages ++ (octetCounts ++ (hostRows ++ (announcements ++ (limits ++ (settings ++ lister)))))))))))))
 
 -- every line of the table holds
 pub numbers : agree table ≡ true
-unfolding agree zeros tableOf beAt readAll walk notes flat modeOf wordAt rowOf itemRow prefixOf hostBits routeOf hostsBy inForm guessForm stepBy listBy sectionBy routes.countAnswer routes.readAnswer fourWords rowBytes allZero writable frontRow writeStep writing bytesOf measured routeWriter.writeAnswer limited span aggregatorOf aggregatorBytes aggregatorWritten typeFault numbersOf segmentAt segmentOf pathOf paths.countAnswer paths.readAnswer segmentBytes addsUp allFit writeFault lentOf lentPath pathBytes pathWriter.lentBytes pathWriter.encodeAnswer leastLength mostLength crateLimit isOutside isUnknown allFF messageOf strictWithin messageWriter.writeMessage isExtended lengthSize headSize attributeFront attributeOf attribute.sectionOf standing attributeAt firstOf countOf verdictOf judged findAnswer partsOf withdrawnOf announcedOf countUpdate bodySized bodyAnswer wordOf familyOf formOf asnLengthOf editionOf tally found slotOf digits fieldsText sectionText entryOf entryText lineOf stopText headingText linesOf endingText sizeFault as4.standing ignored Merge.kept Merge.leading Merge.joint faultOf bothOf builtOf
+unfolding agree zeros pairFault headOf countReach readReach countUnreach readUnreach reachHead reachBytes unreachBytes routeWriter.writeAfter writeReach tableOf beAt readAll walk notes flat modeOf wordAt rowOf itemRow prefixOf hostBits routeOf hostsBy inForm guessForm stepBy listBy sectionBy routes.countAnswer routes.readAnswer fourWords rowBytes allZero writable frontRow writeStep writing bytesOf measured routeWriter.writeAnswer limited span aggregatorOf aggregatorBytes aggregatorWritten typeFault numbersOf segmentAt segmentOf pathOf paths.countAnswer paths.readAnswer segmentBytes addsUp allFit writeFault lentOf lentPath pathBytes pathWriter.lentBytes pathWriter.encodeAnswer leastLength mostLength crateLimit isOutside isUnknown allFF messageOf strictWithin messageWriter.writeMessage isExtended lengthSize headSize attributeFront attributeOf attribute.sectionOf standing attributeAt firstOf countOf verdictOf judged findAnswer partsOf withdrawnOf announcedOf countUpdate bodySized bodyAnswer wordOf familyOf formOf asnLengthOf editionOf tally found slotOf digits fieldsText sectionText entryOf entryText lineOf stopText headingText linesOf endingText sizeFault as4.standing ignored Merge.kept Merge.leading Merge.joint faultOf bothOf builtOf
 numbers = refl
 
 -- the limit of a list and of a path to write is of their bytes, whatever they are
@@ -999,3 +1132,14 @@ pub path-limit : (rule : PathRule) (width : AsnLength) (pairs numbers : List ℕ
     ≡ limited refusals.listLimit (length (pathWriter.lentBytes (ruleOf rule) (widthOf width) pairs numbers)) places
 unfolding pathWriter.encodeAnswer
 path-limit rule width pairs numbers places adds e = rw (adds, e)
+
+-- and that of MP_REACH_NLRI and MP_UNREACH_NLRI is of the whole value
+pub reach-limit : (hop : ℕ) (rows : List ℕ) (form : Form) (places : ℕ) → isHopSize hop ≡ true → writing rows (maxOf Ipv6) form .verdict ≡ 0
+    → writeReach hop rows form places ≡ limited refusals.listLimit (4 + hop + 1 + length (routeBytes rows form)) places
+unfolding writeReach routeWriter.writeAfter
+reach-limit hop rows form places size e = rw (size, e)
+
+pub unreach-limit : (rows : List ℕ) (form : Form) (places : ℕ) → writing rows (maxOf Ipv6) form .verdict ≡ 0
+    → writeUnreach rows form places ≡ limited refusals.listLimit (3 + length (routeBytes rows form)) places
+unfolding routeWriter.writeAfter
+unreach-limit rows form places e = rw e

@@ -23,12 +23,12 @@ use Rattle.outputs.proofs.put_u32.Reads as put_u32
 use Rattle.outputs.proofs.put_octets.Reads as put_octets
 use Rattle.copies.proofs.copy_at.Reads as copy_at
 use Rattle.families.specs.Family.{maxOf, modeOf}
-use Rattle.families.specs.declared.Afi.the-variants.{Ipv4}
+use Rattle.families.specs.declared.Afi.the-variants.{Ipv4, Ipv6}
 use Rattle.families.specs.declared.AddPath.{AddPath}
 use Rattle.families.specs.declared.Form.{Form}
 use Rattle.routes.specs.List.{listOf, hostsOf, sectionOf}
 use Rattle.routes.specs.Prefix.{words}
-use Rattle.routes.specs.Promises.{listMeaning, countAnswer, readAnswer, storeAfter, withHosts, rowsMeaning, routesMeaning, rowsIn}
+use Rattle.routes.specs.Promises.{listMeaning, countAnswer, readAnswer, storeAfter, withHosts, readList, rowsMeaning, routesMeaning, rowsIn}
 use Rattle.routes.specs.declared.Row.{Row}
 use Rattle.routes.specs.declared.ListAnswer.{ListAnswer}
 use Rattle.routes.specs.declared.ListAnswer.the-variants as L
@@ -45,12 +45,24 @@ use Rattle.route_bytes.specs.Encode.{bytesOf}
 use Rattle.route_writer.specs.Pair.{listsMeaning, writePairEnd, writePairAfter}
 use Rattle.route_writer.specs.declared.ListsAnswer.{ListsAnswer}
 use Rattle.route_writer.specs.declared.ListsAnswer.the-variants as S
-use Rattle.route_writer.specs.Promises.{writeAnswer, outAfter}
+use Rattle.route_writer.specs.Promises.{filledAfter, writeAnswer, outAfter}
 use Rattle.route_writer.proofs.PairLaws.{write-pair-fits}
-use Rattle.route_writer.proofs.PromiseLaws.{written-bytes}
+use Rattle.route_writer.proofs.PromiseLaws.{after-written, written-bytes}
 use Rattle.route_bytes.proofs.PromiseLaws.{measured-bytes}
+use Rattle.route_writer.proofs.encode_nlri_after.Reads as encode_nlri_after
 use Rattle.route_writer.proofs.encode_nlri_prefixes.Reads as encode_nlri_prefixes
 use Rattle.route_writer.proofs.encode_nlri_pair.Reads as encode_nlri_pair
+use Rattle.mp_nlri.specs.Value.{headOf, reachBytes, unreachBytes}
+use Rattle.mp_nlri.specs.Read.{reachMeaning, reachList, unreachList, ipv6, rowsOf, readReach, reachAfter, readUnreach}
+use Rattle.mp_nlri.specs.Write.{routeBytes, writeReach, writeUnreach}
+use Rattle.mp_nlri.specs.declared.ReachAnswer.{ReachAnswer}
+use Rattle.mp_nlri.specs.declared.ReachAnswer.the-variants as R
+use Rattle.mp_nlri.proofs.MpTheorems.{rowsTold, answer-is, reach-is, unreach-is}
+use Rattle.mp_nlri.proofs.WriteTheorems as Values
+use Rattle.mp_nlri.proofs.parse_mp_reach_nlri.Reads as parse_mp_reach_nlri
+use Rattle.mp_nlri.proofs.parse_mp_unreach_nlri.Reads as parse_mp_unreach_nlri
+use Rattle.mp_nlri.proofs.encode_mp_reach_nlri.Reads as encode_mp_reach_nlri
+use Rattle.mp_nlri.proofs.encode_mp_unreach_nlri.Reads as encode_mp_unreach_nlri
 use Rattle.asns.specs.Asn.{widthOf, fitsWidth, withNumber}
 use Rattle.asns.specs.Aggregator.{aggregatorMeaning, aggregatorOf, aggregatorBytes, aggregatorWritten, aggregatorLeft}
 use Rattle.asns.specs.declared.AsnLength.{AsnLength}
@@ -88,9 +100,13 @@ use Rattle.update_writer.proofs.RoundTrip as Bodies
 use Rattle.update_writer.proofs.encode_bgp_update_message.Reads as encode_bgp_update_message
 use Rattle.words.specs.Settings.{asnLengthOf}
 use Rattle.words.specs.Word.{inFields, wordOf}
-use Rattle.firmware.specs.Fields.{updateFields, aggregatorSize, aggregatorStored, aggregatorWords}
+use Rattle.firmware.specs.Fields.{updateFields, reachFields, aggregatorSize, aggregatorStored, aggregatorWords}
 use Rattle.firmware.proofs.list.doorbramble_parse_nlri_list.Reads as c_parse_nlri_list
 use Rattle.firmware.proofs.list.doorbramble_encode_nlri_prefixes.Reads as c_encode_nlri_prefixes
+use Rattle.firmware.proofs.mp.doorbramble_parse_mp_reach_nlri.Reads as c_parse_mp_reach_nlri
+use Rattle.firmware.proofs.mp.doorbramble_parse_mp_unreach_nlri.Reads as c_parse_mp_unreach_nlri
+use Rattle.firmware.proofs.mp.doorbramble_encode_mp_reach_nlri.Reads as c_encode_mp_reach_nlri
+use Rattle.firmware.proofs.mp.doorbramble_encode_mp_unreach_nlri.Reads as c_encode_mp_unreach_nlri
 use Rattle.firmware.proofs.path.doorbramble_parse_as_path.Reads as «c_parse_as_path»
 use Rattle.firmware.proofs.merge.doorbramble_merge_as_path.Reads as «c_merge_as_path»
 use Rattle.firmware.proofs.path.doorbramble_encode_as_path.Reads as «c_encode_as_path»
@@ -256,6 +272,79 @@ module _ (κs : _) (lent : _) (answer : _) (exit : _) (call : encode_nlri_pair.L
       ∙ drop-laid-past (laid out start firstBytes) (start + a + between) secondBytes end (omega arith) (omega (arith, length-laid out start firstBytes (omega arith)))
       ∙ drop-laid-past out start firstBytes end (omega arith) (omega arith)
 
+-- a list at the end of a value: the same, with what stands before it counted
+module _ (κs : _) (lent : _) (answer : _) (exit : _) (call : encode_nlri_after.Learnt κs lent answer exit) where
+  abbrev valueOut : List ℕ
+  valueOut = now (lent .1 .1 .1 .1 .0)
+
+  abbrev listBytes : List ℕ
+  listBytes = bytesOf (now (lent .1 .0)) (maxOf (lent .1 .1 .0)) (lent .1 .1 .1 .0)
+
+  pub encode-nlri-after-refused : (n : ℕ) → answer ≡ W.Refused n → now (exit .1 .1 .1 .1 .0) ≡ valueOut
+  encode-nlri-after-refused n e = call .1 ∙ ap (λ (x : WriteAnswer). filledAfter (writeMeaning x) (lent .0) listBytes valueOut) e
+
+  pub encode-nlri-after-past : (n : ℕ) → answer ≡ W.Bytes n → drop n (now (exit .1 .1 .1 .1 .0)) ≡ drop n valueOut
+  encode-nlri-after-past n e =
+      let w = after-written (lent .0) (now (lent .1 .0)) (maxOf (lent .1 .1 .0)) (lent .1 .1 .1 .0) (length valueOut) n (sym (call .0) ∙ e) in
+      ap (drop n) (call .1 ∙ ap (λ (x : WriteAnswer). filledAfter (writeMeaning x) (lent .0) listBytes valueOut) e)
+      ∙ drop-laid-past valueOut (lent .0) listBytes n (omega (arith, w .1)) (omega (arith, w .1, w .3))
+
+-- ---- MP_REACH_NLRI and MP_UNREACH_NLRI
+
+-- the words of rows that were read
+rows-read : (l : List ℕ) (mode : AddPath) (places rows hosts : ℕ) → readList ipv6 l mode places ≡ rowsTold rows hosts → length (flat words (rowsOf l mode)) ≡ 6 * rows
+rows-read l mode places rows hosts e =
+    let r : Reading Row = listOf l (maxOf Ipv6) mode in
+    read-places l r places (L.Rows rows) (rows ∷ []) (answer-is (readAnswer l r places) _ rows hosts e .0) refl
+
+-- a store that a refusal leaves
+refusal-kept : (n : ℕ) (before after : List ℕ) → after ≡ before → Kept (refusal n) 0 before after
+refusal-kept n before after e = record { refused = λ m f. (refl, e); past = e }
+
+module _ (v : List ℕ) (mode : AddPath) (before after : List ℕ) where
+  reach-kept : (a : ReachAnswer) → a ≡ readReach v mode (length before) → after ≡ reachAfter a v mode before → Kept (reachMeaning a) (6 * valueIn 2 (reachMeaning a)) before after
+  unfolding readReach
+  reach-kept (R.Reach size flagged rows hosts) e f =
+      kept (reachMeaning (R.Reach size flagged rows hosts)) (λ x. 6 * valueIn 2 x) (flat words (rowsOf (reachList v) mode)) before after (λ n. refl)
+      (λ _ _. rows-read (reachList v) mode (length before) rows hosts (reach-is size flagged rows hosts (headOf v) _ (sym e) .1)) f
+  reach-kept (R.Refused n) e f = refusal-kept n before after f
+
+  unreach-kept : (list : ListAnswer) (hosts : ℕ) → record { list = list; hosts = hosts } ≡ readUnreach v mode (length before)
+      → after ≡ filled (rowsMeaning list hosts) (flat words (rowsOf (unreachList v) mode)) before → Kept (rowsMeaning list hosts) (6 * valueIn 0 (rowsMeaning list hosts)) before after
+  unfolding readUnreach
+  unreach-kept (L.Rows n) hosts e f =
+      kept (rowsMeaning (L.Rows n) hosts) (λ x. 6 * valueIn 0 x) (flat words (rowsOf (unreachList v) mode)) before after (λ _. refl)
+      (λ _ _. rows-read (unreachList v) mode (length before) n hosts (unreach-is v _ n hosts (sym e) .1)) f
+  unreach-kept (L.Refused n) hosts e f = refusal-kept n before after f
+
+module _ (κs : _) (lent : _) (answer : _) (exit : _) where
+  pub parse-mp-reach-nlri-kept : parse_mp_reach_nlri.Learnt κs lent answer exit → Kept (reachMeaning answer) (6 * valueIn 2 (reachMeaning answer)) (now (lent .1 .1 .0)) (now (exit .1 .1 .0))
+  parse-mp-reach-nlri-kept call = reach-kept _ _ _ _ answer (call .0) (call .1)
+
+module _ (κs : _) (lent : _) (answer : _) (exit : _) where
+  pub parse-mp-unreach-nlri-kept : parse_mp_unreach_nlri.Learnt κs lent answer exit → Kept (routesMeaning answer) (6 * rowsIn answer) (now (lent .1 .1 .0)) (now (exit .1 .1 .0))
+  parse-mp-unreach-nlri-kept call = unreach-kept _ _ _ _ (answer .list) (answer .hosts) (call .0) (call .1)
+
+reach-written : (hop rows : List ℕ) (form : Form) (before after : List ℕ) (a : WriteAnswer) → a ≡ writeReach (length hop) rows form (length before)
+    → after ≡ filled (writeMeaning a) (reachBytes hop (routeBytes rows form)) before → Kept (writeMeaning a) (valueIn 0 (writeMeaning a)) before after
+reach-written hop rows form before after a e f =
+    write-kept a (reachBytes hop (routeBytes rows form)) before after (λ n g. Values.reach-wrote hop rows form (length before) n (sym e ∙ g) .2) f
+
+unreach-written : (rows : List ℕ) (form : Form) (before after : List ℕ) (a : WriteAnswer) → a ≡ writeUnreach rows form (length before)
+    → after ≡ filled (writeMeaning a) (unreachBytes (routeBytes rows form)) before → Kept (writeMeaning a) (valueIn 0 (writeMeaning a)) before after
+unreach-written rows form before after a e f =
+    write-kept a (unreachBytes (routeBytes rows form)) before after (λ n g. Values.unreach-wrote rows form (length before) n (sym e ∙ g) .1) f
+
+module _ (κs : _) (lent : _) (answer : _) (exit : _) where
+  pub encode-mp-reach-nlri-kept : encode_mp_reach_nlri.Learnt κs lent answer exit
+      → Kept (writeMeaning answer) (valueIn 0 (writeMeaning answer)) (now (lent .1 .1 .1 .0)) (now (exit .1 .1 .1 .0))
+  encode-mp-reach-nlri-kept call = reach-written _ _ _ _ _ answer (call .0) (call .1)
+
+module _ (κs : _) (lent : _) (answer : _) (exit : _) where
+  pub encode-mp-unreach-nlri-kept : encode_mp_unreach_nlri.Learnt κs lent answer exit
+      → Kept (writeMeaning answer) (valueIn 0 (writeMeaning answer)) (now (lent .1 .1 .0)) (now (exit .1 .1 .0))
+  encode-mp-unreach-nlri-kept call = unreach-written _ _ _ _ answer (call .0) (call .1)
+
 -- ---- readers into two stores
 
 -- a path in its stores, by its definitions: two places a segment, and a place a number
@@ -313,10 +402,6 @@ section-kept : (s : List ℕ) (r : Reading Row) (a : ListAnswer) (before after :
     → Kept (listMeaning a) (6 * valueIn 0 (listMeaning a)) before after
 section-kept s r a before after e f =
     kept (listMeaning a) (λ x. 6 * valueIn 0 x) (flat words (r .rows)) before after (λ n. refl) (λ fields g. counted-places s r a fields e g) f
-
--- a store that a refusal leaves
-refusal-kept : (n : ℕ) (before after : List ℕ) → after ≡ before → Kept (refusal n) 0 before after
-refusal-kept n before after e = record { refused = λ m f. (refl, e); past = e }
 
 -- the sections of an UPDATE in their stores, by its definitions
 module _ (body : List ℕ) (mode : AddPath) (places places′ : ℕ) (before after : List ℕ) where
@@ -451,6 +536,23 @@ module _ (κs : _) (lent : _) (word : _) (exit : _) (call : c_parse_bgp_update_m
   c-update-kept =
       let u : UpdateAnswer = readUpdate (now (lent .0)) (modeOf (lent .1 .0)) (length (now (lent .1 .1 .0))) (length (now (lent .1 .1 .1 .0))) in
       (u, call .0, withdrawn-kept _ _ _ _ _ _ _ refl (call .1 .0), announced-kept _ _ _ _ _ _ _ refl (call .1 .1))
+
+-- MP_REACH_NLRI's word is that of an answer too, which keeps the store
+module _ (κs : _) (lent : _) (word : _) (exit : _) (call : c_parse_mp_reach_nlri.Learnt κs lent word exit) where
+  pub c-reach-kept : (a : ReachAnswer) × (word ≡ wordOf (reachFields a)) × Kept (reachMeaning a) (6 * valueIn 2 (reachMeaning a)) (now (lent .1 .1 .0)) (now (exit .1 .1 .0))
+  c-reach-kept = (readReach (now (lent .0)) (modeOf (lent .1 .0)) (length (now (lent .1 .1 .0))), call .0, reach-kept _ _ _ _ _ refl (call .1))
+
+module _ (κs : _) (lent : _) (word : _) (exit : _) where
+  pub c-parse-mp-unreach-nlri-kept : c_parse_mp_unreach_nlri.Learnt κs lent word exit → WordKept word (λ a. 6 * valueIn 0 a) (now (lent .1 .1 .0)) (now (exit .1 .1 .0))
+  c-parse-mp-unreach-nlri-kept call = word-kept word _ (λ a. 6 * valueIn 0 a) _ _ (call .0) (unreach-kept _ _ _ _ _ _ refl (call .1))
+
+module _ (κs : _) (lent : _) (word : _) (exit : _) where
+  pub c-encode-mp-reach-nlri-kept : c_encode_mp_reach_nlri.Learnt κs lent word exit → WordKept word (valueIn 0) (now (lent .1 .1 .1 .0)) (now (exit .1 .1 .1 .0))
+  c-encode-mp-reach-nlri-kept call = word-kept word _ (valueIn 0) _ _ (call .0) (reach-written (now (lent .0)) _ _ _ _ _ refl (call .1))
+
+module _ (κs : _) (lent : _) (word : _) (exit : _) where
+  pub c-encode-mp-unreach-nlri-kept : c_encode_mp_unreach_nlri.Learnt κs lent word exit → WordKept word (valueIn 0) (now (lent .1 .1 .0)) (now (exit .1 .1 .0))
+  c-encode-mp-unreach-nlri-kept call = word-kept word _ (valueIn 0) _ _ (call .0) (unreach-written _ _ _ _ _ refl (call .1))
 
 -- ---- numbers and bytes put at a place: there is no refusal number, and where there is no room nothing is put
 

@@ -140,7 +140,7 @@ one-shape hop hop′ list list′ v r r′ h h′ =
 abbrev pub rowsTold : ℕ → ℕ → RoutesAnswer
 rowsTold rows hosts = record { list = L.Rows rows; hosts = hosts }
 
-answer-is : (a : ListAnswer) (h rows hosts : ℕ) → withHosts a h ≡ rowsTold rows hosts → (a ≡ L.Rows rows) × (h ≡ hosts)
+pub answer-is : (a : ListAnswer) (h rows hosts : ℕ) → withHosts a h ≡ rowsTold rows hosts → (a ≡ L.Rows rows) × (h ≡ hosts)
 answer-is (L.Rows n) h rows hosts e = (ap (λ (x : RoutesAnswer). x .list) e, ap (λ (x : RoutesAnswer). x .hosts) e)
 answer-is (L.Refused n) h rows hosts e = let f : L.Refused n ≡ L.Rows rows = ap (λ (x : RoutesAnswer). x .list) e in let z : _≡_ {A = ℕ} 0 1 = cc in absurd (omega arith)
 
@@ -186,7 +186,7 @@ with-head-is n m f g (L.Rows k) hs rows hosts e =
     (ap₂ H.Head p q, ap₂ rowsTold r s)
 with-head-is n m f g (L.Refused k) hs rows hosts e = let z : _≡_ {A = ℕ} 0 1 = cc in absurd (omega arith)
 
-reach-is : (n : ℕ) (f : Bool) (rows hosts : ℕ) (x : HeadAnswer) (a : RoutesAnswer) → ifHead x a ≡ Reach n f rows hosts → (x ≡ H.Head n f) × (a ≡ rowsTold rows hosts)
+pub reach-is : (n : ℕ) (f : Bool) (rows hosts : ℕ) (x : HeadAnswer) (a : RoutesAnswer) → ifHead x a ≡ Reach n f rows hosts → (x ≡ H.Head n f) × (a ≡ rowsTold rows hosts)
 reach-is n f rows hosts (H.Head m g) a e = with-head-is n m f g (a .list) (a .hosts) rows hosts e
 reach-is n f rows hosts (H.Refused k) a e = let z : _≡_ {A = ℕ} 0 1 = cc in absurd (omega arith)
 
@@ -247,7 +247,7 @@ module _ (v : List ℕ) (form : Form) (mode : AddPath) (on : mode ≡ fixed form
 -- ---- and MP_UNREACH_NLRI
 
 -- what is not refused by the pair
-unreach-is : (v : List ℕ) (a : RoutesAnswer) (rows hosts : ℕ) → answerBy (pairFault v) a noRoutes ≡ rowsTold rows hosts → Paired v × (a ≡ rowsTold rows hosts)
+pub unreach-is : (v : List ℕ) (a : RoutesAnswer) (rows hosts : ℕ) → answerBy (pairFault v) a noRoutes ≡ rowsTold rows hosts → Paired v × (a ≡ rowsTold rows hosts)
 unreach-is v a rows hosts =
     pair-cases v (λ k. answerBy k a noRoutes ≡ rowsTold rows hosts → Paired v × (a ≡ rowsTold rows hosts)) (bad tooLong) (bad truncated) (bad otherFamily) (λ h e. (h, e))
   where
