@@ -4,6 +4,7 @@ use as4::StandingAnswer;
 use asns::AggregatorAnswer;
 use attributes::AttributeAnswer;
 use messages::MessageAnswer;
+use mp_nlri::ReachAnswer;
 use paths::PathAnswer;
 use routes::ListAnswer;
 use routes::PrefixAnswer;
@@ -62,6 +63,32 @@ pub fn of_list(a: RoutesAnswer) -> Numbers {
             values: [0, n, a.hosts, 0, 0, 0, 0, 0, 0],
         },
         ListAnswer::Refused(n) => refused(n, 3),
+    }
+}
+
+// MP_REACH_NLRI: the length and the sum of its next hop, whether the reserved byte is not 0, its rows, and those with a bit set past their length.
+pub fn of_reach(a: ReachAnswer, next_hop: &[u8]) -> Numbers {
+    match a {
+        ReachAnswer::Reach {
+            next_hop: size,
+            reserved,
+            rows,
+            hosts,
+        } => Numbers {
+            count: 6,
+            values: [
+                0,
+                size,
+                store::sum_of_bytes(next_hop),
+                bit(reserved),
+                rows,
+                hosts,
+                0,
+                0,
+                0,
+            ],
+        },
+        ReachAnswer::Refused(n) => refused(n, 6),
     }
 }
 

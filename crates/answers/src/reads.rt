@@ -1,12 +1,29 @@
-// Ops 1 to 12 and 18 to 21: the readers.
+// Ops 1 to 12 and 18 to 25: the readers.
 use crate::numbers;
 use crate::numbers::Numbers;
 use crate::request;
 use crate::request::Head;
 use crate::store;
+use families::AddPath;
 use families::Afi;
 
-// Ops 3, 5, 7 and 11.
+// Op 23.
+fn counted_reach(value: &[u8], mode: AddPath) -> Numbers {
+    numbers::of_reach(
+        mp_nlri::count_mp_reach_nlri(value, mode),
+        mp_nlri::next_hop_part(value),
+    )
+}
+
+// Op 22.
+fn stored_reach(value: &[u8], mode: AddPath, store: &mut [u32]) -> Numbers {
+    numbers::of_reach(
+        mp_nlri::parse_mp_reach_nlri(value, mode, store),
+        mp_nlri::next_hop_part(value),
+    )
+}
+
+// Ops 3, 5, 7, 11, 23 and 25.
 fn counted(op: u8, settings: u8, s: &[u8]) -> Numbers {
     let mode = families::mode_of(settings);
     match op {
@@ -17,6 +34,8 @@ fn counted(op: u8, settings: u8, s: &[u8]) -> Numbers {
             request::width(settings),
             request::rule(settings),
         )),
+        23 => counted_reach(s, mode),
+        25 => numbers::of_list(mp_nlri::count_mp_unreach_nlri(s, mode)),
         _ => numbers::of_update(updates::count_bgp_update_message(s, mode)),
     }
 }
@@ -88,7 +107,7 @@ fn plain<'a>(h: Head, s: &'a [u8], two: &'a [u8]) -> Numbers {
     }
 }
 
-// Ops 2 and 4, which lend one store, and ops 6 and 10, which lend two, on part one.
+// Ops 2, 4, 22 and 24, which lend one store, and ops 6 and 10, which lend two, on part one.
 fn stored(op: u8, settings: u8, s: &[u8], a: &mut [u32], b: &mut [u32]) -> Numbers {
     let mode = families::mode_of(settings);
     match op {
@@ -101,6 +120,8 @@ fn stored(op: u8, settings: u8, s: &[u8], a: &mut [u32], b: &mut [u32]) -> Numbe
             a,
             b,
         )),
+        22 => stored_reach(s, mode, a),
+        24 => numbers::of_list(mp_nlri::parse_mp_unreach_nlri(s, mode, a)),
         _ => numbers::of_update(updates::parse_bgp_update_message(s, mode, a, b)),
     }
 }
@@ -123,7 +144,7 @@ fn merged(h: Head, s: &[u8], a: &mut [u32], b: &mut [u32]) -> Numbers {
 // How many stores an op lends.
 pub fn stores_lent(op: u8) -> u8 {
     match op {
-        2 | 4 => 1,
+        2 | 4 | 22 | 24 => 1,
         6 | 10 | 21 => 2,
         _ => 0,
     }

@@ -12,7 +12,7 @@ pub const HEAD_SIZE: usize = 18;
 pub const ROOM_LIMIT: usize = 400000;
 
 // The last op; the first is 1.
-const LAST_OP: u8 = 21;
+const LAST_OP: u8 = 27;
 
 // The largest settings byte.
 const SETTINGS_LIMIT: u8 = 63;
@@ -79,12 +79,13 @@ fn whole(size: usize) -> bool {
 fn parts_given(h: Head) -> bool {
     let op = h.op;
     match op {
-        13 => whole(h.one),
+        13 | 27 => whole(h.one),
         14 => whole(wire::most(h.one % 4, h.two % 4)),
         15 => h.one == 8,
         17 => whole(wire::most(h.one % 4, h.three % 4)),
         18 => h.two == 4,
         21 => h.argument as usize <= h.three,
+        26 => whole(h.two),
         _ => true,
     }
 }

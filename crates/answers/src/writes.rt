@@ -1,4 +1,4 @@
-// Ops 13 to 17: the writers.
+// Ops 13 to 17, 26 and 27: the writers.
 use crate::numbers;
 use crate::numbers::Numbers;
 use crate::request;
@@ -10,6 +10,7 @@ use wire::WriteAnswer;
 pub fn is_writer(op: u8) -> bool {
     match op {
         13..=17 => true,
+        26 | 27 => true,
         _ => false,
     }
 }
@@ -51,6 +52,8 @@ fn written(
         14 => path(rows, more, h.settings, w),
         15 => aggregator(h, one, w),
         16 => messages::encode_bgp_message(h.argument, one, w),
+        26 => mp_nlri::encode_mp_reach_nlri(one, more, form, w),
+        27 => mp_nlri::encode_mp_unreach_nlri(rows, form, w),
         _ => update_writer::encode_bgp_update_message(rows, two, more, form, w),
     }
 }

@@ -163,10 +163,10 @@ module _ (κs : _) (given : _) (answer : _) (exit : _) (call : parse_mp_reach_nl
         wrote,
         (
           λ off.
-          call′ .1 ∙ filled-bytes answer′ _ all (out (given′ .1)) wrote ∙ ap (laid (out (given′ .1)) 0) (bytes ∙ Writing.back-same (value given) in-form size flagged n hosts h each off),
+              call′ .1 ∙ filled-bytes answer′ _ all (out (given′ .1)) wrote ∙ ap (laid (out (given′ .1)) 0) (bytes ∙ Writing.back-same (value given) in-form size flagged n hosts h each off),
           λ again.
-          Writing.same-back (value given) in-form size flagged n hosts h each
-          (sym bytes ∙ sym (written-front answer′ (length (value given)) all (out (given′ .1)) wrote long) ∙ ap (take (length (value given))) (sym (call′ .1)) ∙ again),
+              Writing.same-back (value given) in-form size flagged n hosts h each
+              (sym bytes ∙ sym (written-front answer′ (length (value given)) all (out (given′ .1)) wrote long) ∙ ap (take (length (value given))) (sym (call′ .1)) ∙ again),
         ),
       )
 
@@ -239,9 +239,9 @@ module _ (κs : _) (given : _) (answer : _) (exit : _) (call : encode_mp_reach_n
           hosts,
           told,
           read .1
-          ∙ ap (λ (a : ReachAnswer). reachAfter a (value given′) (setting given′) (store given′)) told
-          ∙ ap₂ (λ (v : List ℕ) (m : AddPath). laid (store given′) 0 (flat words (rowsOf (reachList v) m))) is on
-          ∙ ap (laid (store given′) 0) (Writing.reach-words reachRows reachForm wide (found .1) hop (found .0)),
+              ∙ ap (λ (a : ReachAnswer). reachAfter a (value given′) (setting given′) (store given′)) told
+              ∙ ap₂ (λ (v : List ℕ) (m : AddPath). laid (store given′) 0 (flat words (rowsOf (reachList v) m))) is on
+              ∙ ap (laid (store given′) 0) (Writing.reach-words reachRows reachForm wide (found .1) hop (found .0)),
         )
 
 -- any call that writes MP_UNREACH_NLRI
@@ -274,9 +274,9 @@ module _ (κs : _) (given : _) (answer : _) (exit : _) (call : encode_mp_unreach
           hosts,
           told,
           read .1
-          ∙ ap (λ (a : RoutesAnswer). unreachAfter a (value given′) (setting given′) (store given′)) told
-          ∙ ap₂ (λ (v : List ℕ) (m : AddPath). laid (store given′) 0 (flat words (rowsOf (unreachList v) m))) is on
-          ∙ ap (laid (store given′) 0) (Writing.unreach-words (rows given) (form given) wide (unreach-found .0)),
+              ∙ ap (λ (a : RoutesAnswer). unreachAfter a (value given′) (setting given′) (store given′)) told
+              ∙ ap₂ (λ (v : List ℕ) (m : AddPath). laid (store given′) 0 (flat words (rowsOf (unreachList v) m))) is on
+              ∙ ap (laid (store given′) 0) (Writing.unreach-words (rows given) (form given) wide (unreach-found .0)),
         )
 
 -- ---- 4. Two writings that share their bytes had the same next hop and the same rows, of 32-bit numbers.
