@@ -17,7 +17,7 @@ use Rattle.wire.proofs.ChoiceLaws.{pick-any, pick-unless}
 use Rattle.wire.specs.Extent.{PartOf, clipped}
 use Rattle.wire.proofs.ExtentLaws.{clipped-fits}
 use Rattle.wire.specs.Refusal.{tooLong, truncated, otherFamily, nextHopLength, listLimit}
-use Rattle.mp_nlri.specs.Value.{isPair, isHopSize, hopStart, hopSize, reservedAt, pairFault, headOf, nextHopAt}
+use Rattle.mp_nlri.specs.Value.{isPair, isHopSize, hopStart, hopSize, reservedAt, pairFault, afterPair, headOf, nextHopAt}
 use Rattle.mp_nlri.specs.declared.HeadAnswer.{HeadAnswer}
 use Rattle.mp_nlri.specs.declared.HeadAnswer.the-variants.{Head, Refused}
 
@@ -63,20 +63,13 @@ pub record Headed (v : List ℕ) (hop : ℕ) (reserved : Bool) : Type 0 where
   pub whole : hopStart + hop < length v
   pub flagged : reserved ≡ not (eqb (getD v (hopStart + hop) 0) 0)
 
-abbrev headAfter : List ℕ → HeadAnswer
-headAfter v =
-    pick (ltb (length v) hopStart) (Refused truncated)
-    (pick (isHopSize (hopSize v))
-    (pick (ltb (reservedAt v) (length v)) (Head (hopSize v) (not (eqb (getD v (reservedAt v) 0) 0))) (Refused truncated))
-    (Refused nextHopLength))
-
 -- by its fault
-head-fault : (v : List ℕ) (n : ℕ) → n ≡ pairFault v → answerBy n (headAfter v) Refused ≡ headOf v
+head-fault : (v : List ℕ) (n : ℕ) → n ≡ pairFault v → answerBy n (afterPair v) Refused ≡ headOf v
 unfolding headOf
-head-fault v n e = ap (λ (k : ℕ). answerBy k (headAfter v) Refused) e
+head-fault v n e = ap (λ (k : ℕ). answerBy k (afterPair v) Refused) e
 
 pub head-refused : (v : List ℕ) (n : ℕ) → n ≡ pairFault v → 0 < n → Refused n ≡ headOf v
-head-refused v n e pos = sym (answer-refused n (headAfter v) Refused pos) ∙ head-fault v n e
+head-refused v n e pos = sym (answer-refused n (afterPair v) Refused pos) ∙ head-fault v n e
 
 module _ (v : List ℕ) (h : Paired v) where
   pub head-cut : length v < hopStart → Refused truncated ≡ headOf v
@@ -97,7 +90,7 @@ pub head-cases {ℓ} : (v : List ℕ) (P : HeadAnswer → Type ℓ) → ((n : �
     → ((hop : ℕ) (reserved : Bool) → Headed v hop reserved → P (Head hop reserved)) → P (headOf v)
 unfolding headOf
 head-cases v P bad good =
-    pair-cases v (λ n. P (answerBy n (headAfter v) Refused)) (bad tooLong (omega arith)) (bad truncated (omega arith)) (bad otherFamily (omega arith)) (λ h.
+    pair-cases v (λ n. P (answerBy n (afterPair v) Refused)) (bad tooLong (omega arith)) (bad truncated (omega arith)) (bad otherFamily (omega arith)) (λ h.
     pick-any P (ltb (length v) hopStart) (Refused truncated) _ (bad truncated (omega arith))
     (pick-told P (isHopSize (hopSize v)) _ (Refused nextHopLength)
     (λ size.

@@ -55,16 +55,17 @@ pairFault v =
     (pick (ltb (length v) 3) truncated
     (pick (isPair v) 0 otherFamily))
 
--- what stands before the routes of MP_REACH_NLRI: no length octet, 2; another length than 16 or 32, 18, be its octets there or not; the next hop and the
--- reserved octet all there, 2
-unfoldable pub headOf : List ℕ → HeadAnswer
-headOf v =
-    answerBy (pairFault v)
-    (pick (ltb (length v) hopStart) (Refused truncated)
+-- what stands after the pair and before the routes of MP_REACH_NLRI: no length octet, 2; another length than 16 or 32, 18, be its octets there or not; the
+-- next hop and the reserved octet all there, 2
+abbrev pub afterPair : List ℕ → HeadAnswer
+afterPair v =
+    pick (ltb (length v) hopStart) (Refused truncated)
     (pick (isHopSize (hopSize v))
     (pick (ltb (reservedAt v) (length v)) (Head (hopSize v) (not (eqb (getD v (reservedAt v) 0) 0))) (Refused truncated))
-    (Refused nextHopLength)))
-    Refused
+    (Refused nextHopLength))
+
+unfoldable pub headOf : List ℕ → HeadAnswer
+headOf v = answerBy (pairFault v) (afterPair v) Refused
 
 -- the next hop as a part of the value, and nothing where it is refused
 abbrev pub nextHopAt : HeadAnswer → Extent
