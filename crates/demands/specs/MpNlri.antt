@@ -26,8 +26,8 @@ use Rattle.routes.specs.Prefix.{itemRow, words}
 use Rattle.routes.specs.declared.Row.{Row}
 use Rattle.routes.specs.declared.RoutesAnswer.{RoutesAnswer}
 use Rattle.route_bytes.specs.Encode.{writing}
-use Rattle.mp_nlri.specs.Value.{hopStart, nextHopAt, headOf, reachBytes, unreachBytes}
-use Rattle.mp_nlri.specs.Read.{rowsOf, reachList, unreachList, readReach, reachAfter, countReach, readUnreach, unreachAfter, countUnreach}
+use Rattle.mp_nlri.specs.Value.{hopStart, nextHopAt, reachBytes, unreachBytes}
+use Rattle.mp_nlri.specs.Read.{rowsOf, reachList, unreachList, readReach, reachAfter, readUnreach, unreachAfter}
 use Rattle.mp_nlri.specs.Write.{routeBytes, writeReach, writeUnreach}
 use Rattle.mp_nlri.specs.WellFormed.{HopSize, ReachFormed, ReachAccepted, UnreachAccepted}
 use Rattle.mp_nlri.specs.declared.HeadAnswer.{HeadAnswer}

@@ -1,6 +1,6 @@
 -- The fields of every answer of the module mp are of 16 bits.
 -- Assumes nothing.
-use Prim.Native.Nat.{ℕ, _+_, _≤_}
+use Prim.Native.Nat.{ℕ, _≤_}
 use mathlib.Core.List.{List}
 use mathlib.Core.Bool.{Bool, true, false}
 use native.Mathlib.Omega.{arith}
@@ -21,8 +21,7 @@ use Rattle.mp_nlri.specs.Value.{isHopSize, pairFault, headOf}
 use Rattle.mp_nlri.specs.Read.{ipv6, reachList, unreachList, asReach, ifHead, countReach, readReach, noRoutes, countUnreach, readUnreach}
 use Rattle.mp_nlri.specs.Write.{writeReach, writeUnreach}
 use Rattle.mp_nlri.specs.declared.HeadAnswer.{HeadAnswer}
-use Rattle.mp_nlri.specs.declared.HeadAnswer.the-variants as H
-use Rattle.mp_nlri.proofs.ValueLaws.{Headed, head-cases, hop-few}
+use Rattle.mp_nlri.proofs.ValueLaws.{head-cases, hop-few}
 use Rattle.words.specs.Word.{inFields, Narrow}
 use Rattle.words.proofs.WordLaws.{refused-narrow}
 use Rattle.firmware.specs.Fields.{reachFields}

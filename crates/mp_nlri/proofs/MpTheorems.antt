@@ -1,31 +1,26 @@
 -- What reading and writing MP_REACH_NLRI and MP_UNREACH_NLRI are, in terms of bytes alone, over the definitions: what the demand of the calls cites.
 -- Assumes nothing.
-use Prim.Native.Nat.{ℕ, suc, _+_, _*_, _/_, _≤_, _<_}
+use Prim.Native.Nat.{ℕ, suc, _+_, _/_, _≤_}
 use mathlib.Core.Path.{_≡_, refl, sym, ap, ap₂, subst, _∙_}
 use mathlib.Core.List.{List, [], _∷_, _++_, append-assoc, map}
-use mathlib.Core.Bool.{Bool, true, false, not, _&&_}
+use mathlib.Core.Bool.{Bool, true, not}
 use native.Mathlib.Omega.{arith}
-use borrow.Author.Tests.{eqb-true, le-leb}
+use borrow.Author.Tests.{eqb-true}
 use lib.ListN.{length, getD, take, drop, length-append, length-drop, take-append-drop}
-use lib.Seq.{take-at, drop-at, drop-drop, drop-cons, getD-at, getD-drop, length-take-le}
+use lib.Seq.{take-at, drop-at, drop-drop, drop-cons, getD-at, length-take-le}
 use lib.Dec.{eqb}
 use Rattle.wire.specs.Answer.{flag, answerBy}
 use Rattle.wire.specs.Cutting.{Cutting}
-use Rattle.wire.specs.Number.{beAt, Words}
-use Rattle.wire.specs.Number as Number
+use Rattle.wire.specs.Number.{beAt}
 use Rattle.wire.specs.Refusal.{tooLong, truncated, otherFamily, listLimit}
-use Rattle.wire.specs.Walk.{Reading, tally, flat}
-use Rattle.wire.specs.declared.WriteAnswer.{WriteAnswer}
-use Rattle.wire.specs.declared.WriteAnswer.the-variants as W
-use Rattle.wire.proofs.AnswerLaws.{limited-fits}
+use Rattle.wire.specs.Walk.{Reading, tally}
 use Rattle.wire.proofs.ChoiceLaws.{and-true}
 use Rattle.families.specs.Family.{maxOf}
 use Rattle.families.specs.declared.Afi.the-variants.{Ipv6}
 use Rattle.families.specs.declared.Form.{Form}
 use Rattle.families.specs.declared.AddPath.{AddPath}
-use Rattle.families.proofs.FamilyLaws.{max-small}
 use Rattle.routes.specs.List.{fixed, listOf, hostsOf}
-use Rattle.routes.specs.Prefix.{itemRow, hostBits, words}
+use Rattle.routes.specs.Prefix.{itemRow, hostBits}
 use Rattle.routes.specs.Promises.{countAnswer, readAnswer, withHosts, countList, readList}
 use Rattle.routes.specs.WellFormed.{WellFormed}
 use Rattle.routes.specs.declared.Row.{Row}
@@ -35,18 +30,14 @@ use Rattle.routes.specs.declared.RoutesAnswer.{RoutesAnswer}
 use Rattle.routes.proofs.CuttingLaws.{cut-hosts}
 use Rattle.routes.proofs.ListLaws.{beside}
 use Rattle.route_bytes.specs.Encode.{writing}
-use Rattle.route_writer.specs.Promises.{writeAfter}
-use Rattle.route_writer.proofs.PromiseLaws.{after-written}
 use Rattle.route_writer.proofs.RouteTheorems as Lists
-use Rattle.mp_nlri.specs.Value.{isPair, isHopSize, hopStart, hopSize, reservedAt, pairFault, headOf, reachHead, reachBytes, unreachBytes}
-use Rattle.mp_nlri.specs.Read.{ipv6, reachList, unreachList, rowsOf, withHead, asReach, ifHead, countReach, readReach, noRoutes, countUnreach, readUnreach}
-use Rattle.mp_nlri.specs.Write.{routeBytes, writeReach, writeUnreach}
-use Rattle.mp_nlri.specs.WellFormed.{HopSize, global, both, ReachFormed, UnreachFormed, RoutesFormed, ReachAccepted, UnreachAccepted}
+use Rattle.mp_nlri.specs.Value.{isPair, isHopSize, hopStart, hopSize, reservedAt, pairFault, headOf}
+use Rattle.mp_nlri.specs.Read.{ipv6, reachList, unreachList, rowsOf, withHead, ifHead, countReach, readReach, noRoutes, countUnreach, readUnreach}
+use Rattle.mp_nlri.specs.WellFormed.{HopSize, global, both, ReachFormed, RoutesFormed, ReachAccepted, UnreachAccepted}
 use Rattle.mp_nlri.specs.declared.HeadAnswer.{HeadAnswer}
 use Rattle.mp_nlri.specs.declared.HeadAnswer.the-variants as H
-use Rattle.mp_nlri.specs.declared.ReachAnswer.{ReachAnswer}
 use Rattle.mp_nlri.specs.declared.ReachAnswer.the-variants.{Reach, Refused}
-use Rattle.mp_nlri.proofs.ValueLaws.{Paired, Headed, pair-cases, pair-by, head-cases, head-by, head-good, hop-cases}
+use Rattle.mp_nlri.proofs.ValueLaws.{Paired, Headed, pair-cases, pair-by, head-by, head-good, hop-cases}
 
 -- ---- the shape
 

@@ -1,10 +1,7 @@
 -- Two results that the promise of a call allows are equal, and so is what it leaves: of the ensures clauses themselves.
 use mathlib.Core.Path.{_≡_, sym, ap, _∙_}
-use mathlib.Core.List.{List}
-use Prim.Native.Nat.{ℕ}
 use denote.Ref.{now}
 use Rattle.wire.specs.Answer.{filled, writeMeaning}
-use Rattle.wire.specs.declared.WriteAnswer.{WriteAnswer}
 use Rattle.wire.proofs.ExtentLaws.{one-part}
 use Rattle.mp_nlri.specs.Value.{reachBytes, unreachBytes}
 use Rattle.mp_nlri.specs.Read.{reachAfter, unreachAfter}

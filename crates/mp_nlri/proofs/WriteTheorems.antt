@@ -1,11 +1,11 @@
 -- What is written of MP_REACH_NLRI and MP_UNREACH_NLRI, in terms of bytes alone, over the definitions: what the demand of the calls cites.
 -- Assumes nothing.
 use Prim.Native.Nat.{ℕ, _+_, _*_, _/_, _≤_}
-use mathlib.Core.Path.{_≡_, refl, sym, ap, ap₂, subst, _∙_}
+use mathlib.Core.Path.{_≡_, refl, sym, ap, subst, _∙_}
 use mathlib.Core.List.{List, [], _∷_, _++_, append-assoc, map}
-use mathlib.Core.Bool.{Bool, true, false, not}
+use mathlib.Core.Bool.{Bool, false, not}
 use native.Mathlib.Omega.{arith}
-use borrow.Author.Tests.{eqb-true, not-true, not-false}
+use borrow.Author.Tests.{eqb-true, not-false}
 use lib.ListN.{length, take, drop, length-map}
 use lib.Seq.{getD-drop}
 use lib.Dec.{eqb}
@@ -34,7 +34,7 @@ use Rattle.mp_nlri.specs.Read.{rowsOf, reachList, unreachList}
 use Rattle.mp_nlri.specs.Write.{routeBytes, writeReach, writeUnreach}
 use Rattle.mp_nlri.specs.WellFormed.{HopSize, ReachFormed, UnreachFormed, RoutesFormed, ReachAccepted, UnreachAccepted}
 use Rattle.mp_nlri.proofs.ValueLaws.{pick-told}
-use Rattle.mp_nlri.proofs.MpTheorems.{hop-formed, formed-hop, formed-length, formed-octet, formed-list, one-shape, counted-formed}
+use Rattle.mp_nlri.proofs.MpTheorems.{hop-formed, formed-hop, formed-length, formed-list, one-shape, counted-formed}
 
 -- ---- what the writers put
 

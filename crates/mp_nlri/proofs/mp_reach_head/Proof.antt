@@ -1,9 +1,7 @@
-use mathlib.Core.Path.{_≡_, refl, sym, ap, _∙_}
-use mathlib.Core.Bool.{false, true}
+use mathlib.Core.Path.{refl, sym, _∙_}
 use native.Mathlib.Omega.{arith}
 use borrow.Author.Tests.{not-true, not-false}
-use Rattle.mp_nlri.specs.Value.{isHopSize, hopSize}
-use Rattle.mp_nlri.proofs.ValueLaws.{Paired, Headed, pair-good, head-refused, head-cut, head-other, head-short, head-by, hop-cases}
+use Rattle.mp_nlri.proofs.ValueLaws.{Paired, pair-good, head-refused, head-cut, head-other, head-short, head-by}
 use borrow.Author.Needs.{needs}
 use Rattle.mp_nlri.proofs.mp_reach_head.Statement.{statement}
 use Rattle.mp_nlri.proofs.mp_reach_head.Tie as tie
