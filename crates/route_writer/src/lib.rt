@@ -72,24 +72,25 @@ fn put_head(rows: &[u32], at: usize, form: Form, out: &mut [u8], to: usize) -> u
     len
 }
 
-// One of the four octets of a word.
-fn octet_of(w: u32, j: usize) -> u8
-    requires { ⌜ j < 4 ⌝ }
-    ensures { λ r. ⌜ r ≡ getD (toBe 4 w) j 0 ⌝ }
-{
-    ((w >> (24 - 8 * j) as u32) % 256) as u8
-}
-
-// The first n address octets of the row at a place, and no more, at a place of the output.
+// The first n address octets of the row at a place, and no more, at a place of the output: whole words, and then the first octets of the
+// next, for which just their places are lent, so that no test of room is left.
 fn put_octets(rows: &[u32], at: usize, n: usize, out: &mut [u8], to: usize)
     requires { ⌜ (at + 6 ≤ length (now rows)) × (n ≤ 16) × (to + n ≤ length (now out)) ⌝ }
     ensures { λ _. ⌜ now (out .exit) ≡ laid (now (out .entry)) to (take n (address (rowAt (now (rows .entry)) at))) ⌝ }
 {
+    let whole = n / 4;
     let mut i: usize = 0;
-    while i < n {
-        out[to + i] = octet_of(rows[at + 2 + i / 4], i % 4);
+    while i < whole {
+        put_word(rows, at + 2 + i, out, to + 4 * i);
         i = i + 1;
     }
+    let left = n % 4;
+    if left == 0 {
+        return;
+    }
+    let start = to + 4 * whole;
+    let end = start + left;
+    outputs::put_octets(&mut out[start..end], 0, rows[at + 2 + whole], left);
 }
 
 // The bytes of the row at a place, and no more, at a place of the output; how many.
