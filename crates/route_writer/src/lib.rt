@@ -175,12 +175,16 @@ fn fill(rows: &[u32], afi: Afi, form: Form, out: &mut [u8], total: usize)
     }
 }
 
-// Rows that were measured, as a list at a place of an output that has room.
+// Rows that were measured, as a list at a place of an output that has room. With two calls of fill this function is copied into its
+// callers.
 fn put_list(rows: &[u32], afi: Afi, form: Form, size: usize, out: &mut [u8], to: usize)
     requires { ⌜ (measured (now rows) (maxOf afi) form ≡ Bytes size) × (to + size ≤ length (now out)) ⌝ }
     ensures { λ _. ⌜ now (out .exit) ≡ laid (now (out .entry)) to (bytesOf (now (rows .entry)) (maxOf afi) form) ⌝ }
 {
-    fill(rows, afi, form, &mut out[to..], size);
+    match afi {
+        Afi::Ipv4 => fill(rows, Afi::Ipv4, form, &mut out[to..], size),
+        Afi::Ipv6 => fill(rows, Afi::Ipv6, form, &mut out[to..], size),
+    }
 }
 
 // Rows as the list at the end of a value, of which `before` bytes stand before it and are left as they are. The answer is the bytes of all of it.
