@@ -177,7 +177,7 @@ fn fill(rows: &[u32], afi: Afi, form: Form, out: &mut [u8], total: usize)
 
 // Rows that were measured, as a list at a place of an output that has room. With two calls of fill this function is copied into its
 // callers.
-fn put_list(rows: &[u32], afi: Afi, form: Form, size: usize, out: &mut [u8], to: usize)
+fn put_rows(rows: &[u32], afi: Afi, form: Form, size: usize, out: &mut [u8], to: usize)
     requires { ⌜ (measured (now rows) (maxOf afi) form ≡ Bytes size) × (to + size ≤ length (now out)) ⌝ }
     ensures { λ _. ⌜ now (out .exit) ≡ laid (now (out .entry)) to (bytesOf (now (rows .entry)) (maxOf afi) form) ⌝ }
 {
@@ -185,6 +185,17 @@ fn put_list(rows: &[u32], afi: Afi, form: Form, size: usize, out: &mut [u8], to:
         Afi::Ipv4 => fill(rows, Afi::Ipv4, form, &mut out[to..], size),
         Afi::Ipv6 => fill(rows, Afi::Ipv6, form, &mut out[to..], size),
     }
+}
+
+// The same for one of two lists, which often has no rows.
+fn put_list(rows: &[u32], afi: Afi, form: Form, size: usize, out: &mut [u8], to: usize)
+    requires { ⌜ (measured (now rows) (maxOf afi) form ≡ Bytes size) × (to + size ≤ length (now out)) ⌝ }
+    ensures { λ _. ⌜ now (out .exit) ≡ laid (now (out .entry)) to (bytesOf (now (rows .entry)) (maxOf afi) form) ⌝ }
+{
+    if size == 0 {
+        return;
+    }
+    put_rows(rows, afi, form, size, out, to);
 }
 
 // Rows as the list at the end of a value, of which `before` bytes stand before it and are left as they are. The answer is the bytes of all of it.
@@ -209,7 +220,7 @@ pub fn encode_nlri_after(
             if out.len() < before + n {
                 return WriteAnswer::Refused(refusal::NO_ROOM);
             }
-            put_list(rows, afi, form, n, out, before);
+            put_rows(rows, afi, form, n, out, before);
             WriteAnswer::Bytes(before + n)
         }
         WriteAnswer::Refused(n) => WriteAnswer::Refused(n),
