@@ -107,6 +107,19 @@ fn put_row(rows: &[u32], at: usize, form: Form, out: &mut [u8], to: usize) -> us
     k + 1 + n
 }
 
+// The same, with a copy of it for each form, so that a loop over rows asks for the form once.
+fn put_row_by_form(rows: &[u32], at: usize, form: Form, out: &mut [u8], to: usize) -> usize
+    requires { ⌜ (at + 6 ≤ length (now rows)) × (to + length (rowBytes form (rowAt (now rows) at)) ≤ length (now out)) ⌝ }
+    requires { ⌜ (markOf form ≤ getD (now rows) at 0) × (lengthOf form (rowAt (now rows) at) ≤ 128) ⌝ }
+    ensures size { λ r. ⌜ r ≡ length (rowBytes form (rowAt (now (rows .entry)) at)) ⌝ }
+    ensures out { λ _. ⌜ now (out .exit) ≡ laid (now (out .entry)) to (rowBytes form (rowAt (now (rows .entry)) at)) ⌝ }
+{
+    match form {
+        Form::Plain => put_row(rows, at, Form::Plain, out, to),
+        Form::Tagged => put_row(rows, at, Form::Tagged, out, to),
+    }
+}
+
 // The next row, and the place of its bytes.
 struct Reached {
     at: usize,
@@ -169,7 +182,7 @@ fn fill(rows: &[u32], afi: Afi, form: Form, out: &mut [u8], total: usize)
     let mut at: usize = r.at;
     let mut to: usize = r.to;
     while at < ws.len() {
-        let n = put_row(ws, at, form, out, to);
+        let n = put_row_by_form(ws, at, form, out, to);
         at = at + 6;
         to = to + n;
     }
