@@ -17,7 +17,7 @@ cast-result : tie.Need-cast-result Inv-loop μ-loop
 cast-result c = search needs
 
 returns : tie.Need-returns Inv-loop μ-loop
-returns c = let a = c .before .before .args in sizing-cut (a .ws .now) (a .max) (a .form) (c .if1 .taken)
+returns c = let a = c .before .before .args in sizing-cut (a .ws .now) (a .max) (a .form) (λ z. c .if1 .taken (omega (arith, z)))
 
 loop-holds : tie.Need-loop-holds Inv-loop μ-loop
 loop-holds c = let s = c .before .before in let a = s .args in (sizing-start (a .ws .now) (a .max) (a .form) (s .pre), refl)
