@@ -821,7 +821,10 @@ INLINE uint8_t *write_row(const uint32_t *row, bool ipv6, bool id, bool last, ui
     uint32_t octets = octets_of(bits);
     *out++ = bits;
     if (last) {
-        for (uint32_t i = 0; i < octets; i++) out[i] = (uint8_t)(row[2 + i / 4] >> (24 - 8 * (i % 4)));
+        uint32_t i = 0;
+        for (; i + 4 <= octets; i += 4) write4(out + i, row[2 + i / 4]);
+        uint32_t w = row[2 + (i < 16 ? i / 4 : 0)];
+        for (; i < octets; i++, w <<= 8) out[i] = (uint8_t)(w >> 24);
     } else if (ipv6) {
         write8(out, joined(row + 2));
         write8(out + 8, joined(row + 4));

@@ -1,14 +1,15 @@
 -- Laws of what the writers put.
 -- Assumes nothing.
-use Prim.Native.Nat.{ℕ, _+_, _≤_}
-use mathlib.Core.Path.{_≡_, refl, ap, ap₂, _∙_}
+use Prim.Native.Nat.{ℕ, _+_, _-_, _≤_}
+use mathlib.Core.Path.{_≡_, refl, sym, ap, ap₂, _∙_}
 use mathlib.Core.List.{List, [], _∷_, _++_, append-assoc}
 use mathlib.Core.Bool.{true}
 use native.Mathlib.Omega.{arith}
-use lib.ListN.{length, take, length-append}
+use lib.ListN.{length, take, drop, length-append, length-drop, take-append-drop}
+use lib.Seq.{take-all, length-take-le}
 use Rattle.wire.specs.Number.{toBe}
 use Rattle.wire.specs.Store.{laid, placed}
-use Rattle.wire.proofs.StoreLaws.{placed-fits, placed-next, length-laid, laid-before}
+use Rattle.wire.proofs.StoreLaws.{placed-fits, placed-next, length-laid, laid-laid, laid-before}
 use Rattle.mp_nlri.specs.Value.{ipv6Unicast, reachHead, isHopSize, hopStart}
 use Rattle.mp_nlri.proofs.ValueLaws.{hop-cases}
 
@@ -25,6 +26,30 @@ zero-byte = refl
 pub head-size : (hop : List ℕ) → length (reachHead hop) ≡ hopStart + length hop + 1
 unfolding reachHead
 head-size hop = omega (arith, length-append hop (0 ∷ []))
+
+-- the next hop, where it is one address
+pub hop-one : (d d₁ hop : List ℕ) → isHopSize (length hop) ≡ true → (length hop ≡ 32 → ⊥) → d₁ ≡ placed d hopStart (take 16 hop) → d₁ ≡ placed d hopStart hop
+hop-one d d₁ hop size not-two e =
+    let few : length hop ≤ 16 = hop-cases (λ k. (k ≡ 32 → ⊥) → k ≤ 16) (length hop) size (λ _. omega arith) (λ f. absurd (f refl)) not-two in
+    e ∙ ap (placed d hopStart) (take-all 16 hop few)
+
+-- and where it is two
+pub hop-two : (d d₁ d₂ hop : List ℕ) → length hop ≡ 32 → hopStart + length hop ≤ length d
+    → d₁ ≡ placed d hopStart (take 16 hop) → d₂ ≡ placed d₁ (hopStart + 16) (take 16 (drop 16 hop)) → d₂ ≡ placed d hopStart hop
+hop-two d d₁ d₂ hop two room e₁ e₂ =
+    let a : List ℕ = take 16 hop in
+    let b : List ℕ = drop 16 hop in
+    let la : length a ≡ 16 = length-take-le 16 hop (omega arith) in
+    let lb : length b ≡ 16 = length-drop 16 hop ∙ ap (λ (k : ℕ). k - 16) two in
+    let s₁ : d₁ ≡ laid d hopStart a = e₁ ∙ placed-fits d hopStart a (omega arith) in
+    let long : length (laid d hopStart a) ≡ length d = length-laid d hopStart a (omega arith) in
+    e₂
+    ∙ ap₂ (λ (x ws : List ℕ). placed x (hopStart + 16) ws) s₁ (take-all 16 b (omega arith))
+    ∙ placed-fits (laid d hopStart a) (hopStart + 16) b (omega arith)
+    ∙ ap (λ (k : ℕ). laid (laid d hopStart a) (hopStart + k) b) (sym la)
+    ∙ laid-laid d hopStart a b (omega arith)
+    ∙ ap (laid d hopStart) (take-append-drop 16 hop)
+    ∙ sym (placed-fits d hopStart hop room)
 
 -- the three puts of what stands before the routes
 pub head-put : (d d₁ d₂ d₃ hop : List ℕ) → isHopSize (length hop) ≡ true → length (reachHead hop) ≤ length d

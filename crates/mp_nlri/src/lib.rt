@@ -2,12 +2,12 @@
 // parse_nlri in attr_14_15_nlri.rs, for this family pair alone.
 ghost use mathlib.Core.Path.{_≡_};
 ghost use mathlib.Core.Bool.{true};
-ghost use Prim.Native.Nat.{_≤_};
+ghost use Prim.Native.Nat.{_+_, _≤_};
 ghost use lib.ListN.{length, drop};
 ghost use Rattle.wire.specs.Answer.{filled, writeMeaning};
 ghost use Rattle.wire.specs.Extent.{PartOf};
-ghost use Rattle.wire.specs.Store.{laid};
-ghost use Rattle.mp_nlri.specs.Value.{pairFault, isHopSize, headOf, nextHopAt, reachHead, reachBytes, unreachBytes};
+ghost use Rattle.wire.specs.Store.{laid, placed};
+ghost use Rattle.mp_nlri.specs.Value.{pairFault, isHopSize, hopStart, headOf, nextHopAt, reachHead, reachBytes, unreachBytes};
 ghost use Rattle.mp_nlri.specs.Read.{asReach, countReach, readReach, reachAfter, countUnreach, readUnreach, unreachAfter};
 ghost use Rattle.mp_nlri.specs.Write.{writeReach, writeUnreach, routeBytes};
 use families::AddPath;
@@ -208,6 +208,19 @@ pub fn parse_mp_unreach_nlri(value: &[u8], mode: AddPath, store: &mut [u32]) -> 
     route_reader::parse_nlri_list(bytes_after(value, PAIR_SIZE), Afi::Ipv6, mode, store)
 }
 
+// The next hop, at its place in an output that has room: one address, and where it has two the other, so that each is of a size that is known
+// when it is compiled.
+fn put_hop(next_hop: &[u8], out: &mut [u8])
+    requires { ⌜ (isHopSize (length (now «next_hop»)) ≡ true) × (hopStart + length (now «next_hop») ≤ length (now out)) ⌝ }
+    ensures { λ _. ⌜ now (out .exit) ≡ placed (now (out .entry)) hopStart (now («next_hop» .entry)) ⌝ }
+{
+    copies::copy_at(out, NEXT_HOP_OFFSET, &next_hop[0..16]);
+    if next_hop.len() != 32 {
+        return;
+    }
+    copies::copy_at(out, NEXT_HOP_OFFSET + 16, &next_hop[16..32]);
+}
+
 // What stands before the routes of MP_REACH_NLRI, at the front of an output that has room.
 fn put_head(next_hop: &[u8], out: &mut [u8])
     requires { ⌜ (isHopSize (length (now «next_hop»)) ≡ true) × (length (reachHead (now «next_hop»)) ≤ length (now out)) ⌝ }
@@ -215,7 +228,7 @@ fn put_head(next_hop: &[u8], out: &mut [u8])
 {
     let n = next_hop.len();
     outputs::put_u32(out, 0, IPV6_UNICAST + n as u32);
-    copies::copy_at(out, NEXT_HOP_OFFSET, next_hop);
+    put_hop(next_hop, out);
     outputs::put_octets(out, NEXT_HOP_OFFSET + n, 0, RESERVED_SIZE);
 }
 

@@ -1,11 +1,10 @@
 -- Laws of what measuring answers.
 -- Assumes nothing.
-use Prim.Native.Nat.{ℕ, zero, suc, _+_, _-_, _*_, _/_, _%_, _≤_, _<_}
+use Prim.Native.Nat.{ℕ, zero, suc, _+_, _-_, _%_, _≤_, _<_}
 use mathlib.Core.Path.{_≡_, refl, sym, ap, _∙_}
 use mathlib.Core.List.{List}
 use mathlib.Core.Bool.{false}
 use native.Mathlib.Omega.{arith}
-use borrow.Author.Tests.{lt-leb}
 use lib.ListN.{length, getD, take, drop, length-drop}
 use lib.Dec.{leb}
 use Rattle.wire.specs.Answer.{answerBy, unpacked}
@@ -13,7 +12,7 @@ use Rattle.wire.specs.Refusal.{notWritable, pastAll}
 use Rattle.wire.proofs.AnswerLaws.{answer-refused, unpacked-count, unpacked-refused}
 use Rattle.wire.proofs.Turn.{rest, Counted, count-start, count-step, count-stop, count-done}
 use Rattle.wire.specs.Walk.{Step, took, stop, tally}
-use Rattle.wire.proofs.WalkLaws.{tally-flat}
+use Rattle.wire.proofs.WalkLaws.{all-ind, tally-flat}
 use Rattle.families.specs.Family.{idSize, markOf, octets}
 use Rattle.families.specs.declared.Form.{Form}
 use Rattle.routes.specs.declared.Row.{Row}
@@ -36,10 +35,6 @@ module _ (ws : List ℕ) (max : ℕ) (form : Form) where
   pub size-good : max ≤ 128 → 6 ≤ length ws → WritableRow max form (frontRow ws)
       → Bytes (idSize form + 1 + octets (getD ws 0 0 - markOf form)) ≡ sizeBy form (writeStep max form tt ws)
   size-good small h w = rw (took-write max form tt ws h w) (ap Bytes (sym (front-parts ws max form w small .2)))
-
--- fewer words than a row has
-pub short-stop : (ws : List ℕ) (max : ℕ) (form : Form) → length ws < 6 → writeStep max form tt ws ≡ stop notWritable
-short-stop ws max form h = stop-write max form tt ws (rw (lt-leb 6 (length ws) h))
 
 -- the row behind a size
 unsize : (form : Form) (x : Step (Unit {0}) Row) (n : ℕ) → sizeBy form x ≡ Bytes n → (used : ℕ) × (row : Row) × (x ≡ took used row tt) × (length (rowBytes form row) ≡ n)
@@ -71,57 +66,58 @@ module _ (ws : List ℕ) (max : ℕ) (form : Form) where
 
 -- ---- the loop over the rows
 
--- at its head: the first i rows take `total` bytes
+-- words of which some are left after the last whole row
+pub sizing-cut : (ws : List ℕ) (max : ℕ) (form : Form) → (length ws % 6 ≡ 0 → ⊥) → unpacked Bytes Refused notWritable ≡ measured ws max form
+unfolding writing
+sizing-cut ws max form cut =
+    let odd : (length ws % 6 ≡ 0 → ⊥) → writing ws max form .verdict ≡ notWritable =
+    all-ind (writeStep max form) (write-sound max form) (λ _ s r. (length s % 6 ≡ 0 → ⊥) → r .verdict ≡ notWritable)
+    (λ _ h. absurd (h refl))
+    (λ st s n pos e h. write-stop max form st s n e)
+    (λ st st′ s used row pos e again h.
+    let t = write-took max form st st′ s used row e in
+    again (λ z. h (omega (arith, t .size, t .there, length-drop used s))))
+    tt ws in
+    unpacked-refused Bytes Refused notWritable (omega arith) ∙ sym (measured-bad ws max form notWritable (odd cut) (omega arith))
+
+-- at its head: the rows before `at` take `total` bytes
 abbrev pub Sizing : List ℕ → ℕ → Form → ℕ → ℕ → Type 0
-Sizing ws max form i total = Counted (writeStep max form) (λ row. length (rowBytes form row)) 4 tt ws tt (6 * i) total
+Sizing ws max form at total = Counted (writeStep max form) (λ row. length (rowBytes form row)) 4 tt ws tt at total
 
 module _ (ws : List ℕ) (max : ℕ) (form : Form) (small : max ≤ 128) where
   pub sizing-start : Sizing ws max form 0 0
   sizing-start = count-start (writeStep max form) (write-sound max form) (λ row. length (rowBytes form row)) 4 (write-light max form small) tt ws
 
-  module _ (i total : ℕ) (h : Sizing ws max form i total) where
-    stopped : 6 * i < length ws → writeStep max form tt (drop (6 * i) ws) ≡ stop notWritable → unpacked Bytes Refused notWritable ≡ measured ws max form
+  module _ (at total : ℕ) (h : Sizing ws max form at total) where
+    -- none are left
+    pub sizing-done : length ws ≤ at → unpacked Bytes Refused (pastAll + total) ≡ measured ws max form
     unfolding writing
-    stopped lt e =
-        unpacked-refused Bytes Refused notWritable (omega arith)
-        ∙ sym (measured-bad ws max form notWritable
-        (count-stop (writeStep max form) (write-sound max form) (λ row. length (rowBytes form row)) 4 (write-light max form small) tt ws tt (6 * i) total h notWritable lt e)
-        (omega arith))
-
-    -- fewer words than a row has are left
-    pub sizing-cut : length ws / 6 ≤ i → (length ws % 6 ≡ 0 → ⊥) → unpacked Bytes Refused notWritable ≡ measured ws max form
-    sizing-cut le cut =
-        let lt : 6 * i < length ws = omega (arith, h .within) in
-        stopped lt (short-stop (drop (6 * i) ws) max form (omega (arith, length-drop (6 * i) ws)))
-
-    -- none are
-    pub sizing-done : length ws / 6 ≤ i → length ws % 6 ≡ 0 → unpacked Bytes Refused (pastAll + total) ≡ measured ws max form
-    unfolding writing
-    sizing-done le whole =
+    sizing-done le =
         let bytes : pastAll + total - pastAll ≡ total = omega arith in
         unpacked-count Bytes Refused (pastAll + total) (omega arith)
         ∙ ap Bytes bytes
         ∙ sym (measured-good ws max form total
-        (count-done (writeStep max form) (write-sound max form) (λ row. length (rowBytes form row)) 4 (write-light max form small) tt ws tt (6 * i) total h (omega arith)))
+        (count-done (writeStep max form) (write-sound max form) (λ row. length (rowBytes form row)) 4 (write-light max form small) tt ws tt at total h le))
 
-    took-row : (row : Row) (n : ℕ) → writeStep max form tt (drop (6 * i) ws) ≡ took 6 row tt → length (rowBytes form row) ≡ n → Sizing ws max form (i + 1) (total + n)
-    took-row row n e size =
-        let place : 6 * (i + 1) ≡ 6 * i + 6 = omega arith in
-        rw (place, ← size)
-        (count-step (writeStep max form) (write-sound max form) (λ q. length (rowBytes form q)) 4 (write-light max form small) tt ws tt (6 * i) total h tt 6 row e)
-
-    -- the size of the next row, as read from the part `&ws[6 * i..]`
-    module _ (r : WriteAnswer) (e : r ≡ sizeBy form (writeStep max form tt (take (length ws - 6 * i) (drop (6 * i) ws)))) where
-      here : sizeBy form (writeStep max form tt (drop (6 * i) ws)) ≡ r
+    -- the size of the next row, as read from the part `&ws[at..]`
+    module _ (r : WriteAnswer) (e : r ≡ sizeBy form (writeStep max form tt (take (length ws - at) (drop at ws)))) where
+      here : sizeBy form (writeStep max form tt (drop at ws)) ≡ r
       here = sym (rw rest at e)
 
-      pub sizing-step : (n : ℕ) → r ≡ Bytes n → Sizing ws max form (i + 1) (total + n)
+      pub sizing-step : (n : ℕ) → r ≡ Bytes n → Sizing ws max form (at + 6) (total + n)
       sizing-step n f =
-          let u = unsize form (writeStep max form tt (drop (6 * i) ws)) n (here ∙ f) in
-          let six = write-took max form tt tt (drop (6 * i) ws) (u .0) (u .1) (u .2) .size in
-          took-row (u .1) n (u .2 ∙ ap (λ (k : ℕ). took k (u .1) tt) six) (u .3)
+          let u = unsize form (writeStep max form tt (drop at ws)) n (here ∙ f) in
+          let six = write-took max form tt tt (drop at ws) (u .0) (u .1) (u .2) .size in
+          let took-six = u .2 ∙ ap (λ (k : ℕ). took k (u .1) tt) six in
+          rw (← u .3)
+          (count-step (writeStep max form) (write-sound max form) (λ q. length (rowBytes form q)) 4 (write-light max form small) tt ws tt at total h tt 6 (u .1) took-six)
 
-      pub sizing-refused : (n : ℕ) → r ≡ Refused n → 6 * i < length ws → unpacked Bytes Refused notWritable ≡ measured ws max form
+      pub sizing-refused : (n : ℕ) → r ≡ Refused n → at < length ws → unpacked Bytes Refused notWritable ≡ measured ws max form
+      unfolding writing
       sizing-refused n f lt =
-          let x = unsize-stop form (writeStep max form tt (drop (6 * i) ws)) n (here ∙ f) in
-          stopped lt (x ∙ ap stop (write-stop max form tt (drop (6 * i) ws) n x))
+          let x = unsize-stop form (writeStep max form tt (drop at ws)) n (here ∙ f) in
+          let stopped = x ∙ ap stop (write-stop max form tt (drop at ws) n x) in
+          unpacked-refused Bytes Refused notWritable (omega arith)
+          ∙ sym (measured-bad ws max form notWritable
+          (count-stop (writeStep max form) (write-sound max form) (λ row. length (rowBytes form row)) 4 (write-light max form small) tt ws tt at total h notWritable lt stopped)
+          (omega arith))

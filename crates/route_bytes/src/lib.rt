@@ -87,21 +87,31 @@ fn row_size(ws: &[u32], max: u8, form: Form) -> WriteAnswer
     WriteAnswer::Bytes(families::id_size(form) + 1 + n)
 }
 
-// How many bytes the rows take, none over the maximum length, in one number: from PAST_ALL on, and else a refusal number. With `&rows[..]`
-// the slice stays in registers.
-fn size_within(rows: &[u32], max: u8, form: Form) -> usize
-    requires { ⌜ max ≤ 128 ⌝ }
-    ensures { λ r. ⌜ unpacked Bytes Refused r ≡ measured (now (rows .entry)) max form ⌝ }
+// The same, with a copy of it for each form: a loop over rows is then one for each form too, and asks for it no more.
+fn row_size_by_form(ws: &[u32], max: u8, form: Form) -> WriteAnswer
+    requires { ⌜ (max ≤ 128) × (6 ≤ length (now ws)) ⌝ }
+    ensures { λ r. ⌜ r ≡ sizeBy form (writeStep max form tt (now (ws .entry))) ⌝ }
 {
-    let ws = &rows[..];
-    let count = ws.len() / 6;
-    let mut i: usize = 0;
+    match form {
+        Form::Plain => row_size(ws, max, Form::Plain),
+        Form::Tagged => row_size(ws, max, Form::Tagged),
+    }
+}
+
+// How many bytes the rows take, none over the maximum length, in one number: from PAST_ALL on, and else a refusal number.
+fn size_rows(ws: &[u32], max: u8, form: Form) -> usize
+    requires { ⌜ max ≤ 128 ⌝ }
+    ensures { λ r. ⌜ unpacked Bytes Refused r ≡ measured (now (ws .entry)) max form ⌝ }
+{
+    if ws.len() % 6 != 0 {
+        return refusal::NOT_WRITABLE as usize;
+    }
+    let mut at: usize = 0;
     let mut total: usize = 0;
-    while i < count {
-        let at = 6 * i;
-        match row_size(&ws[at..], max, form) {
+    while at < ws.len() {
+        match row_size_by_form(&ws[at..], max, form) {
             WriteAnswer::Bytes(n) => {
-                i = i + 1;
+                at = at + 6;
                 total = total + n;
             }
             WriteAnswer::Refused(_) => {
@@ -109,10 +119,25 @@ fn size_within(rows: &[u32], max: u8, form: Form) -> usize
             }
         }
     }
-    if ws.len() % 6 != 0 {
-        return refusal::NOT_WRITABLE as usize;
-    }
     refusal::PAST_ALL + total
+}
+
+// The same for a family, with a call for each family and form: only such calls, with nothing left to choose, are copied into their callers.
+// With `&rows[..]` the slice stays in registers.
+fn size_within(rows: &[u32], afi: Afi, form: Form) -> usize
+    ensures { λ r. ⌜ unpacked Bytes Refused r ≡ measured (now (rows .entry)) (maxOf afi) form ⌝ }
+{
+    let ws = &rows[..];
+    match afi {
+        Afi::Ipv4 => match form {
+            Form::Plain => size_rows(ws, 32, Form::Plain),
+            Form::Tagged => size_rows(ws, 32, Form::Tagged),
+        },
+        Afi::Ipv6 => match form {
+            Form::Plain => size_rows(ws, 128, Form::Plain),
+            Form::Tagged => size_rows(ws, 128, Form::Tagged),
+        },
+    }
 }
 
 // How many bytes rows take as a list. With two calls of size_within this function is copied into its callers, and the number stays in a
@@ -121,8 +146,8 @@ pub fn measure_nlri_prefixes(rows: &[u32], afi: Afi, form: Form) -> WriteAnswer
     ensures { λ r. ⌜ r ≡ measured (now (rows .entry)) (maxOf afi) form ⌝ }
 {
     let n = match afi {
-        Afi::Ipv4 => size_within(rows, 32, form),
-        Afi::Ipv6 => size_within(rows, 128, form),
+        Afi::Ipv4 => size_within(rows, Afi::Ipv4, form),
+        Afi::Ipv6 => size_within(rows, Afi::Ipv6, form),
     };
     if n < refusal::PAST_ALL {
         return WriteAnswer::Refused(n as u8);

@@ -1,41 +1,37 @@
--- The octets of an address one by one: each in the word of its quarter, as a shift leaves it.
+-- The octets of an address as code puts them, word by word.
 -- Assumes nothing.
-use Prim.Native.Nat.{ℕ, zero, suc, _+_, _-_, _*_, _/_, _%_, _^_, _≤_, _<_}
+use Prim.Native.Nat.{ℕ, zero, suc, _+_, _-_, _*_, _≤_, _<_}
 use mathlib.Core.Path.{_≡_, refl, sym, ap, ap₂, _∙_}
-use mathlib.Core.List.{List, [], _∷_, _++_, append-assoc}
+use mathlib.Core.List.{List, [], _∷_, _++_}
 use native.Mathlib.Nat.{add-assoc, not-suc-le-zero}
 use native.Mathlib.Omega.{arith}
-use lib.ListN.{length, getD, take, drop, List·getD-append}
-use lib.Seq.{paste, getD-append-add, length-take-le}
+use lib.ListN.{length, getD, take}
+use lib.Seq.{take-append-le, take-all, length-take-le}
 use Rattle.wire.specs.Number.{toBe}
-use Rattle.wire.proofs.NumberLaws.{toBe-four}
 use Rattle.wire.specs.Store.{laid}
 use Rattle.wire.specs.Walk.{flat}
+use Rattle.wire.proofs.Parts.{take-append}
+use Rattle.wire.proofs.StoreLaws.{laid-laid}
 use Rattle.route_bytes.specs.Encode.{fourWords, address}
 use Rattle.route_bytes.proofs.EncodeLaws.{address-length}
 use Rattle.routes.specs.declared.Row.{Row}
 use Rattle.route_writer.specs.Private.{rowAt}
 
--- of one word
-pub octet-shift : (w j : ℕ) → j < 4 → w < 4294967296 → w / 2 ^ (24 - 8 * j) % 256 ≡ getD (toBe 4 w) j 0
-octet-shift w zero h k = omega arith
-octet-shift w (suc zero) h k = ap (λ (l : List ℕ). getD l 1 0) (sym (toBe-four w))
-octet-shift w (suc (suc zero)) h k = ap (λ (l : List ℕ). getD l 2 0) (sym (toBe-four w))
-octet-shift w (suc (suc (suc zero))) h k = omega arith
-octet-shift w (suc (suc (suc (suc j)))) h k = absurd (omega arith)
-
--- of words one after another
-octet-flat : (ws : List ℕ) (q j : ℕ) → q < length ws → j < 4 → getD (flat (toBe 4) ws) (4 * q + j) 0 ≡ getD (toBe 4 (getD ws q 0)) j 0
+-- of words one after another: those of whole words, and the first m of the next
+octets-flat : (ws : List ℕ) (q m : ℕ) → q < length ws → m ≤ 4 → take (4 * q + m) (flat (toBe 4) ws) ≡ take (4 * q) (flat (toBe 4) ws) ++ take m (toBe 4 (getD ws q 0))
 unfolding flat
-octet-flat [] q j h k = absurd (not-suc-le-zero h)
-octet-flat (w ∷ ws) zero j h k =
-    let e : 4 * 0 + j ≡ j = omega arith in
-    ap (λ (i : ℕ). getD (toBe 4 w ++ flat (toBe 4) ws) i 0) e ∙ List·getD-append (toBe 4 w) (flat (toBe 4) ws) 0 j k
-octet-flat (w ∷ ws) (suc q) j h k =
-    let e : 4 * suc q + j ≡ 4 + (4 * q + j) = omega arith in
-    ap (λ (i : ℕ). getD (toBe 4 w ++ flat (toBe 4) ws) i 0) e
-    ∙ getD-append-add (toBe 4 w) (flat (toBe 4) ws) (4 * q + j) 0
-    ∙ octet-flat ws q j (omega arith) k
+octets-flat [] q m h k = absurd (not-suc-le-zero h)
+octets-flat (w ∷ ws) zero m h k =
+    let e : 4 * 0 + m ≡ m = omega arith in
+    ap (λ (i : ℕ). take i (toBe 4 w ++ flat (toBe 4) ws)) e ∙ take-append-le m (toBe 4 w) (flat (toBe 4) ws) k
+octets-flat (w ∷ ws) (suc q) m h k =
+    let past : (i j : ℕ) → i ≡ 4 + j → take i (toBe 4 w ++ flat (toBe 4) ws) ≡ toBe 4 w ++ take j (flat (toBe 4) ws) =
+    λ i j e. let s : i - 4 ≡ j = omega arith in
+    take-append i (toBe 4 w) (flat (toBe 4) ws)
+    ∙ ap₂ (λ (l : List ℕ) (k : ℕ). l ++ take k (flat (toBe 4) ws)) (take-all i (toBe 4 w) (omega arith)) s in
+    past (4 * suc q + m) (4 * q + m) (omega arith)
+    ∙ ap (λ (l : List ℕ). toBe 4 w ++ l) (octets-flat ws q m (omega arith) k)
+    ∙ ap (λ (l : List ℕ). l ++ take m (toBe 4 (getD ws q 0))) (sym (past (4 * suc q) (4 * q) (omega arith)))
 
 four-flat : (a b c d : ℕ) → fourWords a b c d ≡ flat (toBe 4) (a ∷ b ∷ c ∷ d ∷ [])
 unfolding fourWords flat
@@ -50,18 +46,20 @@ quarter rows at (suc (suc (suc zero))) h = refl
 quarter rows at (suc (suc (suc (suc q)))) h = absurd (omega arith)
 
 -- of the row at a place
-pub octet-row : (rows : List ℕ) (at i : ℕ) → i < 16 → getD (address (rowAt rows at)) i 0 ≡ getD (toBe 4 (getD rows (at + 2 + i / 4) 0)) (i % 4) 0
-octet-row rows at i h =
+octets-row : (rows : List ℕ) (at q m : ℕ) → q < 4 → m ≤ 4
+    → take (4 * q + m) (address (rowAt rows at)) ≡ take (4 * q) (address (rowAt rows at)) ++ take m (toBe 4 (getD rows (at + 2 + q) 0))
+octets-row rows at q m h k =
     let r : Row = rowAt rows at in
-    let e : i ≡ 4 * (i / 4) + i % 4 = omega arith in
-    let q : i / 4 < 4 = omega arith in
-    ap₂ (λ (l : List ℕ) (k : ℕ). getD l k 0) (four-flat (r .w0) (r .w1) (r .w2) (r .w3)) e
-    ∙ octet-flat (r .w0 ∷ r .w1 ∷ r .w2 ∷ r .w3 ∷ []) (i / 4) (i % 4) q (omega arith)
-    ∙ ap (λ (w : ℕ). getD (toBe 4 w) (i % 4) 0) (quarter rows at (i / 4) q ∙ ap (λ (k : ℕ). getD rows k 0) (sym (add-assoc at 2 (i / 4))))
+    rw (add-assoc at 2 q, four-flat (r .w0) (r .w1) (r .w2) (r .w3), ← quarter rows at q h) (octets-flat (r .w0 ∷ r .w1 ∷ r .w2 ∷ r .w3 ∷ []) q m h k)
 
--- the first n, once they are put one by one
-pub octets-laid : (r : Row) (d : List ℕ) (to n : ℕ) → n ≤ 16 → paste d to (address r) n ≡ laid d to (take n (address r))
-octets-laid r d to n h =
-    let s : List ℕ = take n (address r) in
-    let size : n ≡ length s = sym (length-take-le n (address r) (omega (arith, address-length r))) in
-    ap (λ (k : ℕ). take to d ++ s ++ drop (to + k) d) size ∙ append-assoc (take to d) s (drop (to + length s) d)
+-- after those of whole words, the first m of the next are put
+pub octets-next : (rows : List ℕ) (at : ℕ) (d : List ℕ) (to q m n : ℕ) → q < 4 → m ≤ 4 → to + 4 * q + m ≤ length d → 4 * q + m ≡ n
+    → laid (laid d to (take (4 * q) (address (rowAt rows at)))) (to + 4 * q) (take m (toBe 4 (getD rows (at + 2 + q) 0))) ≡ laid d to (take n (address (rowAt rows at)))
+octets-next rows at d to q m n h k room all =
+    let whole : List ℕ = take (4 * q) (address (rowAt rows at)) in
+    let next : List ℕ = take m (toBe 4 (getD rows (at + 2 + q) 0)) in
+    let size : length whole ≡ 4 * q = length-take-le (4 * q) (address (rowAt rows at)) (omega (arith, address-length (rowAt rows at))) in
+    let few : length next ≡ m = length-take-le m (toBe 4 (getD rows (at + 2 + q) 0)) k in
+    ap (λ (j : ℕ). laid (laid d to whole) (to + j) next) (sym size)
+    ∙ laid-laid d to whole next (omega arith)
+    ∙ ap (laid d to) (sym (octets-row rows at q m h k) ∙ ap (λ (j : ℕ). take j (address (rowAt rows at))) all)

@@ -72,24 +72,25 @@ fn put_head(rows: &[u32], at: usize, form: Form, out: &mut [u8], to: usize) -> u
     len
 }
 
-// One of the four octets of a word.
-fn octet_of(w: u32, j: usize) -> u8
-    requires { ⌜ j < 4 ⌝ }
-    ensures { λ r. ⌜ r ≡ getD (toBe 4 w) j 0 ⌝ }
-{
-    ((w >> (24 - 8 * j) as u32) % 256) as u8
-}
-
-// The first n address octets of the row at a place, and no more, at a place of the output.
+// The first n address octets of the row at a place, and no more, at a place of the output: whole words, and then the first octets of the
+// next, for which just their places are lent, so that no test of room is left.
 fn put_octets(rows: &[u32], at: usize, n: usize, out: &mut [u8], to: usize)
     requires { ⌜ (at + 6 ≤ length (now rows)) × (n ≤ 16) × (to + n ≤ length (now out)) ⌝ }
     ensures { λ _. ⌜ now (out .exit) ≡ laid (now (out .entry)) to (take n (address (rowAt (now (rows .entry)) at))) ⌝ }
 {
+    let whole = n / 4;
     let mut i: usize = 0;
-    while i < n {
-        out[to + i] = octet_of(rows[at + 2 + i / 4], i % 4);
+    while i < whole {
+        put_word(rows, at + 2 + i, out, to + 4 * i);
         i = i + 1;
     }
+    let left = n % 4;
+    if left == 0 {
+        return;
+    }
+    let start = to + 4 * whole;
+    let end = start + left;
+    outputs::put_octets(&mut out[start..end], 0, rows[at + 2 + whole], left);
 }
 
 // The bytes of the row at a place, and no more, at a place of the output; how many.
@@ -104,6 +105,19 @@ fn put_row(rows: &[u32], at: usize, form: Form, out: &mut [u8], to: usize) -> us
     let n = families::octet_count(len);
     put_octets(rows, at, n, out, to + k + 1);
     k + 1 + n
+}
+
+// The same, with a copy of it for each form, so that a loop over rows asks for the form once.
+fn put_row_by_form(rows: &[u32], at: usize, form: Form, out: &mut [u8], to: usize) -> usize
+    requires { ⌜ (at + 6 ≤ length (now rows)) × (to + length (rowBytes form (rowAt (now rows) at)) ≤ length (now out)) ⌝ }
+    requires { ⌜ (markOf form ≤ getD (now rows) at 0) × (lengthOf form (rowAt (now rows) at) ≤ 128) ⌝ }
+    ensures size { λ r. ⌜ r ≡ length (rowBytes form (rowAt (now (rows .entry)) at)) ⌝ }
+    ensures out { λ _. ⌜ now (out .exit) ≡ laid (now (out .entry)) to (rowBytes form (rowAt (now (rows .entry)) at)) ⌝ }
+{
+    match form {
+        Form::Plain => put_row(rows, at, Form::Plain, out, to),
+        Form::Tagged => put_row(rows, at, Form::Tagged, out, to),
+    }
 }
 
 // The next row, and the place of its bytes.
@@ -168,18 +182,33 @@ fn fill(rows: &[u32], afi: Afi, form: Form, out: &mut [u8], total: usize)
     let mut at: usize = r.at;
     let mut to: usize = r.to;
     while at < ws.len() {
-        let n = put_row(ws, at, form, out, to);
+        let n = put_row_by_form(ws, at, form, out, to);
         at = at + 6;
         to = to + n;
     }
 }
 
-// Rows that were measured, as a list at a place of an output that has room.
+// Rows that were measured, as a list at a place of an output that has room. With two calls of fill this function is copied into its
+// callers.
+fn put_rows(rows: &[u32], afi: Afi, form: Form, size: usize, out: &mut [u8], to: usize)
+    requires { ⌜ (measured (now rows) (maxOf afi) form ≡ Bytes size) × (to + size ≤ length (now out)) ⌝ }
+    ensures { λ _. ⌜ now (out .exit) ≡ laid (now (out .entry)) to (bytesOf (now (rows .entry)) (maxOf afi) form) ⌝ }
+{
+    match afi {
+        Afi::Ipv4 => fill(rows, Afi::Ipv4, form, &mut out[to..], size),
+        Afi::Ipv6 => fill(rows, Afi::Ipv6, form, &mut out[to..], size),
+    }
+}
+
+// The same for one of two lists, which often has no rows.
 fn put_list(rows: &[u32], afi: Afi, form: Form, size: usize, out: &mut [u8], to: usize)
     requires { ⌜ (measured (now rows) (maxOf afi) form ≡ Bytes size) × (to + size ≤ length (now out)) ⌝ }
     ensures { λ _. ⌜ now (out .exit) ≡ laid (now (out .entry)) to (bytesOf (now (rows .entry)) (maxOf afi) form) ⌝ }
 {
-    fill(rows, afi, form, &mut out[to..], size);
+    if size == 0 {
+        return;
+    }
+    put_rows(rows, afi, form, size, out, to);
 }
 
 // Rows as the list at the end of a value, of which `before` bytes stand before it and are left as they are. The answer is the bytes of all of it.
@@ -204,7 +233,7 @@ pub fn encode_nlri_after(
             if out.len() < before + n {
                 return WriteAnswer::Refused(refusal::NO_ROOM);
             }
-            put_list(rows, afi, form, n, out, before);
+            put_rows(rows, afi, form, n, out, before);
             WriteAnswer::Bytes(before + n)
         }
         WriteAnswer::Refused(n) => WriteAnswer::Refused(n),

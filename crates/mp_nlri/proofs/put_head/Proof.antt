@@ -1,7 +1,7 @@
 use native.Mathlib.Omega.{arith}
 use lib.ListN.{length}
 use Rattle.mp_nlri.proofs.ValueLaws.{hop-few}
-use Rattle.mp_nlri.proofs.WriteLaws.{head-put}
+use Rattle.mp_nlri.proofs.WriteLaws.{head-size, head-put}
 use borrow.Author.Needs.{needs}
 use Rattle.mp_nlri.proofs.put_head.Statement.{statement}
 use Rattle.mp_nlri.proofs.put_head.Tie as tie
@@ -15,8 +15,10 @@ add-put-u32 c = omega (arith, hop-few (length (c .before .before .before .args .
 put-u32-requires : tie.Need-put-u32-requires
 put-u32-requires c κs = search needs
 
-copy-at-requires : tie.Need-copy-at-requires
-copy-at-requires c κs = search needs
+put-hop-requires : tie.Need-put-hop-requires
+put-hop-requires c κs =
+    let s = c .before .before .before .before .before .before .before in
+    (s .pre .0, omega (arith, s .pre .1, head-size (s .args .next-hop .now)))
 
 add-put-octets : tie.Need-add-put-octets
 add-put-octets c = search needs
@@ -33,7 +35,7 @@ returns c =
     let p₂ = p₃ .before .before .before .before in
     let p₁ = p₂ .before .before .before .before in
     let s = p₁ .before .before .before .before in
-    head-put (s .args .out .now) _ _ _ (s .args .next-hop .now) (s .pre .0) (s .pre .1) (p₁ .put-u32 .ensures) (p₂ .copy-at .ensures) (p₃ .put-octets .ensures)
+    head-put (s .args .out .now) _ _ _ (s .args .next-hop .now) (s .pre .0) (s .pre .1) (p₁ .put-u32 .ensures) (p₂ .put-hop .ensures) (p₃ .put-octets .ensures)
 
 pub put-head-spec : {M : Type 1} → statement M
 put-head-spec =
@@ -42,7 +44,7 @@ put-head-spec =
     cast-put-u32
     add-put-u32
     put-u32-requires
-    copy-at-requires
+    put-hop-requires
     add-put-octets
     put-octets-requires
     same-length

@@ -23,8 +23,8 @@ enum-told-2 c = search needs
 size-within-requires-2 : tie.Need-size-within-requires-2
 size-within-requires-2 c κs = search needs
 
-cast-t7 : tie.Need-cast-t7
-cast-t7 c = search needs
+cast-t9 : tie.Need-cast-t9
+cast-t9 c = search needs
 
 -- the number of either family
 number : (c : tie.At-match-came) → let a = c .before .before .args in unpacked Bytes Refused (c .match .n) ≡ measured (a .rows .now) (maxOf (a .afi)) (a .form)
@@ -47,6 +47,6 @@ measure-nlri-prefixes-spec =
     size-within-requires
     enum-told-2
     size-within-requires-2
-    cast-t7
+    cast-t9
     returns
     returns-2)

@@ -41,8 +41,8 @@ returns-3 c =
     let a = k .before .before .before .before .before .before .args in
     (after-full (a .before) (a .rows .now) (maxOf (a .afi)) (a .form) (length (a .out .now)) _ (size k) (omega (arith, c .before .before .if1 .left, c .before .if2 .left)) (c .if3 .taken), refl)
 
-put-list-requires : tie.Need-put-list-requires
-put-list-requires c κs = (size (c .before .before .before .before), c .before .if3 .left)
+put-rows-requires : tie.Need-put-rows-requires
+put-rows-requires c κs = (size (c .before .before .before .before), c .before .if3 .left)
 
 add-t11 : tie.Need-add-t11
 add-t11 c = search needs
@@ -58,7 +58,7 @@ returns-4 c =
     let k = c .before .before .before .before .before .before .before in
     let a = k .before .before .before .before .before .before .args in
     let low = c .before .before .before .before .before .before .if1 .left in
-    (after-bytes (a .before) (a .rows .now) (maxOf (a .afi)) (a .form) (length (a .out .now)) _ (size k) (omega (arith, low, c .before .before .before .before .before .if2 .left)) (c .before .before .before .before .if3 .left), c .before .before .put-list .ensures)
+    (after-bytes (a .before) (a .rows .now) (maxOf (a .afi)) (a .form) (length (a .out .now)) _ (size k) (omega (arith, low, c .before .before .before .before .before .if2 .left)) (c .before .before .before .before .if3 .left), c .before .before .put-rows .ensures)
 
 returns-5 : tie.Need-returns-5
 returns-5 c =
@@ -75,7 +75,7 @@ encode-nlri-after-spec =
     returns-2
     add-if3
     returns-3
-    put-list-requires
+    put-rows-requires
     add-t11
     enum-known-n-2
     same-length

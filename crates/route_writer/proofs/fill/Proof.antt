@@ -26,8 +26,8 @@ loop-holds c = λ max d₀ h. h
 here : (c : tie.At-loop Inv-loop μ-loop) → let a = c .before .before .before .before .before .before .before .args in Ahead (maxOf (a .afi)) (a .form) (a .rows .now) (a .out .now) (c .loop .at) (c .loop .to) (c .loop .out)
 here c = let a = c .before .before .before .before .before .before .before .args in c .loop .inv (maxOf (a .afi)) (a .out .now) (c .before .before .before .fill-ahead .ensures)
 
-put-row-requires : tie.Need-put-row-requires Inv-loop μ-loop
-put-row-requires c κs =
+put-row-by-form-requires : tie.Need-put-row-by-form-requires Inv-loop μ-loop
+put-row-by-form-requires c κs =
     let l = c .before .before in
     let a = l .before .before .before .before .before .before .before .args in
     let r = ahead-row (maxOf (a .afi)) (a .form) (a .rows .now) (a .out .now) (l .loop .at) (l .loop .to) (l .loop .out) (here l) (c .before .loop-test .taken) in
@@ -39,18 +39,18 @@ next : (c : tie.After-slice-known3 Inv-loop μ-loop) →
     let l = c .before .before .before .before .before in
     let a = l .before .before .before .before .before .before .before .args in
     (max : ℕ) (d₀ : List ℕ) → Ahead max (a .form) (a .rows .now) d₀ (l .loop .at) (l .loop .to) (l .loop .out)
-    → Ahead max (a .form) (a .rows .now) d₀ (l .loop .at + 6) (l .loop .to + c .before .before .put-row .result) (c .before .before .put-row .last .1 .1 .1 .0)
+    → Ahead max (a .form) (a .rows .now) d₀ (l .loop .at + 6) (l .loop .to + c .before .before .put-row-by-form .result) (c .before .before .put-row-by-form .last .1 .1 .1 .0)
 next c max d₀ h =
     let k = c .before .before .before .before in
     let l = k .before in
     let a = l .before .before .before .before .before .before .before .args in
-    let e = c .before .before .put-row .ensures in
+    let e = c .before .before .put-row-by-form .ensures in
     rw (e .0, e .1) (ahead-next max (a .form) (a .rows .now) d₀ (l .loop .at) (l .loop .to) (l .loop .out) h (k .loop-test .taken))
 
 again : (c : tie.After-slice-known3 Inv-loop μ-loop) →
     let l = c .before .before .before .before .before in
     let a = l .before .before .before .before .before .before .before .args in
-    Ahead (maxOf (a .afi)) (a .form) (a .rows .now) (a .out .now) (l .loop .at + 6) (l .loop .to + c .before .before .put-row .result) (c .before .before .put-row .last .1 .1 .1 .0)
+    Ahead (maxOf (a .afi)) (a .form) (a .rows .now) (a .out .now) (l .loop .at + 6) (l .loop .to + c .before .before .put-row-by-form .result) (c .before .before .put-row-by-form .last .1 .1 .1 .0)
 again c = next c _ _ (here (c .before .before .before .before .before))
 
 add-at : tie.Need-add-at Inv-loop μ-loop
@@ -85,7 +85,7 @@ fill-spec =
     μ-loop
     fill-ahead-requires
     loop-holds
-    put-row-requires
+    put-row-by-form-requires
     add-at
     add-to
     loop-less

@@ -1,46 +1,42 @@
 use mathlib.Core.Path.{_≡_, refl, sym, ap, _∙_}
-use Prim.Native.Nat.{_-_, _≤_}
+use mathlib.Core.List.{List, _++_}
+use Prim.Native.Nat.{ℕ, _+_, _-_, _*_, _/_, _%_, _≤_}
 use native.Mathlib.Omega.{arith}
-use native.Mathlib.Numerals.{add-one}
-use lib.ListN.{length, getD, length-set}
-use lib.Seq.{paste, paste-zero, paste-suc}
+use lib.ListN.{length, getD, take, drop}
+use lib.Seq.{length-take-le}
+use Rattle.wire.specs.Number.{toBe}
+use Rattle.wire.specs.Store.{laid}
+use Rattle.wire.proofs.StoreLaws.{laid-nil, laid-between}
 use Rattle.route_bytes.specs.Encode.{address}
-use Rattle.route_bytes.proofs.EncodeLaws.{address-length}
 use Rattle.route_writer.specs.Private.{rowAt}
-use Rattle.route_writer.proofs.Octets.{octet-row, octets-laid}
+use Rattle.route_writer.proofs.Octets.{octets-next}
 use borrow.Author.Needs.{needs}
 use Rattle.route_writer.proofs.put_octets.Statement.{statement}
 use Rattle.route_writer.proofs.put_octets.Tie as tie
 
 abbrev Inv-loop : tie.InvT-loop
-Inv-loop rows at n out₀ to i₀ out i = (i ≤ n) × (length out ≡ length out₀) × (out ≡ paste out₀ to (address (rowAt rows at)) i)
+Inv-loop rows at n out₀ to whole i₀ out i = (i ≤ whole) × (length out ≡ length out₀) × (out ≡ laid out₀ to (take (4 * i) (address (rowAt rows at))))
 
 abbrev μ-loop : tie.MeasureT-loop
-μ-loop rows at n out₀ to i₀ out i = n - i
+μ-loop rows at n out₀ to whole i₀ out i = whole - i
 
 loop-holds : tie.Need-loop-holds Inv-loop μ-loop
-loop-holds c = let a = c .before .before .args in (omega arith, refl, paste-zero (a .out .now) (a .to) (address (rowAt (a .rows .now) (a .at))))
+loop-holds c = let a = c .before .before .args in (omega arith, refl, sym (laid-nil (a .out .now) (a .to)))
 
-add-octet-of : tie.Need-add-octet-of Inv-loop μ-loop
-add-octet-of c = search needs
+add-put-word : tie.Need-add-put-word Inv-loop μ-loop
+add-put-word c = search needs
 
-add-octet-of-2 : tie.Need-add-octet-of-2 Inv-loop μ-loop
-add-octet-of-2 c = search needs
+add-put-word-2 : tie.Need-add-put-word-2 Inv-loop μ-loop
+add-put-word-2 c = search needs
 
-mul-octet-of : tie.Need-mul-octet-of Inv-loop μ-loop
-mul-octet-of c = search needs
+mul-put-word : tie.Need-mul-put-word Inv-loop μ-loop
+mul-put-word c = search needs
 
-shared-slice-read-octet-of : tie.Need-shared-slice-read-octet-of Inv-loop μ-loop
-shared-slice-read-octet-of c = search needs
+add-put-word-3 : tie.Need-add-put-word-3 Inv-loop μ-loop
+add-put-word-3 c = search needs
 
-octet-of-requires : tie.Need-octet-of-requires Inv-loop μ-loop
-octet-of-requires c κs = search needs
-
-add-out : tie.Need-add-out Inv-loop μ-loop
-add-out c = search needs
-
-slice-write-out : tie.Need-slice-write-out Inv-loop μ-loop
-slice-write-out c = search needs
+put-word-requires : tie.Need-put-word-requires Inv-loop μ-loop
+put-word-requires c κs = search needs
 
 add-i : tie.Need-add-i Inv-loop μ-loop
 add-i c = search needs
@@ -50,27 +46,84 @@ loop-less c = search needs
 
 loop-again : tie.Need-loop-again Inv-loop μ-loop
 loop-again c =
-    let l = c .before .before .before in
+    let p = c .before .before in
+    let l = p .before .before .before in
     let s = l .before .before .before in
     let a = s .args in
-    let r = rowAt (a .rows .now) (a .at) in
     let i = l .loop .i in
-    let value : c .octet-of .result ≡ getD (address r) i 0 = c .octet-of .ensures ∙ sym (octet-row (a .rows .now) (a .at) i (omega arith)) in (
+    let w = toBe 4 (getD (a .rows .now) (a .at + 2 + i) 0) in
+    let more : 4 * i + 4 ≡ 4 * (i + 1) = omega arith in (
       omega arith,
-      length-set (l .loop .out) _ _ ∙ l .loop .inv .1,
-      rw (l .loop .inv .2, value, add-one i) (paste-suc (a .out .now) (a .to) (address r) i 0 (omega arith) (omega (arith, address-length r))),
+      search needs,
+      p .put-word .ensures
+          ∙ ap (λ (d : List ℕ). laid d (a .to + 4 * i) w) (l .loop .inv .2)
+          ∙ octets-next (a .rows .now) (a .at) (a .out .now) (a .to) i 4 _ (omega arith) (omega arith) (omega arith) more,
     )
 
 same-length : tie.Need-same-length Inv-loop μ-loop
-same-length c = c .before .loop .inv .1
+same-length c = c .before .before .loop .inv .1
 
 returns : tie.Need-returns Inv-loop μ-loop
 returns c =
-    let l = c .before in
+    let l = c .before .before in
     let a = l .before .before .before .args in
-    let r = rowAt (a .rows .now) (a .at) in
-    let all : l .loop .i ≡ a .n = omega (arith, l .loop .inv .0) in
-    l .loop .inv .2 ∙ ap (paste (a .out .now) (a .to) (address r)) all ∙ octets-laid r (a .out .now) (a .to) (a .n) (omega arith)
+    let all : 4 * l .loop .i ≡ a .n = omega (arith, l .loop .inv .0) in
+    l .loop .inv .2 ∙ ap (λ (k : ℕ). laid (a .out .now) (a .to) (take k (address (rowAt (a .rows .now) (a .at))))) all
+
+mul-start : tie.Need-mul-start Inv-loop μ-loop
+mul-start c = search needs
+
+add-start : tie.Need-add-start Inv-loop μ-loop
+add-start c = search needs
+
+add-end : tie.Need-add-end Inv-loop μ-loop
+add-end c = search needs
+
+sub-put-octets : tie.Need-sub-put-octets Inv-loop μ-loop
+sub-put-octets c = search needs
+
+part-put-octets-start : tie.Need-part-put-octets-start Inv-loop μ-loop
+part-put-octets-start c = search needs
+
+part-put-octets-end : tie.Need-part-put-octets-end Inv-loop μ-loop
+part-put-octets-end c = search needs
+
+add-put-octets : tie.Need-add-put-octets Inv-loop μ-loop
+add-put-octets c = search needs
+
+add-put-octets-2 : tie.Need-add-put-octets-2 Inv-loop μ-loop
+add-put-octets-2 c = search needs
+
+mul-put-octets : tie.Need-mul-put-octets Inv-loop μ-loop
+mul-put-octets c = search needs
+
+shared-slice-read-put-octets : tie.Need-shared-slice-read-put-octets Inv-loop μ-loop
+shared-slice-read-put-octets c = search needs
+
+put-octets-requires : tie.Need-put-octets-requires Inv-loop μ-loop
+put-octets-requires c κs = search needs
+
+same-length-2 : tie.Need-same-length-2 Inv-loop μ-loop
+same-length-2 c = search needs
+
+returns-2 : tie.Need-returns-2 Inv-loop μ-loop
+returns-2 c =
+    let p = c .before .before in
+    let l = p .before .before .before .before .before in
+    let a = l .before .before .before .args in
+    let q = a .n / 4 in
+    let m = a .n % 4 in
+    let d = l .loop .out in
+    let start = a .to + 4 * q in
+    let end = start + m in
+    let last = take m (toBe 4 (getD (a .rows .now) (a .at + 2 + q) 0)) in
+    let all : 4 * q + m ≡ a .n = omega arith in
+    let turns : l .loop .i ≡ q = omega (arith, l .loop .inv .0) in
+    let size : length last ≡ m = length-take-le m (toBe 4 (getD (a .rows .now) (a .at + 2 + q) 0)) (omega arith) in
+    ap (λ (o : List ℕ). take start d ++ (o ++ drop (end - start) (drop start d))) (p .put-octets .ensures)
+    ∙ laid-between d start end last (ap (λ (k : ℕ). start + k) size) (omega (arith, l .loop .inv .1))
+    ∙ ap (λ (o : List ℕ). laid o start last) (l .loop .inv .2 ∙ ap (λ (k : ℕ). laid (a .out .now) (a .to) (take (4 * k) (address (rowAt (a .rows .now) (a .at))))) turns)
+    ∙ octets-next (a .rows .now) (a .at) (a .out .now) (a .to) q m _ (omega arith) (omega arith) (omega arith) all
 
 pub put-octets-spec : {M : Type 1} → statement M
 put-octets-spec =
@@ -79,15 +132,26 @@ put-octets-spec =
     Inv-loop
     μ-loop
     loop-holds
-    add-octet-of
-    add-octet-of-2
-    mul-octet-of
-    shared-slice-read-octet-of
-    octet-of-requires
-    add-out
-    slice-write-out
+    add-put-word
+    add-put-word-2
+    mul-put-word
+    add-put-word-3
+    put-word-requires
     add-i
     loop-less
     loop-again
     same-length
-    returns)
+    returns
+    mul-start
+    add-start
+    add-end
+    sub-put-octets
+    part-put-octets-start
+    part-put-octets-end
+    add-put-octets
+    add-put-octets-2
+    mul-put-octets
+    shared-slice-read-put-octets
+    put-octets-requires
+    same-length-2
+    returns-2)
