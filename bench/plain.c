@@ -847,6 +847,7 @@ static uint64_t measure_in_form(const uint32_t *rows, size_t places, bool ipv6, 
 }
 
 static void write_in_form(const uint32_t *rows, bool ipv6, bool id, uint8_t *out, size_t bytes) {
+    if (!bytes) return;
     if (ipv6) return id ? write_rows(rows, true, true, out, bytes) : write_rows(rows, true, false, out, bytes);
     return id ? write_rows(rows, false, true, out, bytes) : write_rows(rows, false, false, out, bytes);
 }
