@@ -38,7 +38,7 @@ isPair v = eqb (beAt v 0 2) 2 && eqb (getD v 2 0) 1
 abbrev pub isHopSize : ℕ → Bool
 isHopSize n = eqb n 16 || eqb n 32
 
--- where the next hop starts, where the reserved octet stands after it, and where the routes start
+-- where the next hop starts, how long it is said to be, and where the reserved octet stands after it
 abbrev pub hopStart : ℕ
 hopStart = 4
 
