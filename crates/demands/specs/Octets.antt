@@ -4,6 +4,7 @@ use Prim.Native.Nat.{ℕ, _≤_, _<_}
 use mathlib.Core.Path.{_≡_, sym, ap, _∙_}
 use mathlib.Core.List.{List}
 use native.Mathlib.Omega.{arith}
+use lib.ListN.{length}
 use denote.Ref.{now}
 use Rattle.families.specs.Family.{maxOf, octets}
 use Rattle.families.specs.Octets.{refusedLength, tableOf, entry}
@@ -12,6 +13,7 @@ use Rattle.families.specs.declared.AddPath.{AddPath}
 use Rattle.families.proofs.FamilyLaws.{max-small}
 use Rattle.families.proofs.OctetLaws.{entry-in, entry-out}
 use Rattle.families.proofs.octets.counts.Reads as counts
+use Rattle.families.proofs.octets.put_counts.Reads as put_counts
 use Rattle.families.proofs.octets.after.Reads as after
 use Rattle.routes.proofs.TableLaws.{count-list-family, count-section-family}
 use Rattle.routes.proofs.count_list_by.Reads as count_list_by
@@ -38,6 +40,11 @@ module _ (afi : Afi) (κt : _) (table : _) (exit : _) (made : counts.Learnt κt 
     -- one that it has not
     pub out-of-range : maxOf afi < length → said ≡ refusedLength
     out-of-range past = here ∙ entry-out (maxOf afi) small length past
+
+  -- ---- put over an array of 256 entries, it is the same
+
+  pub put-alike : (κp : _) (out : _) (z : _) (left : _) → put_counts.Learnt κp (afi, (out, tt)) z left → length (now out) ≡ 256 → now (left .1 .0) ≡ table
+  put-alike κp out z left put long = put long ∙ sym made
 
   -- ---- a list and a section that are counted by it
 

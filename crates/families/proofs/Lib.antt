@@ -1,3 +1,4 @@
+pub mod CopyLaws
 pub mod FamilyLaws
 pub mod OctetLaws
 pub mod Tight

@@ -1,8 +1,11 @@
 // How many octets of address follow a length byte, for each of its 256 values, or REFUSED: a table for each family. The readers ask it both whether
 // there is such a length and how many octets it has; the rule of both tables is `tableOf` of specs/Octets.antt, over the longest prefix.
 ghost use mathlib.Core.Path.{_≡_};
+ghost use Prim.Native.Nat.{_+_, _≤_};
+ghost use lib.ListN.{length};
 ghost use Rattle.families.specs.Family.{maxOf};
 ghost use Rattle.families.specs.Octets.{tableOf, entry};
+ghost use Rattle.families.specs.Private.{copied, eight, sixteen, places};
 use super::Afi;
 
 // What stands for a length that the family has not.
@@ -543,6 +546,78 @@ pub fn counts(afi: Afi) -> [u8; 256]
         }
     }
     counts
+}
+
+// Eight entries of a table, four and the four that stand 128 after them, to the same places of another. All are read before one is put, and they are put
+// from both by turns: of four equal ones in a row the compiler makes a store of its own, and not of sixteen entries one.
+fn put_eight(table: &[u8; 256], at: usize, out: &mut [u8; 256])
+    requires { ⌜ at + 132 ≤ 256 ⌝ }
+    ensures { λ _. ⌜ now (out .exit) ≡ copied (now (table .entry)) (now (out .entry)) (eight at) ⌝ }
+{
+    let e0 = table[at];
+    let e1 = table[at + 1];
+    let e2 = table[at + 2];
+    let e3 = table[at + 3];
+    let e128 = table[at + 128];
+    let e129 = table[at + 129];
+    let e130 = table[at + 130];
+    let e131 = table[at + 131];
+    out[at] = e0;
+    out[at + 128] = e128;
+    out[at + 1] = e1;
+    out[at + 129] = e129;
+    out[at + 2] = e2;
+    out[at + 130] = e130;
+    out[at + 3] = e3;
+    out[at + 131] = e131;
+}
+
+// Sixteen entries, eight and eight.
+fn put_sixteen(table: &[u8; 256], at: usize, out: &mut [u8; 256])
+    requires { ⌜ at + 136 ≤ 256 ⌝ }
+    ensures { λ _. ⌜ now (out .exit) ≡ copied (now (table .entry)) (now (out .entry)) (sixteen at) ⌝ }
+{
+    put_eight(table, at, out);
+    put_eight(table, at + 4, out);
+}
+
+// All of a table, over another.
+fn put_table(table: &[u8; 256], out: &mut [u8; 256])
+    ensures { λ _. ⌜ now (out .exit) ≡ copied (now (table .entry)) (now (out .entry)) places ⌝ }
+{
+    put_sixteen(table, 0, out);
+    put_sixteen(table, 8, out);
+    put_sixteen(table, 16, out);
+    put_sixteen(table, 24, out);
+    put_sixteen(table, 32, out);
+    put_sixteen(table, 40, out);
+    put_sixteen(table, 48, out);
+    put_sixteen(table, 56, out);
+    put_sixteen(table, 64, out);
+    put_sixteen(table, 72, out);
+    put_sixteen(table, 80, out);
+    put_sixteen(table, 88, out);
+    put_sixteen(table, 96, out);
+    put_sixteen(table, 104, out);
+    put_sixteen(table, 112, out);
+    put_sixteen(table, 120, out);
+}
+
+// The table of a family over an array of the caller's, who lends it on: so a list's table is made. Where the family is known when it is compiled, so is
+// the table, and sixteen entries go at once.
+pub fn put_counts(afi: Afi, out: &mut [u8; 256])
+    ensures { λ _. ⌜ (length (now (out .entry)) ≡ 256 → now (out .exit) ≡ tableOf (maxOf afi)) ⌝ }
+{
+    match afi {
+        Afi::Ipv4 => {
+            let table = counts(Afi::Ipv4);
+            put_table(&table, out);
+        }
+        Afi::Ipv6 => {
+            let table = counts(Afi::Ipv6);
+            put_table(&table, out);
+        }
+    }
 }
 
 // What a table says of a length byte.
