@@ -361,8 +361,7 @@ fn fill_guess(s: &[u8], afi: Afi, counts: &[u8; 256], store: &mut [u32])
     }
 }
 
-// The rows of a good list that has room, from the front of a store. The guess is called from two places, so that it stays apart; a form that is no
-// constant here keeps the rest of this in one function.
+// The rows of a good list that has room, from the front of a store. A form that is no constant here keeps every loop in this one function.
 fn fill_rows(s: &[u8], afi: Afi, mode: AddPath, counts: &[u8; 256], store: &mut [u32])
     requires { ⌜ Fitting (listOf (now s) (maxOf afi) mode) (now store) ⌝ }
     requires { ⌜ now counts ≡ tableOf (maxOf afi) ⌝ }
@@ -373,10 +372,7 @@ fn fill_rows(s: &[u8], afi: Afi, mode: AddPath, counts: &[u8; 256], store: &mut 
         AddPath::On => Form::Tagged,
         AddPath::Off => Form::Plain,
         AddPath::Guess => {
-            match afi {
-                Afi::Ipv4 => fill_guess(whole, Afi::Ipv4, counts, store),
-                Afi::Ipv6 => fill_guess(whole, Afi::Ipv6, counts, store),
-            }
+            fill_guess(whole, afi, counts, store);
             return;
         }
     };
@@ -398,7 +394,8 @@ pub fn parse_nlri_list(s: &[u8], afi: Afi, mode: AddPath, store: &mut [u32]) -> 
     ensures answer { λ r. ⌜ r ≡ readList (upTo (maxOf afi)) (now (s .entry)) mode (length (now (store .entry))) ⌝ }
     ensures store { λ _. ⌜ now (store .exit) ≡ storeAfter (now (s .entry)) (listOf (now (s .entry)) (maxOf afi) mode) (now (store .entry)) ⌝ }
 {
-    let counts = octets::counts(afi);
+    let mut counts = [0u8; 256];
+    octets::put_counts(afi, &mut counts);
     let found = routes::counted(routes::count_list_by(s, &counts, mode));
     let list = found.list;
     match list {
@@ -478,7 +475,8 @@ pub fn read_nlri_pair(
     ensures first { λ r. ⌜ now (first .exit) ≡ readPairFirst r (sectionOf (now (s .entry)) (maxOf afi) mode) (now (first .entry)) ⌝ }
     ensures second { λ r. ⌜ now (second .exit) ≡ readPairSecond r (sectionOf (now (t .entry)) (maxOf afi) mode) (now (second .entry)) ⌝ }
 {
-    let counts = octets::counts(afi);
+    let mut counts = [0u8; 256];
+    octets::put_counts(afi, &mut counts);
     let a = routes::counted(routes::count_section_by(s, &counts, mode));
     let b = routes::counted(routes::count_section_by(t, &counts, mode));
     let one = a.list;

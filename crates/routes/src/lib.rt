@@ -376,7 +376,8 @@ pub fn counted(n: usize) -> RoutesAnswer
 pub fn count_nlri_list(s: &[u8], afi: Afi, mode: AddPath) -> RoutesAnswer
     ensures answer { λ r. ⌜ r ≡ countList (upTo (maxOf afi)) (now (s .entry)) mode ⌝ }
 {
-    let counts = octets::counts(afi);
+    let mut counts = [0u8; 256];
+    octets::put_counts(afi, &mut counts);
     counted(count_list_by(s, &counts, mode))
 }
 
@@ -436,6 +437,7 @@ pub fn count_section_by(s: &[u8], counts: &[u8; 256], mode: AddPath) -> usize
 pub fn count_nlri(s: &[u8], afi: Afi, mode: AddPath) -> RoutesAnswer
     ensures answer { λ r. ⌜ r ≡ countSection (upTo (maxOf afi)) (now (s .entry)) mode ⌝ }
 {
-    let counts = octets::counts(afi);
+    let mut counts = [0u8; 256];
+    octets::put_counts(afi, &mut counts);
     counted(count_section_by(s, &counts, mode))
 }

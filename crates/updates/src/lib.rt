@@ -126,7 +126,8 @@ pub fn count_bgp_update_message(body: &[u8], mode: AddPath) -> UpdateAnswer
             attributes: _,
             announced: _,
         } => {
-            let counts = octets::counts(Afi::Ipv4);
+            let mut counts = [0u8; 256];
+            octets::put_counts(Afi::Ipv4, &mut counts);
             let first = routes::count_section_by(withdrawn_part(body), &counts, mode);
             let second = routes::count_section_by(announced_part(body), &counts, mode);
             UpdateAnswer::Update {

@@ -14,29 +14,14 @@ enum-told-2 c = search needs
 enum-told-3 : tie.Need-enum-told-3
 enum-told-3 c = search needs
 
-enum-told-4 : tie.Need-enum-told-4
-enum-told-4 c = search needs
-
 fill-guess-requires : tie.Need-fill-guess-requires
-fill-guess-requires c κs = rw (c .before .enum-told4 .given .1, c .before .before .before .enum-told3 .given .1) at (c .before .before .before .before .before .before .before .pre)
-
-enum-told-5 : tie.Need-enum-told-5
-enum-told-5 c = search needs
-
-fill-guess-requires-2 : tie.Need-fill-guess-requires-2
-fill-guess-requires-2 c κs = rw (c .before .enum-told5 .given .1, c .before .before .before .enum-told3 .given .1) at (c .before .before .before .before .before .before .before .pre)
+fill-guess-requires c κs = rw (c .before .enum-told3 .given .1) at (c .before .before .before .before .before .pre)
 
 same-length : tie.Need-same-length
 same-length c = search needs
 
 returns : tie.Need-returns
-returns c = rw (c .before .before .before .before .enum-told4 .given .1, c .before .before .before .before .before .before .enum-told3 .given .1) (c .before .before .fill-guess .ensures)
-
-same-length-2 : tie.Need-same-length-2
-same-length-2 c = search needs
-
-returns-2 : tie.Need-returns-2
-returns-2 c = rw (c .before .before .before .before .enum-told5 .given .1, c .before .before .before .before .before .before .enum-told3 .given .1) (c .before .before .fill-guess2 .ensures)
+returns c = rw (c .before .before .before .before .enum-told3 .given .1) (c .before .before .fill-guess .ensures)
 
 -- the form is the setting's
 chosen : (c : tie.At-match-came) → c .before .before .before .args .mode ≡ fixed (c .match .form)
@@ -49,11 +34,11 @@ chosen c =
 fill-form-requires : tie.Need-fill-form-requires
 fill-form-requires c κs = rw (chosen (c .before)) at (c .before .before .before .before .pre)
 
-same-length-3 : tie.Need-same-length-3
-same-length-3 c = search needs
+same-length-2 : tie.Need-same-length-2
+same-length-2 c = search needs
 
-returns-3 : tie.Need-returns-3
-returns-3 c = rw (chosen (c .before .before .before .before)) (c .before .before .fill-form .ensures)
+returns-2 : tie.Need-returns-2
+returns-2 c = rw (chosen (c .before .before .before .before)) (c .before .before .fill-form .ensures)
 
 pub fill-rows-spec : {M : Type 1} → statement M
 fill-rows-spec =
@@ -62,14 +47,9 @@ fill-rows-spec =
     enum-told
     enum-told-2
     enum-told-3
-    enum-told-4
     fill-guess-requires
-    enum-told-5
-    fill-guess-requires-2
     same-length
     returns
-    same-length-2
-    returns-2
     fill-form-requires
-    same-length-3
-    returns-3)
+    same-length-2
+    returns-2)

@@ -11,8 +11,8 @@ use borrow.Author.Needs.{needs}
 use Rattle.route_reader.proofs.read_nlri_pair.Statement.{statement}
 use Rattle.route_reader.proofs.read_nlri_pair.Tie as tie
 
-counts-requires : tie.Need-counts-requires
-counts-requires c κs = search needs
+put-counts-requires : tie.Need-put-counts-requires
+put-counts-requires c κs = search needs
 
 count-section-by-requires : tie.Need-count-section-by-requires
 count-section-by-requires c κs = search needs
@@ -31,11 +31,11 @@ has-room-requires c κs = search needs
 
 -- both counts, which are of the family
 counted : (c : tie.After-counted2) →
-    let a = c .before .before .before .before .before .before .before .before .before .before .before .args in
+    let a = c .before .before .before .before .before .before .before .before .before .before .before .before .args in
     (c .before .before .before .counted .result ≡ countSection (upTo (maxOf (a .afi))) (a .s .now) (a .mode)) × (c .counted2 .result ≡ countSection (upTo (maxOf (a .afi))) (a .t .now) (a .mode))
 counted c =
-    let a = c .before .before .before .before .before .before .before .before .before .before .before .args in
-    let table = c .before .before .before .before .before .before .counts .ensures in (
+    let a = c .before .before .before .before .before .before .before .before .before .before .before .before .args in
+    let table = c .before .before .before .before .before .before .put-counts .ensures refl in (
       c .before .before .before .counted .ensures ∙ c .before .before .before .before .count-section-by .ensures ∙ count-section-family _ (a .afi) table (a .s .now) (a .mode),
       c .counted2 .ensures ∙ c .before .count-section-by2 .ensures ∙ count-section-family _ (a .afi) table (a .t .now) (a .mode),
     )
@@ -58,16 +58,16 @@ returns-2 c =
 fill-counted-requires : tie.Need-fill-counted-requires
 fill-counted-requires c κs =
     let k = c .before .before .before .before .before .before in
-    let a = k .before .before .before .before .before .before .before .before .before .before .before .args in
+    let a = k .before .before .before .before .before .before .before .before .before .before .before .before .args in
     let count = countAnswer (a .s .now) (sectionOf (a .s .now) (maxOf (a .afi)) (a .mode)) in
-    (k .before .before .before .before .before .before .counts .ensures, (told-list count (hostsOf (a .s .now) (maxOf (a .afi)) (a .mode)) _ (counted k .0), sym (c .before .before .before .before .before .has-room .ensures) ∙ not-false _ (c .before .before .before .before .if1 .left)))
+    (k .before .before .before .before .before .before .put-counts .ensures refl, (told-list count (hostsOf (a .s .now) (maxOf (a .afi)) (a .mode)) _ (counted k .0), sym (c .before .before .before .before .before .has-room .ensures) ∙ not-false _ (c .before .before .before .before .if1 .left)))
 
 fill-counted-requires-2 : tie.Need-fill-counted-requires-2
 fill-counted-requires-2 c κs =
     let k = c .before .before .before .before .before .before .before .before .before .before .before in
-    let a = k .before .before .before .before .before .before .before .before .before .before .before .args in
+    let a = k .before .before .before .before .before .before .before .before .before .before .before .before .args in
     let count = countAnswer (a .t .now) (sectionOf (a .t .now) (maxOf (a .afi)) (a .mode)) in
-    (k .before .before .before .before .before .before .counts .ensures, (told-list count (hostsOf (a .t .now) (maxOf (a .afi)) (a .mode)) _ (counted k .1), sym (c .before .before .before .before .before .before .before .before .has-room2 .ensures) ∙ not-false _ (c .before .before .before .before .before .before .before .if2 .left)))
+    (k .before .before .before .before .before .before .put-counts .ensures refl, (told-list count (hostsOf (a .t .now) (maxOf (a .afi)) (a .mode)) _ (counted k .1), sym (c .before .before .before .before .before .before .before .before .has-room2 .ensures) ∙ not-false _ (c .before .before .before .before .before .before .before .if2 .left)))
 
 same-length : tie.Need-same-length
 same-length c = search needs
@@ -87,7 +87,7 @@ pub read-nlri-pair-spec : {M : Type 1} → statement M
 read-nlri-pair-spec =
     tie.close
     (tie.spec
-    counts-requires
+    put-counts-requires
     count-section-by-requires
     counted-requires
     count-section-by-requires-2

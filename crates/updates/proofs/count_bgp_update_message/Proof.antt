@@ -1,4 +1,4 @@
-use mathlib.Core.Path.{ap₂, sym, _∙_}
+use mathlib.Core.Path.{refl, ap₂, sym, _∙_}
 use Rattle.families.specs.declared.Afi.the-variants.{Ipv4}
 use Rattle.routes.proofs.TableLaws.{count-section-family}
 use Rattle.updates.specs.declared.UpdateAnswer.the-variants.{Update}
@@ -14,8 +14,8 @@ update-parts-requires c κs = search needs
 enum-told : tie.Need-enum-told
 enum-told c = search needs
 
-counts-requires : tie.Need-counts-requires
-counts-requires c κs = search needs
+put-counts-requires : tie.Need-put-counts-requires
+put-counts-requires c κs = search needs
 
 withdrawn-part-requires : tie.Need-withdrawn-part-requires
 withdrawn-part-requires c κs = search needs
@@ -41,11 +41,11 @@ enum-known-n c = search needs
 returns : tie.Need-returns
 unfolding countUpdate
 returns c =
-    let k = c .before .before .before .before .before .before .before .before .before in
+    let k = c .before .before .before .before .before .before .before .before .before .before in
     let g = k .before .before .before .before .args in
     let first = c .before .before .before .before .before .before .before .withdrawn-part in
     let second = c .before .before .before .before .announced-part in
-    let table = c .before .before .before .before .before .before .before .before .counts .ensures in
+    let table = c .before .before .before .before .before .before .before .before .put-counts .ensures refl in
     let w = holds-withdrawn (g .body) _ (first .ensures) in
     let a = holds-announced (g .body) _ (second .ensures) in
     rw (sym (k .before .before .update-parts .ensures) ∙ k .enum-told .given .1, ← w, ← a)
@@ -63,7 +63,7 @@ count-bgp-update-message-spec =
     (tie.spec
     update-parts-requires
     enum-told
-    counts-requires
+    put-counts-requires
     withdrawn-part-requires
     count-section-by-requires
     announced-part-requires
