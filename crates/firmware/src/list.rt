@@ -9,6 +9,7 @@ ghost use Rattle.route_writer.specs.Promises as RouteWriter;
 ghost use Rattle.words.specs.Settings.{familyOf, formOf};
 ghost use Rattle.words.specs.Word.{inFields, wordOf, Narrow};
 use super::write_word;
+use families::Afi;
 use families::mode_of;
 use routes::ListAnswer;
 use routes::RoutesAnswer;
@@ -28,12 +29,17 @@ pub(super) fn list_word(a: RoutesAnswer) -> u64
     }
 }
 
-// How many routes a list has, and how many of them have a bit set past their length.
+// How many routes a list has, and how many of them have a bit set past their length. Here and below each family has a call of its own, so that its table is
+// known when it is compiled.
 #[no_mangle]
 pub extern "C" fn doorbramble_count_nlri_list(s: &[u8], ipv6: u8, settings: u8) -> u64
     ensures { λ r. ⌜ r ≡ wordOf (inFields (Routes.routesMeaning (Routes.countList (upTo (maxOf (familyOf ipv6))) (now (s .entry)) (modeOf settings)))) ⌝ }
 {
-    list_word(routes::count_nlri_list(s, family_of(ipv6), mode_of(settings)))
+    let mode = mode_of(settings);
+    match family_of(ipv6) {
+        Afi::Ipv4 => list_word(routes::count_nlri_list(s, Afi::Ipv4, mode)),
+        Afi::Ipv6 => list_word(routes::count_nlri_list(s, Afi::Ipv6, mode)),
+    }
 }
 
 // The routes of a list, into a lent store.
@@ -47,7 +53,11 @@ pub extern "C" fn doorbramble_parse_nlri_list(
     ensures answer { λ r. ⌜ r ≡ wordOf (inFields (Routes.routesMeaning (Routes.readList (upTo (maxOf (familyOf ipv6))) (now (s .entry)) (modeOf settings) (length (now (store .entry)))))) ⌝ }
     ensures store { λ _. ⌜ now (store .exit) ≡ Routes.storeAfter (now (s .entry)) (listOf (now (s .entry)) (maxOf (familyOf ipv6)) (modeOf settings)) (now (store .entry)) ⌝ }
 {
-    list_word(route_reader::parse_nlri_list(s, family_of(ipv6), mode_of(settings), store))
+    let mode = mode_of(settings);
+    match family_of(ipv6) {
+        Afi::Ipv4 => list_word(route_reader::parse_nlri_list(s, Afi::Ipv4, mode, store)),
+        Afi::Ipv6 => list_word(route_reader::parse_nlri_list(s, Afi::Ipv6, mode, store)),
+    }
 }
 
 // Rows as a list of routes.

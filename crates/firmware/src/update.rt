@@ -116,7 +116,8 @@ pub extern "C" fn doorbramble_count_update_hosts(body: &[u8], settings: u8) -> u
             announced: _,
         } => {
             let mode = mode_of(settings);
-            let counts = octets::counts(Afi::Ipv4);
+            let mut counts = [0u8; 256];
+            octets::put_counts(Afi::Ipv4, &mut counts);
             let first = routes::count_section_by(updates::withdrawn_part(body), &counts, mode);
             let second = routes::count_section_by(updates::announced_part(body), &counts, mode);
             word(

@@ -1,3 +1,4 @@
+use mathlib.Core.Path.{sym, _∙_}
 use Rattle.words.proofs.WordLaws.{told-in}
 use Rattle.routes.specs.Promises.{routesMeaning}
 use Rattle.firmware.proofs.ListBounds.{count-list-narrow}
@@ -5,11 +6,14 @@ use borrow.Author.Needs.{needs}
 use Rattle.firmware.proofs.list.doorbramble_count_nlri_list.Statement.{statement}
 use Rattle.firmware.proofs.list.doorbramble_count_nlri_list.Tie as tie
 
+mode-of-requires : tie.Need-mode-of-requires
+mode-of-requires c κs = search needs
+
 family-of-requires : tie.Need-family-of-requires
 family-of-requires c κs = search needs
 
-mode-of-requires : tie.Need-mode-of-requires
-mode-of-requires c κs = search needs
+enum-told : tie.Need-enum-told
+enum-told c = search needs
 
 count-nlri-list-requires : tie.Need-count-nlri-list-requires
 count-nlri-list-requires c κs = search needs
@@ -17,17 +21,38 @@ count-nlri-list-requires c κs = search needs
 list-word-requires : tie.Need-list-word-requires
 list-word-requires c κs = rw (c .count-nlri-list .ensures) (count-list-narrow _ _ _)
 
+enum-told-2 : tie.Need-enum-told-2
+enum-told-2 c = search needs
+
+count-nlri-list-requires-2 : tie.Need-count-nlri-list-requires-2
+count-nlri-list-requires-2 c κs = search needs
+
+list-word-requires-2 : tie.Need-list-word-requires-2
+list-word-requires-2 c κs = rw (c .count-nlri-list2 .ensures) (count-list-narrow _ _ _)
+
 returns : tie.Need-returns
 returns c =
-    let e = rw (c .before .before .before .family-of .ensures, c .before .before .mode-of .ensures) at (c .before .count-nlri-list .ensures) in
-    told-in routesMeaning (c .list-word .ensures) e
+    let family = sym (c .before .before .before .before .family-of .ensures) ∙ c .before .before .enum-told .given .1 in
+    let e = rw (c .before .before .before .before .before .mode-of .ensures) at (c .before .count-nlri-list .ensures) in
+    rw family (told-in routesMeaning (c .list-word .ensures) e)
+
+returns-2 : tie.Need-returns-2
+returns-2 c =
+    let family = sym (c .before .before .before .before .family-of .ensures) ∙ c .before .before .enum-told2 .given .1 in
+    let e = rw (c .before .before .before .before .before .mode-of .ensures) at (c .before .count-nlri-list2 .ensures) in
+    rw family (told-in routesMeaning (c .list-word2 .ensures) e)
 
 pub doorbramble-count-nlri-list-spec : {M : Type 1} → statement M
 doorbramble-count-nlri-list-spec =
     tie.close
     (tie.spec
-    family-of-requires
     mode-of-requires
+    family-of-requires
+    enum-told
     count-nlri-list-requires
     list-word-requires
-    returns)
+    enum-told-2
+    count-nlri-list-requires-2
+    list-word-requires-2
+    returns
+    returns-2)

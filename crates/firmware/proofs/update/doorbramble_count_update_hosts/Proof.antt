@@ -1,4 +1,4 @@
-use mathlib.Core.Path.{_≡_, sym, ap, ap₂, _∙_}
+use mathlib.Core.Path.{_≡_, refl, sym, ap, ap₂, _∙_}
 use native.Mathlib.Omega.{arith}
 use Prim.Native.Nat.{ℕ}
 use Rattle.families.specs.Family.{modeOf}
@@ -21,8 +21,8 @@ enum-told c = search needs
 mode-of-requires : tie.Need-mode-of-requires
 mode-of-requires c κs = search needs
 
-counts-requires : tie.Need-counts-requires
-counts-requires c κs = search needs
+put-counts-requires : tie.Need-put-counts-requires
+put-counts-requires c κs = search needs
 
 withdrawn-part-requires : tie.Need-withdrawn-part-requires
 withdrawn-part-requires c κs = search needs
@@ -43,17 +43,17 @@ hosts-in-requires : tie.Need-hosts-in-requires
 hosts-in-requires c κs = search needs
 
 -- of each section, how many rows have a host bit
-first : (c : tie.After-hosts-in) → let a = c .before .before .before .before .before .before .before .before .before .before .before .before .before .before .args in c .hosts-in .result ≡ hostsIn (counted (withdrawnOf (a .body .now)) (modeOf (a .settings)))
+first : (c : tie.After-hosts-in) → let a = c .before .before .before .before .before .before .before .before .before .before .before .before .before .before .before .args in c .hosts-in .result ≡ hostsIn (counted (withdrawnOf (a .body .now)) (modeOf (a .settings)))
 first c =
-    let m = c .before .before .before .before .before .before .before .before .before in
+    let m = c .before .before .before .before .before .before .before .before .before .before in
     let part = c .before .before .before .before .before .before .before .withdrawn-part in
-    let table = c .before .before .before .before .before .before .before .before .counts .ensures in
+    let table = c .before .before .before .before .before .before .before .before .put-counts .ensures refl in
     c .hosts-in .ensures
     ∙ ap hostsIn (c .before .counted .ensures)
     ∙ section-hosts _ table (part .result .now) _ (m .mode-of .result) _ _ (c .before .before .before .before .before .count-section-by .ensures) (holds-withdrawn (m .before .before .before .before .before .args .body) _ (part .ensures)) (m .mode-of .ensures)
 
 cast-word : tie.Need-cast-word
-cast-word c = let a = c .before .before .before .before .before .before .before .before .before .before .before .before .before .before .args in omega (arith, first c, section-hosts-few (withdrawnOf (a .body .now)) (modeOf (a .settings)))
+cast-word c = let a = c .before .before .before .before .before .before .before .before .before .before .before .before .before .before .before .args in omega (arith, first c, section-hosts-few (withdrawnOf (a .body .now)) (modeOf (a .settings)))
 
 counted-requires-2 : tie.Need-counted-requires-2
 counted-requires-2 c κs = search needs
@@ -61,17 +61,17 @@ counted-requires-2 c κs = search needs
 hosts-in-requires-2 : tie.Need-hosts-in-requires-2
 hosts-in-requires-2 c κs = search needs
 
-second : (c : tie.After-hosts-in2) → let a = c .before .before .before .before .before .before .before .before .before .before .before .before .before .before .before .before .args in c .hosts-in2 .result ≡ hostsIn (counted (announcedOf (a .body .now)) (modeOf (a .settings)))
+second : (c : tie.After-hosts-in2) → let a = c .before .before .before .before .before .before .before .before .before .before .before .before .before .before .before .before .before .args in c .hosts-in2 .result ≡ hostsIn (counted (announcedOf (a .body .now)) (modeOf (a .settings)))
 second c =
-    let m = c .before .before .before .before .before .before .before .before .before .before .before in
+    let m = c .before .before .before .before .before .before .before .before .before .before .before .before in
     let part = c .before .before .before .before .before .before .announced-part in
-    let table = c .before .before .before .before .before .before .before .before .before .before .counts .ensures in
+    let table = c .before .before .before .before .before .before .before .before .before .before .put-counts .ensures refl in
     c .hosts-in2 .ensures
     ∙ ap hostsIn (c .before .counted2 .ensures)
     ∙ section-hosts _ table (part .result .now) _ (m .mode-of .result) _ _ (c .before .before .before .before .count-section-by2 .ensures) (holds-announced (m .before .before .before .before .before .args .body) _ (part .ensures)) (m .mode-of .ensures)
 
 cast-word-2 : tie.Need-cast-word-2
-cast-word-2 c = let a = c .before .before .before .before .before .before .before .before .before .before .before .before .before .before .before .before .args in omega (arith, second c, section-hosts-few (announcedOf (a .body .now)) (modeOf (a .settings)))
+cast-word-2 c = let a = c .before .before .before .before .before .before .before .before .before .before .before .before .before .before .before .before .before .args in omega (arith, second c, section-hosts-few (announcedOf (a .body .now)) (modeOf (a .settings)))
 
 word-requires : tie.Need-word-requires
 word-requires c κs = search needs
@@ -85,7 +85,7 @@ word-requires-2 c κs = search needs
 returns : tie.Need-returns
 unfolding countUpdate
 returns c =
-    let k = c .before .before .before .before .before .before .before .before .before .before .before .before .before in
+    let k = c .before .before .before .before .before .before .before .before .before .before .before .before .before .before in
     rw (sym (k .before .before .update-parts .ensures) ∙ k .enum-told .given .1)
     (c .word .ensures ∙ ap₂ (λ (w a : ℕ). wordOf (fields w a 0 0)) (first (c .before .before .before)) (second (c .before)))
 
@@ -100,7 +100,7 @@ doorbramble-count-update-hosts-spec =
     update-parts-requires
     enum-told
     mode-of-requires
-    counts-requires
+    put-counts-requires
     withdrawn-part-requires
     count-section-by-requires
     announced-part-requires
