@@ -549,7 +549,7 @@ pub fn counts(afi: Afi) -> [u8; 256]
 }
 
 // Eight entries of a table, four and the four that stand 128 after them, to the same places of another. All are read before one is put, and they are put
-// from both by turns: of four equal ones in a row the compiler makes a store of its own, and not of sixteen entries one.
+// from both by turns: four equal ones in a row would become a store of their own, and sixteen entries no longer one.
 fn put_eight(table: &[u8; 256], at: usize, out: &mut [u8; 256])
     requires { ⌜ at + 132 ≤ 256 ⌝ }
     ensures { λ _. ⌜ now (out .exit) ≡ copied (now (table .entry)) (now (out .entry)) (eight at) ⌝ }
@@ -572,7 +572,7 @@ fn put_eight(table: &[u8; 256], at: usize, out: &mut [u8; 256])
     out[at + 131] = e131;
 }
 
-// Sixteen entries, eight and eight.
+// Sixteen entries, eight and the eight that stand 128 after them.
 fn put_sixteen(table: &[u8; 256], at: usize, out: &mut [u8; 256])
     requires { ⌜ at + 136 ≤ 256 ⌝ }
     ensures { λ _. ⌜ now (out .exit) ≡ copied (now (table .entry)) (now (out .entry)) (sixteen at) ⌝ }
