@@ -3,11 +3,13 @@
 use Prim.Native.Nat.{_≤_}
 use mathlib.Core.Path.{_≡_, refl}
 use native.Mathlib.Omega.{arith}
-use Rattle.families.specs.Family.{maxOf, idSize, markOf}
+use Rattle.families.specs.Family.{maxOf, idSize, markOf, guessMark}
 use Rattle.families.specs.declared.Afi.{Afi}
 use Rattle.families.specs.declared.Afi.the-variants.{Ipv4, Ipv6}
 use Rattle.families.specs.declared.Form.{Form}
 use Rattle.families.specs.declared.Form.the-variants.{Plain, Tagged}
+use Rattle.families.specs.declared.AddPath.{AddPath}
+use Rattle.families.specs.declared.AddPath.the-variants.{On, Off, Guess}
 
 pub max-small : (afi : Afi) → maxOf afi ≤ 128
 max-small Ipv4 = omega arith
@@ -26,3 +28,9 @@ id-one Tagged Tagged e = refl
 pub mark-small : (form : Form) → markOf form ≤ 256
 mark-small Plain = omega arith
 mark-small Tagged = omega arith
+
+pub guess-mark-small : (mode : AddPath) (form : Form) → guessMark mode form ≤ 512
+guess-mark-small On form = omega arith
+guess-mark-small Off form = omega arith
+guess-mark-small Guess Plain = omega arith
+guess-mark-small Guess Tagged = omega arith

@@ -4,6 +4,7 @@ use lib.ListN.{length}
 use denote.Ref.{now}
 use Rattle.families.proofs.id_size.Reads as id_size
 use Rattle.families.proofs.mark_of.Reads as mark_of
+use Rattle.families.proofs.guess_mark.Reads as guess_mark
 use Rattle.families.proofs.octet_count.Reads as octet_count
 use Rattle.families.proofs.mode_of.Reads as mode_of
 use Rattle.families.proofs.octets.counts.Reads as counts
@@ -15,6 +16,9 @@ tight-id-size κs a z z′ e e′ p q = p ∙ sym q
 
 pub tight-mark-of : (κs : _) (a : _) (z z′ : _) (e e′ : _) → mark_of.Learnt κs a z e → mark_of.Learnt κs a z′ e′ → z ≡ z′
 tight-mark-of κs a z z′ e e′ p q = p ∙ sym q
+
+pub tight-guess-mark : (κs : _) (a : _) (z z′ : _) (e e′ : _) → guess_mark.Learnt κs a z e → guess_mark.Learnt κs a z′ e′ → z ≡ z′
+tight-guess-mark κs a z z′ e e′ p q = p ∙ sym q
 
 pub tight-octet-count : (κs : _) (a : _) (z z′ : _) (e e′ : _) → octet_count.Learnt κs a z e → octet_count.Learnt κs a z′ e′ → z ≡ z′
 tight-octet-count κs a z z′ e e′ p q = p ∙ sym q

@@ -24,6 +24,17 @@ abbrev pub markOf : Form → ℕ
 markOf Plain = 0
 markOf Tagged = 256
 
+-- the mark of an id that came from the guess
+abbrev pub guessed : ℕ
+guessed = 512
+
+-- what a setting adds beside the 256, by the form that it took an item in: an id is the guess's where the setting is (document 02, K8)
+abbrev pub guessMark : AddPath → Form → ℕ
+guessMark On form = 0
+guessMark Off form = 0
+guessMark Guess Plain = 0
+guessMark Guess Tagged = guessed
+
 -- l bits, in whole octets
 abbrev pub octets : ℕ → ℕ
 octets l = (l + 7) / 8

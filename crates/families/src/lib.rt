@@ -1,7 +1,7 @@
 // The settings of a list of routes: the family, how an item stands, Add-Path; and the numbers that they fix (RFC 4271 section 4.3,
 // RFC 7911 section 3).
 ghost use mathlib.Core.Path.{_≡_};
-ghost use Rattle.families.specs.Family.{idSize, markOf, octets, modeOf};
+ghost use Rattle.families.specs.Family.{idSize, markOf, guessMark, octets, modeOf};
 
 pub mod octets;
 
@@ -41,6 +41,19 @@ pub fn mark_of(form: Form) -> u32
     match form {
         Form::Plain => 0,
         Form::Tagged => 256,
+    }
+}
+
+// The mark of an id that came from the guess, in a row's first word.
+pub const GUESSED: u32 = 512;
+
+// What the guess adds there, beside the 256.
+pub fn guess_mark(form: Form) -> u32
+    ensures { λ r. ⌜ r ≡ guessMark AddPath.Guess form ⌝ }
+{
+    match form {
+        Form::Plain => 0,
+        Form::Tagged => GUESSED,
     }
 }
 

@@ -21,9 +21,11 @@ use Rattle.wire.specs.Store.{laid}
 use Rattle.wire.proofs.StoreLaws.{laid-laid}
 use Rattle.families.specs.Family.{idSize}
 use Rattle.families.specs.declared.Form.{Form}
+use Rattle.routes.specs.List.{marked}
 use Rattle.routes.specs.Prefix.{wordAt, rowOf, itemRow, words}
 use Rattle.routes.proofs.PrefixLaws.{item-row}
 use Rattle.routes.specs.Private.{Bounded}
+use Rattle.routes.specs.declared.Row.{Row}
 use Rattle.route_reader.specs.Private.{headWords, addressWords, masks}
 
 -- ---- a number of w bytes with all but its first m cleared
@@ -176,7 +178,8 @@ address-first o w few e = address-parts o w 0 0 0 e (beyond o 4 few) (beyond o 8
 
 -- ---- the words of an item's row are its head and its address
 
-pub item-words : (form : Form) (e : ℕ) (s : List ℕ) → Bounded form e s → words (itemRow form (take e s)) ≡ headWords form s ++ addressWords (take (e - (idSize form + 1)) (drop (idSize form + 1) s))
+pub item-words : (mark : ℕ) (form : Form) (e : ℕ) (s : List ℕ) → Bounded form e s
+    → words (marked mark (itemRow form (take e s))) ≡ headWords mark form s ++ addressWords (take (e - (idSize form + 1)) (drop (idSize form + 1) s))
 unfolding rowOf
-item-words form e s b =
-    sym (ap words (item-row s form e (idSize form) _ _ refl refl refl (b .front) (b .within)))
+item-words mark form e s b =
+    sym (ap (λ (r : Row). words (marked mark r)) (item-row s form e (idSize form) _ _ refl refl refl (b .front) (b .within)))

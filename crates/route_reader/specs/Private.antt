@@ -10,9 +10,9 @@ use Rattle.families.specs.declared.Form.{Form}
 use Rattle.routes.specs.Prefix.{wordAt, words}
 use Rattle.routes.specs.declared.Row.{Row}
 
--- the first word and the id of the item at the front of s
-abbrev pub headWords : Form → List ℕ → List ℕ
-headWords form s = (getD s (idSize form) 0 + markOf form) ∷ beAt s 0 (idSize form) ∷ []
+-- the first word, with a mark, and the id of the item at the front of s
+abbrev pub headWords : ℕ → Form → List ℕ → List ℕ
+headWords mark form s = (getD s (idSize form) 0 + markOf form + mark) ∷ beAt s 0 (idSize form) ∷ []
 
 -- the four words of address octets
 abbrev pub addressWords : List ℕ → List ℕ

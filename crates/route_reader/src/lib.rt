@@ -91,14 +91,14 @@ fn id_of(s: &[u8], form: Form) -> u32
     }
 }
 
-// The first two words of the row of the item at the front of s.
-fn put_head(store: &mut [u32], to: usize, s: &[u8], form: Form)
-    requires { ⌜ to + 2 ≤ length (now store) ⌝ }
+// The first two words of the row of the item at the front of s, with a mark.
+fn put_head(store: &mut [u32], to: usize, s: &[u8], form: Form, mark: u32)
+    requires { ⌜ (to + 2 ≤ length (now store)) × (mark ≤ 512) ⌝ }
     requires { ⌜ idSize form < length (now s) ⌝ }
-    ensures { λ _. ⌜ now (store .exit) ≡ laid (now (store .entry)) to (headWords form (now (s .entry))) ⌝ }
+    ensures { λ _. ⌜ now (store .exit) ≡ laid (now (store .entry)) to (headWords mark form (now (s .entry))) ⌝ }
 {
     let k = families::id_size(form);
-    store[to] = wire::wide(s[k]) + families::mark_of(form);
+    store[to] = wire::wide(s[k]) + families::mark_of(form) + mark;
     store[to + 1] = id_of(s, form);
 }
 
@@ -225,7 +225,7 @@ fn fill_short(s: &[u8], form: Form, counts: &[u8; 256], store: &mut [u32])
     let mut to: usize = 0;
     while n < rest.len() {
         let next = octets::after(counts, rest[n + families::id_size(form)]) as usize;
-        put_head(store, to, &rest[n..], form);
+        put_head(store, to, &rest[n..], form, 0);
         rest = &rest[n + b..];
         put_short(store, to + 2, rest, next);
         n = next;
@@ -246,7 +246,7 @@ fn fill_long(s: &[u8], form: Form, counts: &[u8; 256], store: &mut [u32])
     let mut to: usize = 0;
     while n < rest.len() {
         let next = octets::after(counts, rest[n + families::id_size(form)]) as usize;
-        put_head(store, to, &rest[n..], form);
+        put_head(store, to, &rest[n..], form, 0);
         rest = &rest[n + b..];
         put_long(store, to + 2, rest, next, &table);
         n = next;
@@ -274,7 +274,7 @@ fn guess_short(s: &[u8], counts: &[u8; 256], store: &mut [u32])
     while n < rest.len() {
         match guess_step(rest, n, counts, form) {
             StepAnswer::Item { used, form: next } => {
-                put_head(store, to, &rest[n..], next);
+                put_head(store, to, &rest[n..], next, families::guess_mark(next));
                 match next {
                     Form::Plain => {
                         rest = &rest[n + 1..];
@@ -310,7 +310,7 @@ fn guess_long(s: &[u8], counts: &[u8; 256], store: &mut [u32])
     while n < rest.len() {
         match guess_step(rest, n, counts, form) {
             StepAnswer::Item { used, form: next } => {
-                put_head(store, to, &rest[n..], next);
+                put_head(store, to, &rest[n..], next, families::guess_mark(next));
                 match next {
                     Form::Plain => {
                         rest = &rest[n + 1..];

@@ -21,7 +21,7 @@ use Rattle.routes.specs.declared.Row.{Row}
 use Rattle.routes.specs.declared.StepAnswer.{StepAnswer}
 use Rattle.routes.specs.declared.StepAnswer.the-variants as S
 use Rattle.routes.specs.declared.StepAnswer.the-variants.{Item}
-use Rattle.routes.proofs.ListLaws.{Fair, Tells, Packed, packed-start, packed-step, packed-few, packed-stop, packed-done, step-item, turn-took, turn-refused}
+use Rattle.routes.proofs.ListLaws.{Fair, Tells, Packed, packed-start, packed-step, packed-few, packed-stop, packed-done, step-taken, turn-took, turn-refused}
 use Rattle.routes.proofs.TableLaws.{table-size, fair-table}
 
 -- ---- what is carried
@@ -108,9 +108,8 @@ module _ (counts : List ℕ) (mode : AddPath) (st₀ : Form) (s left : List ℕ)
   pub sized-fits : (used : ℕ) (form : Form) → r ≡ Item used form → (idSize form + 1 ≤ used) × (n + used ≤ length left)
   sized-fits used form f =
       let took = turn-took (byTable counts) (drop n left) mode st r told (fair-table counts) used form f in
-      let item = step-item (byTable counts) mode st form (drop n left) used _ took in
-      let there = fair-table counts .takes (drop n left) form used _ item in
-      (omega (arith, table-size counts (drop n left) form used _ item), omega (arith, there .1, length-drop n left, h .behind .within))
+      let item = step-taken (byTable counts) (fair-table counts) mode st form (drop n left) used _ took in
+      (omega (arith, table-size counts (drop n left) form used _ (item .2)), omega (arith, item .1, length-drop n left, h .behind .within))
 
   pub sized-next : (used : ℕ) (form : Form) → r ≡ Item used form → (sum : ℕ) → sum ≡ count + weightOf (hostBits form (take used (drop n left))) → (b : ℕ) → b ≡ idSize form + 1
       → (length (take (length left - (n + b)) (drop (n + b) left)) - (used - b) < length left - n)

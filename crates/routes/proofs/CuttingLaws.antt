@@ -21,8 +21,10 @@ use Rattle.families.specs.declared.Form.the-variants.{Plain, Tagged}
 use Rattle.families.specs.declared.AddPath.the-variants.{Off, Guess}
 use Rattle.routes.specs.Prefix.{itemRow, hostBits}
 use Rattle.routes.specs.WellFormed.{WellFormed, NoZeroFirst}
-use Rattle.routes.specs.List.{upTo, fixed, asStep, inForm, stepBy, stepOf, hostsOf, strange}
+use Rattle.routes.specs.List.{upTo, fixed, asStep, inForm, markedStep, stepBy, stepOf, hostsOf, strange}
 use Rattle.routes.specs.declared.Row.{Row}
+use Rattle.routes.specs.declared.PrefixAnswer.{PrefixAnswer}
+use Rattle.routes.specs.declared.PrefixAnswer.the-variants as P
 use Rattle.routes.proofs.PrefixLaws.{Took, took-prefix}
 use Rattle.routes.proofs.ListLaws.{step-form, fixed-form, fixed-step, hosts-fixed, sound, step-took, guess-plain}
 
@@ -79,7 +81,7 @@ pub decides : (max : ℕ) (form : Form) → Decides (stepOf max (fixed form)) (W
 decides max form = record {
   sound = sound max (fixed form);
   taken = λ st item rest w. (form, formed-step max form st item rest w);
-  formed = λ st st′ s used row e. took-formed s max form used row (rw (left-form max form st st′ s used row e) at (step-took max (fixed form) st st′ s used row e));
+  formed = λ st st′ s used row e. took-formed s max form used _ (rw (left-form max form st st′ s used row e) at (step-took max (fixed form) st st′ s used row e));
 }
 
 -- how many items of a cutting have a host bit
@@ -95,8 +97,12 @@ cut-hosts max form s items c =
 
 -- at a byte other than 0 the guess in Plain reads as guess off does
 guess-step : (max : ℕ) (st : Form) (s : List ℕ) → (getD s 0 0 ≡ 0 → ⊥) → stepOf max Guess Plain s ≡ stepOf max Off st s
-unfolding stepBy
-guess-step max st s h = ap (λ (f : Form). inForm (upTo max) f s) (guess-plain (upTo max) Plain s (rw (ne-eqb (getD s 0 0) 0 h)))
+unfolding stepBy inForm
+guess-step max st s h = ap (λ (f : Form). markedStep Guess (asStep f (upTo max s f))) (guess-plain (upTo max) Plain s (rw (ne-eqb (getD s 0 0) 0 h))) ∙ no-id (upTo max s Plain)
+  where
+    no-id : (a : PrefixAnswer) → markedStep Guess (asStep Plain a) ≡ markedStep Off (asStep Plain a)
+    no-id (P.Prefix used row) = refl
+    no-id (P.Refused n) = refl
 
 -- a refused place does not start with 0, since 00 is a whole item
 zero-item : (max : ℕ) (st : Form) (s : List ℕ) (n : ℕ) → 0 < length s → stepOf max Off st s ≡ stop n → getD s 0 0 ≡ 0 → ⊥

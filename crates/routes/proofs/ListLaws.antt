@@ -5,7 +5,7 @@ use mathlib.Core.Path.{_≡_, refl, sym, ap, ap₂, _∙_}
 use mathlib.Core.List.{List, [], _∷_}
 use mathlib.Core.Bool.{Bool, true, false, not}
 use lib.Dec.{eqb}
-use native.Mathlib.Nat.{lt-of-not-le}
+use native.Mathlib.Nat.{lt-of-not-le, add-zero}
 use native.Mathlib.Decide.{decLe}
 use native.Mathlib.Omega.{arith}
 use borrow.Author.Tests.{le-leb, lt-leb, eqb-true}
@@ -21,10 +21,11 @@ use Rattle.wire.specs.Walk.{readAll, Step, took, stop, Reading, refused, noted,
 use Rattle.wire.proofs.WalkLaws.{Sound, tally-one, flat-length, all-blind, noted-sound, noted-alike}
 use Rattle.routes.specs.Prefix.{itemRow, words, hostBits}
 use Rattle.routes.proofs.PrefixLaws.{Took, prefix-took, prefix-names}
-use Rattle.routes.specs.List.{Reader, upTo, asStep, inForm, plainHere, tried, guessForm, formBy, fixed, stepBy, stepOf, listBy, hostsBy, strange, sectionBy}
+use Rattle.routes.specs.List.{Reader, upTo, asStep, inForm, marked, markedStep, plainHere, tried, guessForm, formBy, fixed, stepBy, stepOf, listBy, hostsBy, strange, sectionBy}
 use Rattle.routes.specs.Promises.{sized, listMeaning, countAnswer, hasRoom, readAnswer, storeAfter, withHosts, countList, rowsIn, hostsIn, verdictIn, hostUnit, inOne}
 use Rattle.routes.specs.Private.{sizeOf, kept, weightOf}
 use Rattle.routes.proofs.HostLaws.{weight-few, tally-flags, tally-weights}
+use Rattle.families.specs.Family.{guessMark}
 use Rattle.families.specs.declared.Form.{Form}
 use Rattle.families.specs.declared.Form.the-variants.{Plain, Tagged}
 use Rattle.families.specs.declared.AddPath.{AddPath}
@@ -49,38 +50,52 @@ pub record Fair (read : Reader) : Type 0 where
   pub takes : (s : List ℕ) (form : Form) (used : ℕ) (row : Row) → read s form ≡ P.Prefix used row → (0 < used) × (used ≤ length s) × (row ≡ itemRow form (take used s))
   pub names : (s : List ℕ) (form : Form) (n : ℕ) → read s form ≡ P.Refused n → (0 < n) × (n < pastAll)
 
--- the item behind a step that takes one, and the refusal behind one that does not
-form-took : (form : Form) (a : PrefixAnswer) (used : ℕ) (row : Row) (st : Form) → asStep form a ≡ took used row st → (form ≡ st) × (a ≡ P.Prefix used row)
-form-took form (P.Prefix u r) used row st f =
-    let size : u ≡ used = cc in
-    let same : r ≡ row = cc in
-    let here : form ≡ st = cc in
-    (here, ap₂ P.Prefix size same)
-form-took form (P.Refused n) used row st f = let z : _≡_ {A = ℕ} 0 1 = cc in absurd (zero-ne-one z)
+-- no mark is added as 0
+marked-none : (row : Row) → marked 0 row ≡ row
+marked-none row = ap (λ (n : ℕ). record { first = n; id = row .id; w0 = row .w0; w1 = row .w1; w2 = row .w2; w3 = row .w3 }) (add-zero (row .first))
 
-form-stop : (form : Form) (a : PrefixAnswer) (n : ℕ) → asStep form a ≡ stop n → a ≡ P.Refused n
-form-stop form (P.Prefix u r) n f = let z : _≡_ {A = ℕ} 0 1 = cc in absurd (zero-ne-one z)
-form-stop form (P.Refused m) n f = let same : m ≡ n = cc in ap P.Refused same
+-- the item behind a step that takes one, and the refusal behind one that does not
+form-took : (mode : AddPath) (form : Form) (a : PrefixAnswer) (used : ℕ) (row : Row) (st : Form) → markedStep mode (asStep form a) ≡ took used row st
+    → (bare : Row) × (form ≡ st) × (a ≡ P.Prefix used bare) × (marked (guessMark mode st) bare ≡ row)
+form-took mode form (P.Prefix u r) used row st f =
+    let size : u ≡ used = cc in
+    let same : marked (guessMark mode form) r ≡ row = cc in
+    let here : form ≡ st = cc in
+    (r, here, ap (λ (n : ℕ). P.Prefix n r) size, ap (λ (f : Form). marked (guessMark mode f) r) (sym here) ∙ same)
+form-took mode form (P.Refused n) used row st f = let z : _≡_ {A = ℕ} 0 1 = cc in absurd (zero-ne-one z)
+
+form-stop : (mode : AddPath) (form : Form) (a : PrefixAnswer) (n : ℕ) → markedStep mode (asStep form a) ≡ stop n → a ≡ P.Refused n
+form-stop mode form (P.Prefix u r) n f = let z : _≡_ {A = ℕ} 0 1 = cc in absurd (zero-ne-one z)
+form-stop mode form (P.Refused m) n f = let same : m ≡ n = cc in ap P.Refused same
 
 -- the state that a step leaves is the form that its setting chose, and its item is read in it
 pub step-form : (read : Reader) (mode : AddPath) (st st′ : Form) (s : List ℕ) (used : ℕ) (row : Row) → stepBy read mode st s ≡ took used row st′ → formBy read mode st s ≡ st′
 unfolding stepBy inForm
-step-form read mode st st′ s used row e = form-took (formBy read mode st s) (read s (formBy read mode st s)) used row st′ e .0
+step-form read mode st st′ s used row e = form-took mode (formBy read mode st s) (read s (formBy read mode st s)) used row st′ e .1
 
-pub step-item : (read : Reader) (mode : AddPath) (st st′ : Form) (s : List ℕ) (used : ℕ) (row : Row) → stepBy read mode st s ≡ took used row st′ → read s st′ ≡ P.Prefix used row
+step-item : (read : Reader) (mode : AddPath) (st st′ : Form) (s : List ℕ) (used : ℕ) (row : Row) → stepBy read mode st s ≡ took used row st′
+    → (bare : Row) × (read s st′ ≡ P.Prefix used bare) × (marked (guessMark mode st′) bare ≡ row)
 unfolding stepBy inForm
 step-item read mode st st′ s used row e =
-    let t = form-took (formBy read mode st s) (read s (formBy read mode st s)) used row st′ e in
-    ap (read s) (sym (t .0)) ∙ t .1
+    let t = form-took mode (formBy read mode st s) (read s (formBy read mode st s)) used row st′ e in
+    (t .0, ap (read s) (sym (t .1)) ∙ t .2, t .3)
 
-step-stop : (read : Reader) (mode : AddPath) (st : Form) (s : List ℕ) (n : ℕ) → stepBy read mode st s ≡ stop n → read s (formBy read mode st s) ≡ P.Refused n
+pub step-stop : (read : Reader) (mode : AddPath) (st : Form) (s : List ℕ) (n : ℕ) → stepBy read mode st s ≡ stop n → read s (formBy read mode st s) ≡ P.Refused n
 unfolding stepBy inForm
-step-stop read mode st s n e = form-stop (formBy read mode st s) (read s (formBy read mode st s)) n e
+step-stop read mode st s n e = form-stop mode (formBy read mode st s) (read s (formBy read mode st s)) n e
 
 module _ (read : Reader) (fair : Fair read) (mode : AddPath) where
+  -- what is taken are some bytes that are there, which are an item in the form that the step leaves, for their row with its mark
+  pub step-taken : (st st′ : Form) (s : List ℕ) (used : ℕ) (row : Row) → stepBy read mode st s ≡ took used row st′
+      → (0 < used) × (used ≤ length s) × (read s st′ ≡ P.Prefix used (itemRow st′ (take used s))) × (marked (guessMark mode st′) (itemRow st′ (take used s)) ≡ row)
+  step-taken st st′ s used row e =
+      let i = step-item read mode st st′ s used row e in
+      let t = fair .takes s st′ used (i .0) (i .1) in
+      (t .0, t .1, i .1 ∙ ap (P.Prefix used) (t .2), ap (marked (guessMark mode st′)) (sym (t .2)) ∙ i .2)
+
   pub sound-by : Sound (stepBy read mode)
   sound-by = record {
-    takes = λ st st′ s used row e. (let t = fair .takes s st′ used row (step-item read mode st st′ s used row e) in (t .0, t .1));
+    takes = λ st st′ s used row e. (let t = step-taken st st′ s used row e in (t .0, t .1));
     names = λ st s n e. fair .names s (formBy read mode st s) n (step-stop read mode st s n e) .0;
   }
 
@@ -110,8 +125,8 @@ pub light : (max : ℕ) (mode : AddPath) → Light (stepOf max mode) (λ _. 1) 1
 light max mode = light-by (upTo max) (fair max) mode
 
 -- whatever the setting, an item that is taken is one in the form that the step leaves
-pub step-took : (max : ℕ) (mode : AddPath) (st st′ : Form) (s : List ℕ) (used : ℕ) (row : Row) → stepOf max mode st s ≡ took used row st′ → Took s max st′ used row
-step-took max mode st st′ s used row e = prefix-took s max st′ used row (step-item (upTo max) mode st st′ s used row e)
+pub step-took : (max : ℕ) (mode : AddPath) (st st′ : Form) (s : List ℕ) (used : ℕ) (row : Row) → stepOf max mode st s ≡ took used row st′ → Took s max st′ used (itemRow st′ (take used s))
+step-took max mode st st′ s used row e = prefix-took s max st′ used _ (step-taken (upTo max) (fair max) mode st st′ s used row e .2)
 
 -- ---- an item and its size
 
@@ -131,16 +146,16 @@ size-refused (P.Refused m) n e = let p : n ≡ m = cc in ap P.Refused p
 
 -- ---- a step and its size
 
-sized-in : (form : Form) (a : PrefixAnswer) → kept (sizeOf a) form ≡ sized (asStep form a)
-sized-in form (P.Prefix used row) = refl
-sized-in form (P.Refused n) = refl
+sized-in : (mode : AddPath) (form : Form) (a : PrefixAnswer) → kept (sizeOf a) form ≡ sized (markedStep mode (asStep form a))
+sized-in mode form (P.Prefix used row) = refl
+sized-in mode form (P.Refused n) = refl
 
 -- the size of an item in the form that the setting chooses is that of the step
 pub size-step : (read : Reader) (mode : AddPath) (st form : Form) (s : List ℕ) (size : SizeAnswer) → size ≡ sizeOf (read s form) → formBy read mode st s ≡ form
     → kept size form ≡ sized (stepBy read mode st s)
 unfolding stepBy inForm
 size-step read mode st form s size e f =
-    ap (λ (z : SizeAnswer). kept z form) e ∙ sized-in form (read s form) ∙ ap (λ (g : Form). sized (asStep g (read s g))) (sym f)
+    ap (λ (z : SizeAnswer). kept z form) e ∙ sized-in mode form (read s form) ∙ ap (λ (g : Form). sized (markedStep mode (asStep g (read s g)))) (sym f)
 
 -- in Plain, a byte that is not read without id is 0
 pub plain-zero : (b : ℕ) → plainHere Plain b ≡ false → b ≡ 0
@@ -188,24 +203,31 @@ fixed-form read Tagged st s = refl
 pub size-fixed : (read : Reader) (form : Form) (s : List ℕ) (size : SizeAnswer) → size ≡ sizeOf (read s form) → kept size form ≡ sized (stepBy read (fixed form) form s)
 size-fixed read form s size e = size-step read (fixed form) form form s size e (fixed-form read form form s)
 
+-- and has no mark
+pub no-mark : (form : Form) → 0 ≡ guessMark (fixed form) form
+no-mark Plain = refl
+no-mark Tagged = refl
+
 pub fixed-step : (read : Reader) (form st : Form) (s : List ℕ) → stepBy read (fixed form) st s ≡ asStep form (read s form)
 unfolding stepBy inForm
-fixed-step read form st s = ap (λ (f : Form). asStep f (read s f)) (fixed-form read form st s)
+fixed-step read form st s = ap (λ (f : Form). markedStep (fixed form) (asStep f (read s f))) (fixed-form read form st s) ∙ bare (read s form)
+  where
+    bare : (a : PrefixAnswer) → markedStep (fixed form) (asStep form a) ≡ asStep form a
+    bare (P.Prefix used row) = ap (λ (r : Row). took used r form) (ap (λ (n : ℕ). marked n row) (sym (no-mark form)) ∙ marked-none row)
+    bare (P.Refused n) = refl
 
 -- so that its walk may as well start in that form
 pub list-fixed : (read : Reader) (s : List ℕ) (form : Form) → listBy read s (fixed form) ≡ readAll (stepBy read (fixed form)) form s
-unfolding listBy stepBy
+unfolding listBy
 list-fixed read s form =
-    all-blind (λ st t. inForm read (formBy read (fixed form) st t) t)
-    (λ st st′ t. ap (λ (f : Form). inForm read f t) (fixed-form read form st t ∙ sym (fixed-form read form st′ t)))
-    Plain form s
+    all-blind (stepBy read (fixed form)) (λ st st′ t. fixed-step read form st t ∙ sym (fixed-step read form st′ t)) Plain form s
 
 pub hosts-fixed : (read : Reader) (s : List ℕ) (form : Form) → hostsBy read s (fixed form) ≡ tally flag (notes hostBits (stepBy read (fixed form)) form s)
-unfolding hostsBy notes stepBy
+unfolding hostsBy notes
 hosts-fixed read s form =
     ap (λ (r : Reading Bool). tally flag (r .rows))
-    (all-blind (λ st t. noted hostBits t (inForm read (formBy read (fixed form) st t) t))
-    (λ st st′ t. ap (λ (f : Form). noted hostBits t (inForm read f t)) (fixed-form read form st t ∙ sym (fixed-form read form st′ t)))
+    (all-blind (λ st t. noted hostBits t (stepBy read (fixed form) st t))
+    (λ st st′ t. ap (noted hostBits t) (fixed-step read form st t ∙ sym (fixed-step read form st′ t)))
     Plain form s)
 
 -- ---- a list's answers, over any reading
@@ -339,10 +361,10 @@ module _ (s : List ℕ) (r : Reading Row) where
 
 module _ (read : Reader) (s : List ℕ) (mode : AddPath) (st : Form) (r : StepAnswer) (e : r ≡ sized (stepBy read mode st s)) where
   -- the item that it takes, with its row
-  pub turn-took : Fair read → (used : ℕ) (form : Form) → r ≡ S.Item used form → stepBy read mode st s ≡ took used (itemRow form (take used s)) form
+  pub turn-took : Fair read → (used : ℕ) (form : Form) → r ≡ S.Item used form → stepBy read mode st s ≡ took used (marked (guessMark mode form) (itemRow form (take used s))) form
   turn-took fair used form f =
       let u = unsize (stepBy read mode st s) used form (sym e ∙ f) in
-      u .1 ∙ ap (λ (row : Row). took used row form) (fair .takes s form used (u .0) (step-item read mode st form s used (u .0) (u .1)) .2)
+      u .1 ∙ ap (λ (row : Row). took used row form) (sym (step-taken read fair mode st form s used (u .0) (u .1) .3))
 
   -- its refusal
   pub turn-refused : (n : ℕ) → r ≡ S.Refused n → stepBy read mode st s ≡ stop n

@@ -21,7 +21,7 @@ use Rattle.families.specs.declared.AddPath.{AddPath}
 use Rattle.families.proofs.FamilyLaws.{max-small}
 use Rattle.families.proofs.OctetLaws.{entry-in, entry-out, octets-few}
 use Rattle.routes.specs.Prefix.{itemEnd, itemRow, prefixOf}
-use Rattle.routes.specs.List.{Reader, upTo, asStep, inForm, formBy, stepBy, stepOf, listBy, listOf, sectionBy, sectionOf}
+use Rattle.routes.specs.List.{Reader, upTo, asStep, inForm, markedStep, formBy, stepBy, stepOf, listBy, listOf, sectionBy, sectionOf}
 use Rattle.routes.specs.Promises.{countList, countSection}
 use Rattle.routes.specs.ByTable.{endBy, byTable}
 use Rattle.routes.specs.declared.Row.{Row}
@@ -69,7 +69,7 @@ module _ (counts s : List ℕ) (form : Form) where
 -- no step takes anything where nothing is left
 pub step-none : (counts : List ℕ) (mode : AddPath) (st : Form) (s : List ℕ) → length s ≤ 0 → stepBy (byTable counts) mode st s ≡ stop truncated
 unfolding stepBy inForm
-step-none counts mode st s none = let form : Form = formBy (byTable counts) mode st s in ap (asStep form) (table-none counts s form (omega (arith, none)))
+step-none counts mode st s none = let form : Form = formBy (byTable counts) mode st s in ap (λ (a : PrefixAnswer). markedStep mode (asStep form a)) (table-none counts s form (omega (arith, none)))
 
 -- an item that is taken ends where the table says
 pub table-size : (counts s : List ℕ) (form : Form) (used : ℕ) (row : Row) → byTable counts s form ≡ Prefix used row → used ≡ endBy counts form s

@@ -1,6 +1,6 @@
 -- A list of routes: items to the end of the bytes, under each Add-Path setting; and a section of an UPDATE. Over any way to read one item: the RFC's is
 -- `upTo` a length.
-use Prim.Native.Nat.{ℕ}
+use Prim.Native.Nat.{ℕ, _+_}
 use mathlib.Core.List.{List, [], _∷_}
 use mathlib.Core.Bool.{Bool, false, not}
 use lib.ListN.{getD}
@@ -10,6 +10,7 @@ use Rattle.wire.specs.Choice.{pick}
 use Rattle.wire.specs.Refusal.{oneByteSection}
 use Rattle.wire.specs.Walk.{Step, took, stop, Reading, refused, readAll, notes, tally}
 use Rattle.routes.specs.Prefix.{prefixOf, hostBits}
+use Rattle.families.specs.Family.{guessMark}
 use Rattle.families.specs.declared.Form.{Form}
 use Rattle.families.specs.declared.Form.the-variants.{Plain, Tagged}
 use Rattle.families.specs.declared.AddPath.{AddPath}
@@ -60,8 +61,17 @@ abbrev pub fixed : Form → AddPath
 fixed Plain = Off
 fixed Tagged = On
 
+-- a row with a mark added to its first word
+abbrev pub marked : ℕ → Row → Row
+marked mark r = record { first = r .first + mark; id = r .id; w0 = r .w0; w1 = r .w1; w2 = r .w2; w3 = r .w3 }
+
+-- a step whose row has the mark of the form that its item was taken in
+abbrev pub markedStep : AddPath → Step Form Row → Step Form Row
+markedStep mode (took used row form) = took used (marked (guessMark mode form) row) form
+markedStep mode (stop n) = stop n
+
 unfoldable pub stepBy : Reader → AddPath → Form → List ℕ → Step Form Row
-stepBy read mode st s = inForm read (formBy read mode st s) s
+stepBy read mode st s = markedStep mode (inForm read (formBy read mode st s) s)
 
 abbrev pub stepOf : ℕ → AddPath → Form → List ℕ → Step Form Row
 stepOf max = stepBy (upTo max)

@@ -1,5 +1,5 @@
 -- What the calls on a step, a list or a section answer and leave, from the bytes and from the reading of them that `List` defines.
-use Prim.Native.Nat.{ℕ, _/_, _%_}
+use Prim.Native.Nat.{ℕ, _+_, _/_, _%_}
 use mathlib.Core.List.{List, [], _∷_}
 use mathlib.Core.Bool.{Bool, true}
 use lib.ListN.{length}
@@ -8,7 +8,7 @@ use Rattle.wire.specs.Answer.{Answer, given, refusal, numberIn, valueIn, filled
 use Rattle.wire.specs.Choice.{pick}
 use Rattle.wire.specs.Refusal.{tooLong, noRoom, listLimit}
 use Rattle.wire.specs.Walk.{Step, took, stop, Reading, flat}
-use Rattle.families.specs.Family.{markOf}
+use Rattle.families.specs.Family.{markOf, guessMark}
 use Rattle.families.specs.declared.Form.{Form}
 use Rattle.families.specs.declared.AddPath.{AddPath}
 use Rattle.routes.specs.Prefix.{words}
@@ -27,10 +27,10 @@ abbrev pub sized : Step Form Row → StepAnswer
 sized (took used row form) = S.Item used form
 sized (stop n) = S.Refused n
 
--- as document 01 has it: the bytes that the item takes, and what its form adds to a row's first word
-abbrev pub stepMeaning : StepAnswer → Answer
-stepMeaning (S.Item used form) = given (used ∷ markOf form ∷ [])
-stepMeaning (S.Refused n) = refusal n
+-- as documents 01 and 02 have it: the bytes that the item takes, and what its form adds to a row's first word
+abbrev pub stepMeaning : AddPath → StepAnswer → Answer
+stepMeaning mode (S.Item used form) = given (used ∷ (markOf form + guessMark mode form) ∷ [])
+stepMeaning mode (S.Refused n) = refusal n
 
 -- ---- a list or a section
 

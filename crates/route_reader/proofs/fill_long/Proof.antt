@@ -10,7 +10,7 @@ use Rattle.families.proofs.FamilyLaws.{id-small}
 use Rattle.families.specs.declared.Afi.the-variants.{Ipv6}
 use Rattle.routes.specs.Prefix.{words}
 use Rattle.routes.specs.List.{upTo, fixed}
-use Rattle.routes.proofs.ListLaws.{list-fixed}
+use Rattle.routes.proofs.ListLaws.{no-mark, list-fixed}
 use Rattle.routes.specs.declared.Row.{Row}
 use Rattle.route_reader.proofs.FillLaws.{Held, Turn, held-start, held-done, fitting-form, front-there, turn-form}
 use borrow.Author.Needs.{needs}
@@ -83,7 +83,7 @@ part-put-head-end : tie.Need-part-put-head-end Inv-loop μ-loop
 part-put-head-end c = search needs
 
 put-head-requires : tie.Need-put-head-requires Inv-loop μ-loop
-put-head-requires c κs = let i = item (c .before .before) in (omega (arith, i .room), i .front)
+put-head-requires c κs = let i = item (c .before .before) in ((omega (arith, i .room), omega arith), i .front)
 
 add-rest : tie.Need-add-rest Inv-loop μ-loop
 add-rest c = omega (arith, item (c .before .before .before .before .before) .inside, there (c .before .before .before .before .before .before .before .before))
@@ -104,7 +104,7 @@ slice-aggregate-put-long : tie.Need-slice-aggregate-put-long Inv-loop μ-loop
 slice-aggregate-put-long c = refl
 
 put-long-requires : tie.Need-put-long-requires Inv-loop μ-loop
-put-long-requires c κs = (item (c .before .before .before .before .before .before .before .before) .more _ (c .before .before .before .before .before .put-head .ensures), (item (c .before .before .before .before .before .before .before .before) .leaves .spot 16 (omega arith), refl))
+put-long-requires c κs = (item (c .before .before .before .before .before .before .before .before) .more _ _ (c .before .before .before .before .before .put-head .ensures), (item (c .before .before .before .before .before .before .before .before) .leaves .spot 16 (omega arith), refl))
 
 add-to : tie.Need-add-to Inv-loop μ-loop
 add-to c = omega (arith, item (c .before .before .before .before .before .before .before .before .before .before .before) .room)
@@ -113,7 +113,9 @@ loop-less : tie.Need-loop-less Inv-loop μ-loop
 loop-less c = item (c .before .before .before .before .before .before .before .before .before .before .before) .leaves .less
 
 loop-again : tie.Need-loop-again Inv-loop μ-loop
-loop-again c = item (c .before .before .before .before .before .before .before .before .before .before .before) .leaves .next _ _ (c .before .before .before .before .before .before .before .before .put-head .ensures) (c .before .before .put-long .ensures)
+loop-again c =
+    let k = c .before .before .before .before .before .before .before .before .before .before .before in
+    item k .leaves .next 0 (no-mark (k .before .before .before .before .before .before .before .before .args .form)) _ _ (c .before .before .before .before .before .before .before .before .put-head .ensures) (c .before .before .put-long .ensures)
 
 same-length : tie.Need-same-length Inv-loop μ-loop
 same-length c = c .before .loop .inv .filled .long

@@ -4,6 +4,7 @@ use mathlib.Core.Path.{_≡_, refl, sym, ap}
 use native.Mathlib.Omega.{arith}
 use lib.ListN.{length}
 use Rattle.families.specs.Family.{maxOf, idSize}
+use Rattle.families.proofs.FamilyLaws.{guess-mark-small}
 use Rattle.families.specs.declared.Afi.the-variants.{Ipv4}
 use Rattle.families.specs.declared.AddPath.the-variants.{Guess}
 use Rattle.families.specs.declared.Form.{Form}
@@ -58,28 +59,34 @@ part-put-head-start c = search needs
 part-put-head-end : tie.Need-part-put-head-end Inv-loop μ-loop
 part-put-head-end c = search needs
 
+guess-mark-requires : tie.Need-guess-mark-requires Inv-loop μ-loop
+guess-mark-requires c κs = search needs
+
 put-head-requires : tie.Need-put-head-requires Inv-loop μ-loop
-put-head-requires c κs = let i = item (c .before .before) in (omega (arith, i .room), i .front)
+put-head-requires c κs =
+    let i = item (c .before .before .before) in
+    let small : c .guess-mark .result ≤ 512 = rw (c .guess-mark .ensures) (guess-mark-small Guess (c .before .before .before .before .used .given .0 .1 .0)) in
+    ((omega (arith, i .room), small), i .front)
 
 enum-told : tie.Need-enum-told Inv-loop μ-loop
 enum-told c = search needs
 
 -- in each form: it has the bytes before its octets, and is there
 plain : (c : tie.After-enum-told Inv-loop μ-loop) →
-    let k = c .before .before .before .before .before .before .before in
+    let k = c .before .before .before .before .before .before .before .before in
     let l = k .before .before .before .before .before in
     (1 ≤ k .before .used .given .0 .0) × (l .loop .n + k .before .used .given .0 .0 ≤ length (l .loop .rest .now)) × (length (l .loop .rest .now) ≤ length (l .before .before .before .args .s .now))
 plain c =
-    let t = turn (c .before .before .before .before .before .before .before) 1 (sym (ap (λ (form : Form). idSize form + 1) (c .enum-told .given .1))) in
-    (t .0, omega (arith, t .0, t .1 .inside), c .before .before .before .before .before .before .before .before .before .before .before .before .loop .inv .behind .part)
+    let t = turn (c .before .before .before .before .before .before .before .before) 1 (sym (ap (λ (form : Form). idSize form + 1) (c .enum-told .given .1))) in
+    (t .0, omega (arith, t .0, t .1 .inside), c .before .before .before .before .before .before .before .before .before .before .before .before .before .loop .inv .behind .part)
 
 tagged : (c : tie.After-enum-told2 Inv-loop μ-loop) →
-    let k = c .before .before .before .before .before .before .before in
+    let k = c .before .before .before .before .before .before .before .before in
     let l = k .before .before .before .before .before in
     (5 ≤ k .before .used .given .0 .0) × (l .loop .n + k .before .used .given .0 .0 ≤ length (l .loop .rest .now)) × (length (l .loop .rest .now) ≤ length (l .before .before .before .args .s .now))
 tagged c =
-    let t = turn (c .before .before .before .before .before .before .before) 5 (sym (ap (λ (form : Form). idSize form + 1) (c .enum-told2 .given .1))) in
-    (t .0, omega (arith, t .0, t .1 .inside), c .before .before .before .before .before .before .before .before .before .before .before .before .loop .inv .behind .part)
+    let t = turn (c .before .before .before .before .before .before .before .before) 5 (sym (ap (λ (form : Form). idSize form + 1) (c .enum-told2 .given .1))) in
+    (t .0, omega (arith, t .0, t .1 .inside), c .before .before .before .before .before .before .before .before .before .before .before .before .before .loop .inv .behind .part)
 
 add-rest : tie.Need-add-rest Inv-loop μ-loop
 add-rest c = omega (arith, plain c)
@@ -116,30 +123,30 @@ sub-n-2 c = tagged (c .before) .0
 
 -- what it leaves, in whichever form
 leaves : (c : tie.At-match2-came Inv-loop μ-loop) →
-    let k = c .before .before .before .before .before .before in
+    let k = c .before .before .before .before .before .before .before in
     let l = k .before .before .before .before .before in
     let a = l .before .before .before .args in
     Left (maxOf Ipv4) Guess Plain (a .s .now) (a .store .now) (l .loop .rest .now) (l .loop .n) (l .loop .to) (l .loop .store) (k .before .used .given .0 .1 .0) (c .match2 .rest .now) (c .match2 .n)
 leaves c =
     ⊎-elim
-    (λ w. rw (w .3, w .4) (turn (c .before .before .before .before .before .before) 1 (sym (ap (λ (form : Form). idSize form + 1) (w .1 .given .1))) .1 .leaves))
-    (λ w. rw (w .3, w .4) (turn (c .before .before .before .before .before .before) 5 (sym (ap (λ (form : Form). idSize form + 1) (w .1 .given .1))) .1 .leaves))
+    (λ w. rw (w .3, w .4) (turn (c .before .before .before .before .before .before .before) 1 (sym (ap (λ (form : Form). idSize form + 1) (w .1 .given .1))) .1 .leaves))
+    (λ w. rw (w .3, w .4) (turn (c .before .before .before .before .before .before .before) 5 (sym (ap (λ (form : Form). idSize form + 1) (w .1 .given .1))) .1 .leaves))
     (c .match2 .came)
 
 add-put-short : tie.Need-add-put-short Inv-loop μ-loop
-add-put-short c = omega (arith, item (c .before .before .before .before .before .before .before) .room)
+add-put-short c = omega (arith, item (c .before .before .before .before .before .before .before .before) .room)
 
 put-short-requires : tie.Need-put-short-requires Inv-loop μ-loop
-put-short-requires c κs = (item (c .before .before .before .before .before .before .before) .more _ (c .before .before .before .before .put-head .ensures), leaves (c .before) .spot 4 (omega arith))
+put-short-requires c κs = (item (c .before .before .before .before .before .before .before .before) .more _ _ (c .before .before .before .before .put-head .ensures), leaves (c .before) .spot 4 (omega arith))
 
 add-to : tie.Need-add-to Inv-loop μ-loop
-add-to c = omega (arith, item (c .before .before .before .before .before .before .before .before .before .before) .room)
+add-to c = omega (arith, item (c .before .before .before .before .before .before .before .before .before .before .before) .room)
 
 loop-less : tie.Need-loop-less Inv-loop μ-loop
 loop-less c = leaves (c .before .before .before .before) .less
 
 loop-again : tie.Need-loop-again Inv-loop μ-loop
-loop-again c = leaves (c .before .before .before .before) .next _ _ (c .before .before .before .before .before .before .before .put-head .ensures) (c .before .before .put-short .ensures)
+loop-again c = leaves (c .before .before .before .before) .next _ (c .before .before .before .before .before .before .before .before .guess-mark .ensures) _ _ (c .before .before .before .before .before .before .before .put-head .ensures) (c .before .before .put-short .ensures)
 
 enum-told-3 : tie.Need-enum-told-3 Inv-loop μ-loop
 enum-told-3 c = search needs
@@ -176,6 +183,7 @@ guess-short-spec =
     sub-put-head
     part-put-head-start
     part-put-head-end
+    guess-mark-requires
     put-head-requires
     enum-told
     add-rest
