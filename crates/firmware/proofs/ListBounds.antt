@@ -11,15 +11,17 @@ use Rattle.wire.proofs.ChoiceLaws.{pick-any, pick-leb}
 use Rattle.wire.specs.Refusal.{tooLong, truncated, prefixLength, oneByteSection, noRoom, listLimit}
 use Rattle.wire.proofs.Turn.{tally-few}
 use Rattle.wire.specs.Walk as Walk
-use Rattle.wire.specs.Walk.{stop, Reading, readAll}
+use Rattle.wire.specs.Walk.{Reading, readAll}
 use Rattle.wire.proofs.WalkLaws.{all-ind, tally-one}
+use Rattle.routes.specs.Prefix.{prefixOf}
 use Rattle.routes.proofs.PrefixLaws.{prefix-cases}
-use Rattle.routes.specs.List.{upTo, asStep, inForm, formBy, stepBy, stepOf, listBy, listOf, hostsOf, sectionBy, sectionOf, strange}
-use Rattle.routes.proofs.ListLaws.{fair, sound, light, beside-rows, beside-verdict, counted-hosts}
+use Rattle.routes.specs.List.{upTo, formBy, stepOf, listBy, listOf, hostsOf, sectionBy, sectionOf, strange}
+use Rattle.routes.proofs.ListLaws.{fair, sound, light, step-stop, beside-rows, beside-verdict, counted-hosts}
 use Rattle.families.specs.declared.Form.{Form}
 use Rattle.families.specs.declared.Form.the-variants.{Plain}
 use Rattle.families.specs.declared.AddPath.{AddPath}
 use Rattle.routes.specs.declared.Row.{Row}
+use Rattle.routes.specs.declared.PrefixAnswer.the-variants as P
 use Rattle.routes.specs.declared.ListAnswer.{ListAnswer}
 use Rattle.routes.specs.declared.ListAnswer.the-variants as L
 use Rattle.routes.specs.declared.RoutesAnswer.{RoutesAnswer}
@@ -30,10 +32,9 @@ use Rattle.words.specs.Word.{inFields, Narrow}
 use Rattle.words.proofs.WordLaws.{refused-narrow, number-narrow}
 
 -- an item is refused with 2 or 7
-item-low : (max : ℕ) (form : Form) (s : List ℕ) (n : ℕ) → inForm (upTo max) form s ≡ stop n → n < 256
-unfolding inForm
+item-low : (max : ℕ) (form : Form) (s : List ℕ) (n : ℕ) → prefixOf s max form ≡ P.Refused n → n < 256
 item-low max form s n =
-    prefix-cases s max form (λ a. asStep form a ≡ stop n → n < 256)
+    prefix-cases s max form (λ a. a ≡ P.Refused n → n < 256)
     (λ e. let same : truncated ≡ n = cc in omega arith)
     (λ e. let same : prefixLength ≡ n = cc in omega arith)
     (λ u r t e. let z : _≡_ {A = ℕ} 0 1 = cc in absurd (omega arith))
@@ -44,13 +45,13 @@ pub record Modest (s : List ℕ) (r : Reading Row) : Type 0 where
   pub low : r .verdict < 256
 
 list-modest : (s : List ℕ) (max : ℕ) (mode : AddPath) → Modest s (listOf s max mode)
-unfolding listBy stepBy
+unfolding listBy
 list-modest s max mode = record {
   few = omega (arith, tally-one (readAll (stepOf max mode) Plain s .rows), tally-few (stepOf max mode) (sound max mode) (λ _. 1) (light max mode) Plain s);
   low =
       all-ind (stepOf max mode) (sound max mode) (λ st t r. r .verdict < 256)
       (λ st. omega arith)
-      (λ st t n _ e. item-low max (formBy (upTo max) mode st t) t n e)
+      (λ st t n _ e. item-low max (formBy (upTo max) mode st t) t n (step-stop (upTo max) mode st t n e))
       (λ st st′ t used row _ e low. low)
       Plain s;
 }

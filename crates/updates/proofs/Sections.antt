@@ -10,13 +10,13 @@ use lib.Seq.{drop-drop, take-all, length-take-le}
 use borrow.Author.Tests.{le-leb}
 use Rattle.wire.proofs.ChoiceLaws.{pick-any}
 use Rattle.wire.specs.Refusal.{truncated, prefixLength, oneByteSection, noRoom, listLimit}
-use Rattle.wire.specs.Walk.{stop, Reading, refused}
+use Rattle.wire.specs.Walk.{Reading, refused}
 use Rattle.wire.proofs.WalkLaws.{all-ind}
 use Rattle.families.specs.Family.{maxOf}
 use Rattle.routes.specs.Prefix.{prefixOf}
 use Rattle.routes.proofs.PrefixLaws.{prefix-cases}
-use Rattle.routes.specs.List.{upTo, asStep, inForm, formBy, stepBy, stepOf, listBy, listOf, hostsOf, strange, sectionBy, sectionOf}
-use Rattle.routes.proofs.ListLaws.{fair, sound, beside-verdict, counted-hosts}
+use Rattle.routes.specs.List.{upTo, formBy, stepOf, listBy, listOf, hostsOf, strange, sectionBy, sectionOf}
+use Rattle.routes.proofs.ListLaws.{fair, sound, step-stop, beside-verdict, counted-hosts}
 use Rattle.wire.specs.Answer.{numberIn, answerBy}
 use Rattle.routes.specs.Promises.{listMeaning, hostsIn, verdictIn, countAnswer, hasRoom}
 use Rattle.routes.specs.declared.ListAnswer.the-variants as L
@@ -29,7 +29,6 @@ use Rattle.families.specs.declared.Form.the-variants.{Plain}
 use Rattle.families.specs.declared.AddPath.{AddPath}
 use Rattle.routes.specs.declared.Row.{Row}
 use Rattle.routes.specs.declared.RoutesAnswer.{RoutesAnswer}
-use Rattle.routes.specs.declared.PrefixAnswer.{PrefixAnswer}
 use Rattle.routes.specs.declared.PrefixAnswer.the-variants as P
 use Rattle.updates.specs.Body.{lengthSize, partsOf, withdrawnOf, attributesOf, announcedOf}
 use Rattle.updates.proofs.BodyLaws.{parts-add-up}
@@ -104,16 +103,12 @@ module _ (max : ℕ) (mode : AddPath) where
       (λ e. let same : prefixLength ≡ n = cc in subst ListVerdict same long)
       (λ _ _ _ e. never (let z : _≡_ {A = ℕ} 0 1 = cc in z))
 
-  stop-verdict : (s : List ℕ) (form : Form) (a : PrefixAnswer) (n : ℕ) → prefixOf s max form ≡ a → asStep form a ≡ stop n → ListVerdict n
-  stop-verdict s form (P.Prefix used row) n e f = never (let z : _≡_ {A = ℕ} 0 1 = cc in z)
-  stop-verdict s form (P.Refused m) n e f = let same : m ≡ n = cc in prefix-verdict s form n (e ∙ ap P.Refused same)
-
   list-verdict : (s : List ℕ) → ListVerdict (listOf s max mode .verdict)
-  unfolding listBy stepBy inForm
+  unfolding listBy
   list-verdict s =
       all-ind (stepOf max mode) (sound max mode) (λ st t r. ListVerdict (r .verdict))
       (λ st. good)
-      (λ st t n pos e. stop-verdict t (formBy (upTo max) mode st t) _ n refl e)
+      (λ st t n pos e. prefix-verdict t (formBy (upTo max) mode st t) n (step-stop (upTo max) mode st t n e))
       (λ st st′ t used row pos e h. h)
       Plain s
 
