@@ -1,2 +1,3 @@
 pub mod ClearLaws
+pub mod MarkLaws
 pub mod Tight
