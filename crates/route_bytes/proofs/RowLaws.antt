@@ -1,6 +1,6 @@
 -- A route's bytes and its row stand for each other; and a store that can be written is the words of its rows.
 -- Assumes nothing.
-use Prim.Native.Nat.{ℕ, zero, suc, _+_, _-_, _^_, _≤_, _<_}
+use Prim.Native.Nat.{ℕ, zero, suc, _+_, _-_, _*_, _^_, _/_, _%_, _≤_, _<_}
 use mathlib.Core.Path.{_≡_, refl, sym, ap, ap₂, _∙_}
 use mathlib.Core.List.{List, [], _∷_, _++_}
 use mathlib.Core.Bool.{true}
@@ -12,19 +12,21 @@ use lib.Dec.{eqb}
 use lib.Seq.{take-length, length-take-le, take-at, drop-at, getD-at, getD-drop, drop-drop, take-append-seam, drop-append-seam}
 use Rattle.wire.specs.Cutting.{Each, none, one}
 use Rattle.wire.specs.Number.{be, toBe, padded, beAt, Bytes, Words}
-use Rattle.wire.specs.Walk.{took, more, readAll, flat}
+use Rattle.wire.specs.Refusal.{notWritable}
+use Rattle.wire.specs.Walk.{Step, took, stop, Reading, more, readAll, flat}
 use Rattle.wire.proofs.ChoiceLaws.{and-true}
 use Rattle.wire.proofs.CuttingLaws.{Stands}
 use Rattle.wire.proofs.NumberLaws.{be-lt, toBe-be, be-toBe, length-toBe, bytes-drop, bytes-take, bytes-padded, length-padded, padded-add, padded-all, padded-of-take, padded-take, padded-cells}
-use Rattle.wire.proofs.WalkLaws.{all-nil, all-took, all-ind}
-use Rattle.families.specs.Family.{idSize, markOf, octets}
+use Rattle.wire.proofs.WalkLaws.{all-nil, all-stop, all-took, all-ind}
+use Rattle.families.specs.Family.{idSize, markOf, guessed, octets}
+use Rattle.families.proofs.FamilyLaws.{mark-small}
 use Rattle.families.specs.declared.Form.{Form}
 use Rattle.families.specs.declared.Form.the-variants.{Plain, Tagged}
 use Rattle.routes.specs.Prefix.{wordAt, rowOf, itemRow, words}
 use Rattle.routes.specs.WellFormed.{WellFormed}
 use Rattle.routes.specs.declared.Row.{Row}
-use Rattle.route_bytes.specs.Encode.{fourWords, address, lengthOf, rowBytes, allZero, idFits, frontRow, writeStep}
-use Rattle.route_bytes.proofs.EncodeLaws.{WritableRow, address-length, write-took, took-write, write-sound}
+use Rattle.route_bytes.specs.Encode.{fourWords, address, lengthOf, rowBytes, allZero, idFits, frontRow, writeStep, writing}
+use Rattle.route_bytes.proofs.EncodeLaws.{WritableRow, address-length, write-took, took-write, write-stop, write-sound}
 
 -- ---- octets that are 0
 
@@ -257,3 +259,36 @@ store-rows max form ws =
     let six : words row ≡ take used t = ap words (k .is) ∙ front-words t (k .there) ∙ ap (λ (n : ℕ). take n t) (sym (k .size)) in
     (one (good, wide) (more-of .0), ap₂ _++_ six (more-of .1) ∙ take-append-drop used t))
     tt ws
+
+-- ---- a row that has the mark of the guess
+
+module _ (max : ℕ) (form : Form) where
+  stopped : (ws : List ℕ) (n : ℕ) → 0 < length ws → writeStep max form tt ws ≡ stop n → writing ws max form .verdict ≡ notWritable
+  unfolding writing
+  stopped ws n pos e = ap (λ (r : Reading Row). r .verdict) (all-stop (writeStep max form) tt ws n pos e) ∙ write-stop max form tt ws n e
+
+  -- the first word of a row that can be written is a length, or that and 256
+  marked-first : max ≤ 128 → (ws : List ℕ) (x : Step (Unit {0}) Row) → writeStep max form tt ws ≡ x → 0 < length ws → getD ws 0 0 / guessed % 2 ≡ 1 → writing ws max form .verdict ≡ notWritable
+  unfolding frontRow
+  marked-first small ws (took used row st) e pos mark =
+      let good = write-took max form tt st ws used row e .good in
+      let fits : getD ws 0 0 - markOf form ≤ max = good .fits in
+      absurd (omega (arith, small, fits, mark-small form, mark))
+  marked-first small ws (stop n) e pos mark = stopped ws n pos e
+
+  marked-later : (ws : List ℕ) (x : Step (Unit {0}) Row) → writeStep max form tt ws ≡ x → 0 < length ws → writing (drop 6 ws) max form .verdict ≡ notWritable → writing ws max form .verdict ≡ notWritable
+  unfolding writing
+  marked-later ws (took used row st) e pos rest =
+      let six = write-took max form tt st ws used row e .size in
+      ap (λ (r : Reading Row). r .verdict) (all-took (writeStep max form) tt st ws used row pos (omega (arith, six)) e)
+      ∙ ap (λ (n : ℕ). readAll (writeStep max form) tt (drop n ws) .verdict) six
+      ∙ rest
+  marked-later ws (stop n) e pos rest = stopped ws n pos e
+
+  -- so a store that has the mark on any of its rows is not written
+  pub marked-stops : max ≤ 128 → (i : ℕ) (ws : List ℕ) → 6 * i < length ws → getD ws (6 * i) 0 / guessed % 2 ≡ 1 → writing ws max form .verdict ≡ notWritable
+  marked-stops small zero ws lt mark = marked-first small ws (writeStep max form tt ws) refl lt mark
+  marked-stops small (suc i) ws lt mark =
+      let place : 6 + 6 * i ≡ 6 * suc i = omega arith in
+      let there : getD (drop 6 ws) (6 * i) 0 ≡ getD ws (6 * suc i) 0 = getD-drop 6 ws (6 * i) 0 ∙ ap (λ (k : ℕ). getD ws k 0) place in
+      marked-later ws (writeStep max form tt ws) refl (omega arith) (marked-stops small i (drop 6 ws) (omega (arith, length-drop 6 ws)) (ap (λ (w : ℕ). w / guessed % 2) there ∙ mark))

@@ -1,10 +1,8 @@
 -- What reading and writing lists of routes are, in terms of bytes alone, over the definitions: what the demand of the calls cites.
 -- Assumes nothing.
 use Prim.Native.Nat.{ℕ, _+_, _*_, _/_, _≤_}
-use mathlib.Core.Path.{_≡_, refl, sym, ap, ap₂, subst, _∙_}
+use mathlib.Core.Path.{_≡_, sym, ap, ap₂, subst, _∙_}
 use mathlib.Core.List.{List, map}
-use native.Mathlib.Nat.{lt-of-not-le}
-use native.Mathlib.Decide.{decLe}
 use native.Mathlib.Omega.{arith}
 use lib.ListN.{length, take, length-map}
 use Rattle.wire.specs.Number.{Words}
@@ -26,42 +24,15 @@ use Rattle.routes.specs.List.{upTo, fixed, stepOf, listBy, listOf, hostsBy, hos
 use Rattle.routes.specs.Prefix.{itemRow, words}
 use Rattle.routes.specs.Promises.{countAnswer, readAnswer, storeAfter}
 use Rattle.routes.specs.WellFormed.{WellFormed, NoZeroFirst}
-use Rattle.routes.specs.declared.ListAnswer.{ListAnswer}
-use Rattle.routes.specs.declared.ListAnswer.the-variants.{Rows, Refused}
+use Rattle.routes.specs.declared.ListAnswer.the-variants.{Rows}
 use Rattle.routes.specs.declared.Row.{Row}
 use Rattle.routes.proofs.CuttingLaws.{decides, guess-same, cut-not-strange}
-use Rattle.routes.proofs.ListLaws.{words-length, count-long, count-good, count-rows, leave-refused, leave-full, leave-rows, section-list, section-counted}
+use Rattle.routes.proofs.ListLaws.{words-length, count-good, count-rows, count-short, read-rows, read-stored, leave-rows, section-list, section-counted}
 use Rattle.route_bytes.specs.Encode.{rowBytes, writing, bytesOf}
 use Rattle.route_bytes.proofs.PromiseLaws.{measured-good}
 use Rattle.route_bytes.proofs.RowLaws.{GoodRow, stands, rows-write, store-rows}
 use Rattle.route_writer.specs.Promises.{writeAnswer, outAfter}
 use Rattle.route_writer.proofs.PromiseLaws.{leave-bytes, written-bytes}
-
--- ---- what an answer of rows says
-
-module _ (s : List ℕ) (r : Reading Row) where
-  -- the list keeps the limit
-  count-short : (n : ℕ) → countAnswer s r ≡ Rows n → length s ≤ listLimit
-  count-short n e =
-      elim (decLe (length s) listLimit) [
-        | yes h ↦ h
-        | no gt ↦ let f = count-long s r (lt-of-not-le gt) in let z : _≡_ {A = ℕ} 0 1 = cc in absurd (omega arith)
-      ]
-
-  -- and the store had room
-  read-rows : (d : List ℕ) (n : ℕ) → readAnswer s r (length d) ≡ Rows n → (countAnswer s r ≡ Rows n) × (n ≤ length d / 6)
-  read-rows d n e = by (countAnswer s r) refl
-    where
-      by : (a : ListAnswer) → countAnswer s r ≡ a → (countAnswer s r ≡ Rows n) × (n ≤ length d / 6)
-      by (Rows m) f =
-          elim (decLe m (length d / 6)) [
-            | yes le ↦
-                let same : Rows m ≡ Rows n = leave-rows s r d m f le .0 ∙ e in
-                let k : m ≡ n = cc in
-                (f ∙ same, omega arith)
-            | no gt ↦ let no : Refused _ ≡ Rows n = leave-full s r d m f (lt-of-not-le gt) .0 ∙ e in let z : _≡_ {A = ℕ} 0 1 = cc in absurd (omega arith)
-          ]
-      by (Refused m) f = let no : Refused m ≡ Rows n = leave-refused s r d m f .0 ∙ e in let z : _≡_ {A = ℕ} 0 1 = cc in absurd (omega arith)
 
 -- ---- a reading whose rows are those of a cutting
 
@@ -113,7 +84,7 @@ module _ {max : ℕ} {form : Form} {s : List ℕ} {r : Reading Row} (reads : Rea
     module _ (n : ℕ) (e : readAnswer s r (length d) ≡ Rows n) where
       pub accepted-cut : (items : List (List ℕ)) × Cutting (WellFormed max form) s items × (length items ≡ n) × (length s ≤ listLimit) × (n ≤ length d / 6)
       accepted-cut =
-          let h = read-rows s r d n e in
+          let h = read-rows s r n (length d) e in
           let c = counted-cut n (h .0) in
           (c .0, c .1, c .2, c .3, h .1)
 
@@ -121,19 +92,12 @@ module _ {max : ℕ} {form : Form} {s : List ℕ} {r : Reading Row} (reads : Rea
       pub rows-stored : (items : List (List ℕ)) → Cutting (WellFormed max form) s items
           → (n ≡ length items) × (storeAfter s r d ≡ laid d 0 (flat words (map (itemRow form) items)))
       rows-stored items c =
-          let h = read-rows s r d n e in (
-            sym (count-rows s r n (h .0) .1) ∙ rows-items items c,
-            sym (leave-rows s r d n (h .0) (h .1) .1) ∙ ap (λ (x : Reading Row). laid d 0 (flat words (x .rows))) (reads .read items c),
-          )
+          let h = read-stored s r d n e in
+          (sym (h .0) ∙ rows-items items c, h .1 ∙ ap (λ (x : Reading Row). laid d 0 (flat words (x .rows))) (reads .read items c))
 
       -- and its first words are theirs
       pub read-words : (items : List (List ℕ)) → Cutting (WellFormed max form) s items → take (6 * n) (storeAfter s r d) ≡ flat words (map (itemRow form) items)
-      read-words items c =
-          let vs : List ℕ = flat words (map (itemRow form) items) in
-          let h = rows-stored items c in
-          let size : length vs ≡ 6 * n = words-length (map (itemRow form) items) ∙ ap (λ (k : ℕ). 6 * k) (length-map items (itemRow form) ∙ sym (h .0)) in
-          let all : 6 * n ≡ 0 + length vs = omega arith in
-          ap₂ take all (h .1) ∙ take-laid d 0 vs (omega (arith, read-rows s r d n e .1))
+      read-words items c = read-stored s r d n e .2 ∙ ap (λ (x : Reading Row). flat words (x .rows)) (reads .read items c)
 
 -- two cuttings of the same bytes are equal
 pub one-cutting : (max : ℕ) (form : Form) (s : List ℕ) (items items′ : List (List ℕ)) → Cutting (WellFormed max form) s items → Cutting (WellFormed max form) s items′ → items ≡ items′
@@ -152,19 +116,26 @@ module _ (max : ℕ) (small : max ≤ 128) (form : Form) where
       let w : writing (flat words rows) max form ≡ record { rows = rows; verdict = 0 } = rows-write max form rows (h .0) in
       (ap (λ (x : Reading Row). x .verdict) w, ap (λ (x : Reading Row). flat (rowBytes form) (x .rows)) w ∙ h .2 ∙ c .whole)
 
+  -- into any output that has room
+  pub items-out : (s : List ℕ) (items : List (List ℕ)) → Number.Bytes s → Cutting (WellFormed max form) s items → length s ≤ listLimit → (out : List ℕ) → length s ≤ length out
+      → let ws = flat words (map (itemRow form) items) in (writeAnswer ws max form (length out) ≡ Bytes (length s)) × (outAfter ws max form out ≡ laid out 0 s)
+  unfolding bytesOf
+  items-out s items b c short out room =
+      let ws : List ℕ = flat words (map (itemRow form) items) in
+      let h = items-bytes s items b c in
+      let size = tally-flat (rowBytes form) (writing ws max form .rows) ∙ ap length (h .1) in
+      let l = leave-bytes ws max form out (length s) (measured-good ws max form (length s) (h .0, size)) short room in
+      (sym (l .0), sym (l .1) ∙ ap (laid out 0) (h .1))
+
   -- writing what was read, from the store that it was read into
   pub written-back : (s : List ℕ) (r : Reading Row) (d : List ℕ) (n : ℕ) → Reads max form s r → readAnswer s r (length d) ≡ Rows n → Number.Bytes s
       → (out : List ℕ) → length s ≤ length out
       → let ws = take (6 * n) (storeAfter s r d) in (writeAnswer ws max form (length out) ≡ Bytes (length s)) × (outAfter ws max form out ≡ laid out 0 s)
-  unfolding bytesOf
   written-back s r d n reads e b out room =
       let a = accepted-cut reads d n e in
-      let vs : List ℕ = flat words (map (itemRow form) (a .0)) in
-      let is : take (6 * n) (storeAfter s r d) ≡ vs = read-words reads d n e (a .0) (a .1) in
-      let h = items-bytes s (a .0) b (a .1) in
-      let size = tally-flat (rowBytes form) (writing vs max form .rows) ∙ ap length (h .1) in
-      let l = leave-bytes vs max form out (length s) (measured-good vs max form (length s) (h .0, size)) (a .3) room in
-      (ap (λ (ws : List ℕ). writeAnswer ws max form (length out)) is ∙ sym (l .0), ap (λ (ws : List ℕ). outAfter ws max form out) is ∙ sym (l .1) ∙ ap (laid out 0) (h .1))
+      let is = read-words reads d n e (a .0) (a .1) in
+      let o = items-out s (a .0) b (a .1) (a .3) out room in
+      (ap (λ (ws : List ℕ). writeAnswer ws max form (length out)) is ∙ o .0, ap (λ (ws : List ℕ). outAfter ws max form out) is ∙ o .1)
 
   -- the bytes that were written stand at the front of the output
   out-bytes : (ws d : List ℕ) (n : ℕ) → writeAnswer ws max form (length d) ≡ Bytes n → take n (outAfter ws max form d) ≡ bytesOf ws max form

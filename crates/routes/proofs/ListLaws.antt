@@ -16,6 +16,7 @@ use Rattle.wire.specs.Choice.{pick}
 use Rattle.wire.proofs.ChoiceLaws.{pick-leb}
 use Rattle.wire.specs.Refusal.{tooLong, oneByteSection, noRoom, pastAll, listLimit}
 use Rattle.wire.specs.Store.{laid}
+use Rattle.wire.proofs.StoreLaws.{take-laid}
 use Rattle.wire.proofs.Turn.{Light, Counted, turn-fits, count-start, count-step, count-stop, count-done, tally-few}
 use Rattle.wire.specs.Walk.{readAll, Step, took, stop, Reading, refused, noted, notes, tally, flat}
 use Rattle.wire.proofs.WalkLaws.{Sound, tally-one, flat-length, all-blind, noted-sound, noted-alike}
@@ -339,6 +340,17 @@ module _ (s : List ℕ) (r : Reading Row) where
   pub read-places : (places : ℕ) (a : ListAnswer) (fields : List ℕ) → readAnswer s r places ≡ a → listMeaning a ≡ given fields → length (flat words (r .rows)) ≡ 6 * valueIn 0 (listMeaning a)
   read-places places (L.Rows n) fields c e = counted-places (L.Rows n) fields (read-rows n places c .0) e
   read-places places (L.Refused n) fields c e = let z : _≡_ {A = ℕ} 0 1 = cc in absurd (zero-ne-one z)
+
+  -- the store then holds the rows from its front, and its first words are theirs
+  pub read-stored : (d : List ℕ) (n : ℕ) → readAnswer s r (length d) ≡ L.Rows n
+      → (length (r .rows) ≡ n) × (storeAfter s r d ≡ laid d 0 (flat words (r .rows))) × (take (6 * n) (storeAfter s r d) ≡ flat words (r .rows))
+  read-stored d n e =
+      let vs : List ℕ = flat words (r .rows) in
+      let h = read-rows n (length d) e in
+      let many : length (r .rows) ≡ n = count-rows n (h .0) .1 in
+      let is : storeAfter s r d ≡ laid d 0 vs = store-by d (L.Rows n) e in
+      let all : 6 * n ≡ 0 + length vs = omega (arith, many, words-length (r .rows)) in
+      (many, is, ap₂ take all is ∙ take-laid d 0 vs (omega (arith, h .1)))
 
   -- the answer and the store that a reading leaves, by what the count says
   module _ (d : List ℕ) where
