@@ -9,6 +9,7 @@ pub mod As4
 pub mod Attributes
 pub mod Updates
 pub mod MpNlri
+pub mod Marks
 pub mod Written
 pub mod Slots
 pub mod Numbers

@@ -11,7 +11,7 @@ use Rattle.wire.specs.Answer.{Answer, given, refusal, numberIn, valueIn, writeM
 use Rattle.wire.specs.Number.{be, beAt, toBe}
 use Rattle.wire.specs.Refusal as refusals
 use Rattle.wire.specs.Walk.{readAll, walk, flat, tally, notes}
-use Rattle.families.specs.Family.{maxOf, idSize, markOf, octets, modeOf}
+use Rattle.families.specs.Family.{maxOf, idSize, markOf, guessed, guessMark, octets, modeOf}
 use Rattle.families.specs.Octets.{tableOf, entry}
 use Rattle.families.specs.declared.Afi.{Afi}
 use Rattle.families.specs.declared.Afi.the-variants.{Ipv4, Ipv6}
@@ -59,7 +59,7 @@ use Rattle.slot_table.specs.Line.{digits, fieldsText, sectionText, entryOf, ent
 use Rattle.slot_table.specs.Table.{linesOf, endingText}
 use Rattle.slot_table.specs.declared.Ending.the-variants as Ending
 use Rattle.words.specs.Word.{fields, inFields, wordOf}
-use Rattle.firmware.specs.Fields.{messageFields, updateFields, hostFields, reachFields, slotFields, attributeFields, versionFields, aggregatorSize, rowWords, pairWords, keptLimit, bodyRows}
+use Rattle.firmware.specs.Fields.{messageFields, updateFields, hostFields, reachFields, clearedFields, slotFields, attributeFields, versionFields, aggregatorSize, rowWords, pairWords, keptLimit, bodyRows}
 use Rattle.messages.specs.declared.Edition.{Edition}
 use Rattle.messages.specs.declared.Edition.the-variants.{Rfc4271, Rfc8654}
 use Rattle.messages.specs.declared.MessageAnswer.the-variants.{Message}
@@ -768,6 +768,64 @@ hostRows =
     ∷ line (bodyHosts (0 ∷ 3 ∷ 9 ∷ 10 ∷ 255 ∷ 0 ∷ 1 ∷ [])) 0x2000000000000
     ∷ []
 
+-- ---- document 02, K8: "Did the peer send this id?"
+
+-- the first word of a row of a list, and what stands there without the mark
+abbrev pub firstWord : AddPath → List ℕ → ℕ → ℕ
+firstWord setting s i = getD (flat words (listOf s (maxOf Ipv4) setting .rows)) (6 * i) 0
+
+-- rows, and 65,536 times the refusal number, of taking the marks off a store; and a place of it afterwards
+abbrev pub clearedRows : ℕ → ℕ
+clearedRows places = let a = listMeaning (clearAnswer places) in valueIn 0 a + 65536 * numberIn a
+
+abbrev pub clearedPlace : List ℕ → ℕ → ℕ
+clearedPlace ws i = getD (clearAfter ws) i 0
+
+abbrev pub guessedIds : List Line
+guessedIds =
+    -- the mark, and who sets it
+    line guessed 512
+    ∷ line (guessMark On Tagged) 0
+    ∷ line (guessMark Off Plain) 0
+    ∷ line (guessMark Guess Plain) 0
+    ∷ line (guessMark Guess Tagged) 512
+    -- a list with an id, by each setting; and one whose second item the guess takes without
+    ∷ line (firstWord On (0 ∷ 0 ∷ 0 ∷ 7 ∷ 8 ∷ 10 ∷ []) 0) 264
+    ∷ line (firstWord Guess (0 ∷ 0 ∷ 0 ∷ 7 ∷ 8 ∷ 10 ∷ []) 0) 776
+    ∷ line (firstWord Off (0 ∷ 0 ∷ 0 ∷ 7 ∷ 8 ∷ 10 ∷ []) 3) 7
+    ∷ line (firstWord Guess (0 ∷ 0 ∷ 0 ∷ 7 ∷ 8 ∷ 10 ∷ 8 ∷ 11 ∷ []) 0) 776
+    ∷ line (firstWord Guess (0 ∷ 0 ∷ 0 ∷ 7 ∷ 8 ∷ 10 ∷ 8 ∷ 11 ∷ []) 1) 8
+    ∷ line (firstWord Guess (8 ∷ 10 ∷ []) 0) 8
+    -- that one bit, whatever else is there
+    ∷ line (unmarked 512) 0
+    ∷ line (unmarked 776) 264
+    ∷ line (unmarked 264) 264
+    ∷ line (unmarked 1023) 511
+    ∷ line (unmarked 1024) 1024
+    ∷ line (unmarked 0xFFFFFFFF) 0xFFFFFDFF
+    -- of every row, and of no other word; 14 for a part of a row, which stays
+    ∷ line (clearedRows 0) 0
+    ∷ line (clearedRows 1) 0xE0000
+    ∷ line (clearedRows 6) 1
+    ∷ line (clearedRows 7) 0xE0000
+    ∷ line (clearedRows 12) 2
+    ∷ line (clearedPlace (replicate 12 0xFFFFFFFF) 0) 0xFFFFFDFF
+    ∷ line (clearedPlace (replicate 12 0xFFFFFFFF) 1) 0xFFFFFFFF
+    ∷ line (clearedPlace (replicate 12 0xFFFFFFFF) 5) 0xFFFFFFFF
+    ∷ line (clearedPlace (replicate 12 0xFFFFFFFF) 6) 0xFFFFFDFF
+    ∷ line (clearedPlace (replicate 12 0xFFFFFFFF) 7) 0xFFFFFFFF
+    ∷ line (clearedPlace (replicate 13 0xFFFFFFFF) 0) 0xFFFFFFFF
+    -- C is told the rows in 48 bits
+    ∷ line (wordOf (clearedFields (clearAnswer 12))) 2
+    ∷ line (wordOf (clearedFields (clearAnswer 393216))) 0x10000
+    ∷ line (wordOf (clearedFields (clearAnswer 25769803776))) 0x100000000
+    ∷ line (wordOf (clearedFields (clearAnswer 13))) 0xE000000000000
+    -- a marked row is not written, with Add-Path on or off; without the mark it is
+    ∷ line (listWritten Tagged (776 ∷ 7 ∷ 0x0A000000 ∷ 0 ∷ 0 ∷ 0 ∷ []) 6) 14
+    ∷ line (listWritten Plain (520 ∷ 0 ∷ 0x0A000000 ∷ 0 ∷ 0 ∷ 0 ∷ []) 6) 14
+    ∷ line (listWritten Tagged (264 ∷ 7 ∷ 0x0A000000 ∷ 0 ∷ 0 ∷ 0 ∷ []) 6) 0
+    ∷ []
+
 -- ---- the limit of a list and of a path to write: 1 over 65,535 bytes, before 11
 
 abbrev pub limits : List Line
@@ -1113,11 +1171,11 @@ announcements =
     ∷ []
 
 abbrev pub table : List Line
-table = refusalNumbers ++ (headers ++ (bodies ++ (lists ++ (pathsAndAggregators ++ (oldAndNew ++ (attributes ++ (emptySegments ++ (longMessages ++ (octetCounts ++ (hostRows ++ (announcements ++ (limits ++ (settings ++ lister)))))))))))))
+table = refusalNumbers ++ (headers ++ (bodies ++ (lists ++ (pathsAndAggregators ++ (oldAndNew ++ (attributes ++ (emptySegments ++ (longMessages ++ (octetCounts ++ (hostRows ++ (announcements ++ (guessedIds ++ (limits ++ (settings ++ lister))))))))))))))
 
 -- every line of the table holds
 pub numbers : agree table ≡ true
-unfolding agree zeros pairFault headOf countReach readReach countUnreach readUnreach reachHead reachBytes unreachBytes routeWriter.writeAfter writeReach tableOf beAt readAll walk notes flat modeOf wordAt rowOf itemRow prefixOf hostBits routeOf hostsBy inForm guessForm stepBy listBy sectionBy routes.countAnswer routes.readAnswer fourWords rowBytes allZero writable frontRow writeStep writing bytesOf measured routeWriter.writeAnswer limited span aggregatorOf aggregatorBytes aggregatorWritten typeFault numbersOf segmentAt segmentOf pathOf paths.countAnswer paths.readAnswer segmentBytes addsUp allFit writeFault lentOf lentPath pathBytes pathWriter.lentBytes pathWriter.encodeAnswer leastLength mostLength crateLimit isOutside isUnknown allFF messageOf strictWithin messageWriter.writeMessage isExtended lengthSize headSize attributeFront attributeOf attribute.sectionOf standing attributeAt firstOf countOf verdictOf judged findAnswer partsOf withdrawnOf announcedOf countUpdate bodySized bodyAnswer wordOf familyOf formOf asnLengthOf editionOf tally found slotOf digits fieldsText sectionText entryOf entryText lineOf stopText headingText linesOf endingText sizeFault as4.standing ignored Merge.kept Merge.leading Merge.joint faultOf bothOf builtOf
+unfolding agree zeros clearedFrom clearAnswer clearAfter pairFault headOf countReach readReach countUnreach readUnreach reachHead reachBytes unreachBytes routeWriter.writeAfter writeReach tableOf beAt readAll walk notes flat modeOf wordAt rowOf itemRow prefixOf hostBits routeOf hostsBy inForm guessForm stepBy listBy sectionBy routes.countAnswer routes.readAnswer fourWords rowBytes allZero writable frontRow writeStep writing bytesOf measured routeWriter.writeAnswer limited span aggregatorOf aggregatorBytes aggregatorWritten typeFault numbersOf segmentAt segmentOf pathOf paths.countAnswer paths.readAnswer segmentBytes addsUp allFit writeFault lentOf lentPath pathBytes pathWriter.lentBytes pathWriter.encodeAnswer leastLength mostLength crateLimit isOutside isUnknown allFF messageOf strictWithin messageWriter.writeMessage isExtended lengthSize headSize attributeFront attributeOf attribute.sectionOf standing attributeAt firstOf countOf verdictOf judged findAnswer partsOf withdrawnOf announcedOf countUpdate bodySized bodyAnswer wordOf familyOf formOf asnLengthOf editionOf tally found slotOf digits fieldsText sectionText entryOf entryText lineOf stopText headingText linesOf endingText sizeFault as4.standing ignored Merge.kept Merge.leading Merge.joint faultOf bothOf builtOf
 numbers = refl
 
 -- the limit of a list and of a path to write is of their bytes, whatever they are

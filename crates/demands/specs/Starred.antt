@@ -37,12 +37,15 @@ abbrev pub AllHold : List Example → Type 0
 AllHold [] = Unit
 AllHold (e ∷ es) = Holds e × AllHold es
 
--- an IPv4 route without an id, and with one
+-- an IPv4 route without an id, with one, and with one that the guess found (document 02, K8)
 abbrev pub route : ℕ → ℕ → Row
 route len address = record { first = len; id = 0; w0 = address; w1 = 0; w2 = 0; w3 = 0 }
 
 abbrev pub routeWithId : ℕ → ℕ → ℕ → Row
 routeWithId id len address = record { first = 256 + len; id = id; w0 = address; w1 = 0; w2 = 0; w3 = 0 }
+
+abbrev pub routeWithGuess : ℕ → ℕ → ℕ → Row
+routeWithGuess id len address = record { first = 256 + 512 + len; id = id; w0 = address; w1 = 0; w2 = 0; w3 = 0 }
 
 abbrev pub sequence : List ℕ → Segment
 sequence asns = record { kind = 2; asns = asns }
@@ -62,7 +65,7 @@ table =
     ∷ list On (0x00 ∷ 0x00 ∷ 0x00 ∷ 0x07 ∷ 0x08 ∷ 0x0A ∷ []) (routeWithId 7 8 0x0A000000 ∷ []) good
     ∷ list Off (0x00 ∷ 0x00 ∷ 0x00 ∷ 0x07 ∷ 0x08 ∷ 0x0A ∷ []) (route 0 0 ∷ route 0 0 ∷ route 0 0 ∷ route 7 0x08000000 ∷ []) truncated
     ∷ list Off (0x00 ∷ 0x18 ∷ 0x0A ∷ 0x01 ∷ 0x08 ∷ 0x18 ∷ 0xC8 ∷ 0x02 ∷ 0x00 ∷ []) (route 0 0 ∷ route 24 0x0A010800 ∷ route 24 0xC8020000 ∷ []) good
-    ∷ list Guess (0x00 ∷ 0x18 ∷ 0x0A ∷ 0x01 ∷ 0x08 ∷ 0x18 ∷ 0xC8 ∷ 0x02 ∷ 0x00 ∷ []) (routeWithId 1575425 8 0x18000000 ∷ []) prefixLength
+    ∷ list Guess (0x00 ∷ 0x18 ∷ 0x0A ∷ 0x01 ∷ 0x08 ∷ 0x18 ∷ 0xC8 ∷ 0x02 ∷ 0x00 ∷ []) (routeWithGuess 1575425 8 0x18000000 ∷ []) prefixLength
     ∷ path Bits32 (0x02 ∷ 0x02 ∷ 0x00 ∷ 0x00 ∷ 0xFD ∷ 0xE9 ∷ 0x00 ∷ 0x00 ∷ 0xFD ∷ 0xEA ∷ []) (sequence (65001 ∷ 65002 ∷ []) ∷ []) good
     ∷ path Bits16 (0x02 ∷ 0x02 ∷ 0x00 ∷ 0x00 ∷ 0xFD ∷ 0xE9 ∷ 0x00 ∷ 0x00 ∷ 0xFD ∷ 0xEA ∷ []) (sequence (0 ∷ 65001 ∷ []) ∷ []) segmentType
     ∷ path Bits32 (0x02 ∷ 0x00 ∷ []) (sequence [] ∷ []) good

@@ -3,6 +3,7 @@
 use Prim.Native.Nat.{ℕ, zero, suc, _+_, _-_, _/_, _%_, _≤_, _<_}
 use mathlib.Core.Path.{_≡_, refl, sym, ap, ap₂, _∙_}
 use mathlib.Core.List.{List, [], _∷_, _++_, append-assoc, append-nil, map}
+use mathlib.Core.Bool.{false}
 use native.Mathlib.Omega.{arith}
 use borrow.Author.Tests.{eq-eqb, ne-eqb}
 use lib.ListN.{length, getD, set, take, drop, length-set, drop-of-length-le}
@@ -10,9 +11,10 @@ use lib.Seq.{drop-drop, take-add, take-all}
 use Rattle.wire.specs.Refusal.{notWritable}
 use Rattle.wire.specs.Walk.{flat}
 use Rattle.routes.specs.Prefix.{words}
+use Rattle.routes.proofs.ListLaws.{words-length}
 use Rattle.routes.specs.declared.Row.{Row}
 use Rattle.routes.specs.declared.ListAnswer.the-variants as L
-use Rattle.route_marks.specs.Marks.{unmarked, bare, clearedFrom, cleared}
+use Rattle.route_marks.specs.Marks.{hasMark, unmarked, bare, clearedFrom, cleared}
 use Rattle.route_marks.specs.Promises.{clearAnswer, clearAfter}
 
 -- ---- a number
@@ -25,8 +27,39 @@ pub unmarked-marked : (w : ℕ) → w < 512 → unmarked (w + 512) ≡ w
 unmarked-marked w h = omega arith
 
 -- the bit is off; those below it and those above it are as they were
-pub unmarked-bits : (w : ℕ) → (unmarked w / 512 % 2 ≡ 0) × (unmarked w % 512 ≡ w % 512) × (unmarked w / 1024 ≡ w / 1024)
-unmarked-bits w = (omega arith, omega arith, omega arith)
+pub unmarked-bits : (w : ℕ) → (hasMark (unmarked w) ≡ false) × (unmarked w % 512 ≡ w % 512) × (unmarked w / 1024 ≡ w / 1024)
+unmarked-bits w = (ne-eqb (unmarked w / 512 % 2) 1 (λ e. omega (arith, e)), omega arith, omega arith)
+
+-- ---- places
+
+pub cleared-length : (skip : ℕ) (ws : List ℕ) → length (clearedFrom skip ws) ≡ length ws
+unfolding clearedFrom
+cleared-length skip [] = refl
+cleared-length zero (w ∷ ws) = ap suc (cleared-length 5 ws)
+cleared-length (suc skip) (w ∷ ws) = ap suc (cleared-length skip ws)
+
+-- of six, that which follows those passed over has its mark off, and the others stay
+first-at : (skip : ℕ) (ws : List ℕ) (i : ℕ) → skip ≤ 5 → (i + 6 - skip) % 6 ≡ 0 → getD (clearedFrom skip ws) i 0 ≡ unmarked (getD ws i 0)
+unfolding clearedFrom
+first-at skip [] i few h = refl
+first-at zero (w ∷ ws) zero few h = refl
+first-at zero (w ∷ ws) (suc i) few h = first-at 5 ws i (omega arith) (omega (arith, h))
+first-at (suc skip) (w ∷ ws) zero few h = absurd (omega (arith, few, h))
+first-at (suc skip) (w ∷ ws) (suc i) few h = first-at skip ws i (omega (arith, few)) (omega (arith, h))
+
+other-at : (skip : ℕ) (ws : List ℕ) (i : ℕ) → skip ≤ 5 → ((i + 6 - skip) % 6 ≡ 0 → ⊥) → getD (clearedFrom skip ws) i 0 ≡ getD ws i 0
+unfolding clearedFrom
+other-at skip [] i few h = refl
+other-at zero (w ∷ ws) zero few h = absurd (h refl)
+other-at zero (w ∷ ws) (suc i) few h = other-at 5 ws i (omega arith) (λ e. h (omega (arith, e)))
+other-at (suc skip) (w ∷ ws) zero few h = refl
+other-at (suc skip) (w ∷ ws) (suc i) few h = other-at skip ws i (omega (arith, few)) (λ e. h (omega (arith, few, e)))
+
+pub cleared-first : (ws : List ℕ) (i : ℕ) → i % 6 ≡ 0 → getD (cleared ws) i 0 ≡ unmarked (getD ws i 0)
+cleared-first ws i h = first-at 0 ws i (omega arith) (omega (arith, h))
+
+pub cleared-other : (ws : List ℕ) (i : ℕ) → (i % 6 ≡ 0 → ⊥) → getD (cleared ws) i 0 ≡ getD ws i 0
+cleared-other ws i h = other-at 0 ws i (omega arith) (λ e. h (omega (arith, e)))
 
 -- ---- rows
 
@@ -92,3 +125,11 @@ module _ (ws : List ℕ) where
   pub clear-part : (length ws % 6 ≡ 0 → ⊥) → (L.Refused notWritable ≡ clearAnswer (length ws)) × (ws ≡ clearAfter ws)
   unfolding clearAnswer clearAfter
   clear-part h = (simp (ne-eqb _ _ h), simp (ne-eqb _ _ h))
+
+-- of rows
+pub clear-rows : (rows : List Row) → (clearAnswer (length (flat words rows)) ≡ L.Rows (length rows)) × (clearAfter (flat words rows) ≡ flat words (map bare rows))
+clear-rows rows =
+    let places = words-length rows in
+    let whole = clear-whole (flat words rows) (omega (arith, places)) in
+    let sixth : length (flat words rows) / 6 ≡ length rows = omega (arith, places) in
+    (sym (whole .0) ∙ ap L.Rows sixth, sym (whole .1) ∙ cleared-words rows)

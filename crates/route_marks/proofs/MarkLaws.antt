@@ -18,11 +18,13 @@ use Rattle.families.specs.declared.AddPath.{AddPath}
 use Rattle.families.specs.declared.AddPath.the-variants.{On, Off, Guess}
 use Rattle.families.specs.declared.Form.{Form}
 use Rattle.families.specs.declared.Form.the-variants.{Plain, Tagged}
-use Rattle.routes.specs.Prefix.{rowOf, itemRow, hostBits, prefixOf}
+use Rattle.routes.specs.Prefix.{rowOf, itemRow, hostBits, prefixOf, routeOf}
 use Rattle.routes.specs.List.{upTo, asStep, inForm, marked, formBy, stepOf, listBy, listOf, hostsBy, hostsOf}
 use Rattle.routes.specs.declared.Row.{Row}
 use Rattle.routes.specs.declared.PrefixAnswer.the-variants as P
-use Rattle.routes.proofs.PrefixLaws.{Took}
+use Rattle.routes.specs.declared.RouteAnswer.{RouteAnswer}
+use Rattle.routes.proofs.BitLaws.{route-prefix}
+use Rattle.routes.proofs.PrefixLaws.{Took, prefix-took}
 use Rattle.routes.proofs.ListLaws.{fair, sound, step-form, step-stop, step-taken, step-took, fixed-step}
 use Rattle.route_marks.specs.Marks.{hasMark, unmarked, bare, byGuess, formsTaken, stepBefore}
 use Rattle.route_marks.proofs.ClearLaws.{unmarked-marked}
@@ -51,6 +53,14 @@ mark-off On form w h = omega arith
 mark-off Off form w h = omega arith
 mark-off Guess Plain w h = omega arith
 mark-off Guess Tagged w h = unmarked-marked w h
+
+-- so is that of one route's, which is told its form
+pub route-unmarked : (s : List ℕ) (max : ℕ) → max ≤ 128 → (form : Form) (answer : RouteAnswer) → answer ≡ routeOf s max form → (used : ℕ) (row : Row) → answer .prefix ≡ P.Prefix used row
+    → hasMark (row .first) ≡ false
+route-unmarked s max small form answer e used row said =
+    let t = prefix-took s max form used row (route-prefix s max form answer e (P.Prefix used row) said .0) in
+    let low : row .first < 512 = rw (t .is) (item-low s max form used row small t) in
+    ne-eqb (row .first / 512 % 2) 1 (λ f. omega (arith, low, f))
 
 -- ---- a step
 

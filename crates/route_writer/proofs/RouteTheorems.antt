@@ -1,6 +1,6 @@
 -- What reading and writing lists of routes are, in terms of bytes alone, over the definitions: what the demand of the calls cites.
 -- Assumes nothing.
-use Prim.Native.Nat.{ℕ, _+_, _*_, _/_, _≤_}
+use Prim.Native.Nat.{ℕ, suc, _+_, _*_, _/_, _≤_}
 use mathlib.Core.Path.{_≡_, sym, ap, ap₂, subst, _∙_}
 use mathlib.Core.List.{List, map}
 use native.Mathlib.Omega.{arith}
@@ -12,14 +12,14 @@ use Rattle.wire.specs.Refusal.{listLimit}
 use Rattle.wire.specs.Store.{laid}
 use Rattle.wire.specs.Answer.{flag}
 use Rattle.wire.specs.Walk.{Reading, pieces, tally, flat}
-use Rattle.wire.specs.declared.WriteAnswer.the-variants.{Bytes}
+use Rattle.wire.specs.declared.WriteAnswer.the-variants.{Bytes, Refused}
 use Rattle.wire.proofs.CuttingLaws as Cuttings
 use Rattle.wire.proofs.StoreLaws.{take-laid}
 use Rattle.wire.proofs.WalkLaws.{tally-one, tally-flat}
 use Rattle.families.specs.declared.AddPath.{AddPath}
-use Rattle.families.specs.declared.AddPath.the-variants.{Off, Guess}
+use Rattle.families.specs.declared.AddPath.the-variants.{On, Off, Guess}
 use Rattle.families.specs.declared.Form.{Form}
-use Rattle.families.specs.declared.Form.the-variants.{Plain}
+use Rattle.families.specs.declared.Form.the-variants.{Plain, Tagged}
 use Rattle.routes.specs.List.{upTo, fixed, stepOf, listBy, listOf, hostsBy, hostsOf, sectionBy, sectionOf}
 use Rattle.routes.specs.Prefix.{itemRow, words}
 use Rattle.routes.specs.Promises.{countAnswer, readAnswer, storeAfter}
@@ -99,6 +99,14 @@ module _ {max : ℕ} {form : Form} {s : List ℕ} {r : Reading Row} (reads : Rea
       pub read-words : (items : List (List ℕ)) → Cutting (WellFormed max form) s items → take (6 * n) (storeAfter s r d) ≡ flat words (map (itemRow form) items)
       read-words items c = read-stored s r d n e .2 ∙ ap (λ (x : Reading Row). flat words (x .rows)) (reads .read items c)
 
+-- bytes that are read to their end with Add-Path on are cut into items with ids, whose rows are those read
+pub cut-tagged : (max : ℕ) (s : List ℕ) → listOf s max On .verdict ≡ 0
+    → (items : List (List ℕ)) × Cutting (WellFormed max Tagged) s items × (listOf s max On ≡ record { rows = map (itemRow Tagged) items; verdict = 0 })
+unfolding listBy
+cut-tagged max s good =
+    let c = Cuttings.read-cut (stepOf max On) (WellFormed max Tagged) (itemRow Tagged) (decides max Tagged) Plain s good in
+    (c .0, c .1, Cuttings.cut-read (stepOf max On) (WellFormed max Tagged) (itemRow Tagged) (decides max Tagged) Plain s (c .0) (c .1))
+
 -- two cuttings of the same bytes are equal
 pub one-cutting : (max : ℕ) (form : Form) (s : List ℕ) (items items′ : List (List ℕ)) → Cutting (WellFormed max form) s items → Cutting (WellFormed max form) s items′ → items ≡ items′
 one-cutting max form s = Cuttings.one-cutting (stepOf max (fixed form)) (WellFormed max form) (itemRow form) (decides max form) Plain s
@@ -158,6 +166,11 @@ module _ (max : ℕ) (small : max ≤ 128) (form : Form) where
       → take n (outAfter ws max form d) ≡ take n′ (outAfter ws′ max form d′) → ws ≡ ws′
   stores-equal ws ws′ d d′ n n′ h h′ e e′ same =
       bytes-equal ws ws′ h h′ (written-bytes ws max form d n e .0) (written-bytes ws′ max form d′ n′ e′ .0) (sym (out-bytes ws d n e) ∙ same ∙ out-bytes ws′ d′ n′ e′)
+
+-- a store that has a row which cannot be written is refused, and the output is as it was
+pub refused-out : (max : ℕ) (form : Form) (ws out : List ℕ) (n : ℕ) → writing ws max form .verdict ≡ suc n → (writeAnswer ws max form (length out) ≡ Refused (suc n)) × (outAfter ws max form out ≡ out)
+unfolding writeAnswer outAfter
+refused-out max form ws out n e = (rw e, rw e)
 
 -- ---- a store that is written, from its bytes
 

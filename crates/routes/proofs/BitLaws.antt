@@ -106,9 +106,9 @@ module _ (form : Form) (item ident o : List ℕ) (len : ℕ) (parts : item ≡ i
 
 module _ (s : List ℕ) (max : ℕ) (form : Form) (z : RouteAnswer) (call : z ≡ routeOf s max form) where
   -- all of it, by what it tells of the prefix
-  alone : (a : PrefixAnswer) → z .prefix ≡ a → (prefixOf s max form ≡ a) × (z ≡ withHost form s a)
+  pub route-prefix : (a : PrefixAnswer) → z .prefix ≡ a → (prefixOf s max form ≡ a) × (z ≡ withHost form s a)
   unfolding routeOf
-  alone a e =
+  route-prefix a e =
       let same : prefixOf s max form ≡ a = sym (beside (prefixOf s max form)) ∙ sym (ap (λ (x : RouteAnswer). x .prefix) call) ∙ e in
       (same, call ∙ ap (withHost form s) same)
     where
@@ -117,13 +117,13 @@ module _ (s : List ℕ) (max : ℕ) (form : Form) (z : RouteAnswer) (call : z �
       beside (Refused n) = refl
 
   pub route-none : (n : ℕ) → z .prefix ≡ Refused n → z .host ≡ false
-  route-none n e = ap (λ (x : RouteAnswer). x .host) (alone (Refused n) e .1)
+  route-none n e = ap (λ (x : RouteAnswer). x .host) (route-prefix (Refused n) e .1)
 
   pub route-bits : (used : ℕ) (row : Row) → z .prefix ≡ Prefix used row → Bytes s → (ident o : List ℕ) (len : ℕ) → take used s ≡ ident ++ (len ∷ o) → length ident ≡ idSize form
       → (z .host ≡ false → (i : ℕ) → len ≤ i → getD o (i / 8) 0 / 2 ^ (7 - i % 8) % 2 ≡ 0)
       × (z .host ≡ true → (i : ℕ) × (len ≤ i) × (getD o (i / 8) 0 / 2 ^ (7 - i % 8) % 2 ≡ 1))
   route-bits used row e each ident o len parts size =
-      let it = alone (Prefix used row) e in
+      let it = route-prefix (Prefix used row) e in
       let t = prefix-took s max form used row (it .0) in
       let host : z .host ≡ hostBits form (take used s) = ap (λ (x : RouteAnswer). x .host) (it .1) in
       let long = length-take-le used s (t .room) in
