@@ -1,5 +1,5 @@
 /* Doorbramble for C: slot records and attribute sections read; BGP messages, UPDATE bodies, route lists, MP_REACH_NLRI, MP_UNREACH_NLRI,
- * AS_PATH and AGGREGATOR read and written; AS_PATH and AS4_PATH merged.
+ * AS_PATH and AGGREGATOR read and written; AS_PATH and AS4_PATH merged; the mark of guessed path ids taken off rows.
  *
  * The functions are those of the static library that `rt staticlib firmware` writes, target/staticlib/libfirmware.a. Each is proved to
  * give the answer that its contract in crates/firmware/src names, for every input, and to end. None keeps a pointer, allocates, or
@@ -15,13 +15,15 @@
  * DOORBRAMBLE_GUESS or 0. One given as `add_path` would mean path ids wherever it is not 0.
  *
  * Answers. Every call answers with one number of 64 bits: three fields of 16 bits, and above them a refusal number, which is 0 where the
- * call did its work. The functions at the end of this file take an answer apart. With a refusal the fields are 0 and every slice is as it
- * was. Without one, elements of a written slice past those that the answer counts are as they were.
+ * call did its work. doorbramble_clear_guessed alone has one number in all three fields. The functions at the end of this file take an answer
+ * apart. With a refusal the fields are 0 and every slice is as it was. Without one, elements of a written slice past those that the answer
+ * counts are as they were.
  *
- * Rows. A route is six words: its length in bits, plus DOORBRAMBLE_ROW_HAS_ID where it has a path id; the id, or 0; four address words, the
- * first byte highest, of which IPv4 uses the first and leaves 0 in the others. Bits past the length in the last octet of the prefix are kept
- * as they were sent; what is past that octet is 0. A row takes a byte at least, and one with a path id five. So a list has at most 65,535
- * rows, or 13,107 where each has an id; a body has at most DOORBRAMBLE_BODY_ROWS, in one section or both together, or 13,102.
+ * Rows. A route is six words: its length in bits, plus DOORBRAMBLE_ROW_HAS_ID where it has a path id, plus DOORBRAMBLE_ROW_GUESSED too where
+ * it was DOORBRAMBLE_GUESS that found the id; the id, or 0; four address words, the first byte highest, of which IPv4 uses the first and
+ * leaves 0 in the others. Bits past the length in the last octet of the prefix are kept as they were sent; what is past that octet is 0. A
+ * row takes a byte at least, and one with a path id five. So a list has at most 65,535 rows, or 13,107 where each has an id; a body has at
+ * most DOORBRAMBLE_BODY_ROWS, in one section or both together, or 13,102.
  *
  * Host bits. A row has host bits where a bit past its length is set, as 10.255.0.0/9 has, which is sent as `09 0A FF` where 10.128.0.0/9 is
  * meant. All of them stand in the last octet of the prefix, so a row whose length is a multiple of 8 has none. Answers count the rows that
@@ -29,12 +31,14 @@
  *
  * Rows to write. Refusal 14 is given exactly where
  *   - the length of a store of rows is not a multiple of DOORBRAMBLE_ROW_WORDS;
- *   - the first word of a row is not a length up to 32 for IPv4 or 128 for IPv6, plus DOORBRAMBLE_ROW_HAS_ID where add_path is set;
+ *   - the first word of a row is not a length up to 32 for IPv4 or 128 for IPv6, plus DOORBRAMBLE_ROW_HAS_ID where add_path is set: one with
+ *     DOORBRAMBLE_ROW_GUESSED never is;
  *   - the id is not 0, and add_path is not set;
  *   - an octet of the address words past those of the prefix, its length rounded up to whole octets, is not 0: for IPv4 any octet of the
  *     last three words.
- * Host bits are written as they are. Rows that were read with DOORBRAMBLE_GUESS may have ids in some and none in others: 14 for such a list,
- * whatever add_path is.
+ * Host bits are written as they are. So rows that were read with DOORBRAMBLE_GUESS are written where it found an id in none of them. A caller
+ * who takes guessed ids for sent ones takes the marks off first, with doorbramble_clear_guessed; where some rows have ids and others none, it
+ * is still 14, whatever add_path is.
  *
  * The machine. x86-64, by the calling convention of Linux. No call uses more stack than DOORBRAMBLE_STACK_LIMIT; none is recursive, calls
  * anything outside the library, or keeps data. They use the red zone, the 128 bytes below the stack pointer, and SSE registers, with no
@@ -55,7 +59,7 @@ extern "C" {
 /* of this header: the major number rises when a caller that was compiled before would break, the minor one when calls or fields are
  * added. doorbramble_version() is that of the library. */
 #define DOORBRAMBLE_VERSION_MAJOR 1
-#define DOORBRAMBLE_VERSION_MINOR 6
+#define DOORBRAMBLE_VERSION_MINOR 7
 
 /* ---- refusal numbers */
 
@@ -87,7 +91,7 @@ extern "C" {
 #define DOORBRAMBLE_LONG_SEGMENT 12
 /* an AS number to write is over 65,535, and the width is two bytes */
 #define DOORBRAMBLE_WIDE_NUMBER 13
-/* a row, or a path, cannot be written: see "Rows to write" and doorbramble_encode_as_path */
+/* a row, or a path, cannot be written: see "Rows to write" and doorbramble_encode_as_path; a store to take marks off is not whole rows */
 #define DOORBRAMBLE_NOT_WRITABLE 14
 /* an attribute section that is searched has a second MP_REACH_NLRI or a second MP_UNREACH_NLRI */
 #define DOORBRAMBLE_REPEATED_MP_NLRI 15
@@ -137,6 +141,8 @@ extern "C" {
 /* the words of a row, and what a path id adds to the first of them */
 #define DOORBRAMBLE_ROW_WORDS 6
 #define DOORBRAMBLE_ROW_HAS_ID 256
+/* what is added beside it where the guess found the id, so that the peer may have sent none; such a row is not written: 14 */
+#define DOORBRAMBLE_ROW_GUESSED 512
 /* the words of a segment in a store of pairs, its type and its count, and of an AGGREGATOR, its AS number and its identifier */
 #define DOORBRAMBLE_PAIR_WORDS 2
 #define DOORBRAMBLE_AGGREGATOR_WORDS 2
@@ -257,6 +263,11 @@ uint64_t doorbramble_parse_nlri_list(const uint8_t *s, size_t s_len, uint8_t ipv
 /* Rows as a list, with path ids or without, at the front of out. Answer: bytes. Refusals: 14, 1, then 11. */
 uint64_t doorbramble_encode_nlri_prefixes(const uint32_t *rows, size_t rows_len, uint8_t ipv6, uint8_t add_path, uint8_t *out,
                                           size_t out_len);
+
+/* Takes DOORBRAMBLE_ROW_GUESSED off the first word of every row of a store, whichever call filled it; all other bits stay, whatever they are.
+ * The store is its rows alone, so lend as many words as were filled. Answer: cleared_rows, all rows of the store, marked or not. Refusals: 14
+ * where store_len is not a multiple of DOORBRAMBLE_ROW_WORDS. */
+uint64_t doorbramble_clear_guessed(uint32_t *store, size_t store_len);
 
 /* ---- MP_REACH_NLRI and MP_UNREACH_NLRI, of IPv6 unicast routes (RFC 4760 sections 3 and 4, RFC 2545 section 3) */
 
@@ -411,6 +422,9 @@ static inline unsigned doorbramble_announced_hosts(uint64_t answer) { return doo
 /* of a list, and of an MP_REACH_NLRI or MP_UNREACH_NLRI: its rows, and how many of them have host bits */
 static inline unsigned doorbramble_rows(uint64_t answer) { return doorbramble_field_a(answer); }
 static inline unsigned doorbramble_hosts(uint64_t answer) { return doorbramble_field_b(answer); }
+
+/* of doorbramble_clear_guessed alone: the rows of the store, which may be more than a list has; 0 with a refusal */
+static inline uint64_t doorbramble_cleared_rows(uint64_t answer) { return answer & 0xFFFFFFFFFFFF; }
 
 /* of an MP_REACH_NLRI alone: the bytes of its next hop, 16 or 32, and 0 with a refusal; whether its reserved byte is not 0 */
 static inline unsigned doorbramble_next_hop_length(uint64_t answer) { return doorbramble_field_c_low(answer); }

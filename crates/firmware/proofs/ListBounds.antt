@@ -1,4 +1,4 @@
--- The fields of every answer of the module list are of 16 bits.
+-- The fields of every answer of the module list are of 16 bits; and the rows whose marks are taken off are the word itself.
 -- Assumes nothing.
 use Prim.Native.Nat.{ℕ, zero, suc, _≤_, _<_}
 use mathlib.Core.Path.{_≡_}
@@ -28,8 +28,9 @@ use Rattle.routes.specs.declared.RoutesAnswer.{RoutesAnswer}
 use Rattle.routes.specs.Promises.{listMeaning, countAnswer, hasRoom, readAnswer, withHosts, countList, readList, rowsMeaning, routesMeaning, rowsIn, hostsIn, verdictIn}
 use Rattle.route_writer.specs.Promises as routeWriter
 use Rattle.route_writer.proofs.PromiseLaws.{after-any, write-front}
-use Rattle.words.specs.Word.{inFields, Narrow}
+use Rattle.words.specs.Word.{inFields, wordOf, Narrow}
 use Rattle.words.proofs.WordLaws.{refused-narrow, number-narrow}
+use Rattle.firmware.specs.Fields.{clearedFields}
 
 -- an item is refused with 2 or 7
 item-low : (max : ℕ) (form : Form) (s : List ℕ) (n : ℕ) → prefixOf s max form ≡ P.Refused n → n < 256
@@ -112,3 +113,10 @@ write-after-narrow before ws max form places = after-any before ws max form plac
 
 pub write-list-narrow : (ws : List ℕ) (max : ℕ) (form : Form) (places : ℕ) → Narrow (inFields (writeMeaning (routeWriter.writeAnswer ws max form places)))
 write-list-narrow ws max form places = rw (← write-front ws max form places) (write-after-narrow 0 ws max form places)
+
+-- ---- marks taken off
+
+-- fewer rows than 48 bits hold are the word itself, so C reads them from these bits
+pub cleared-rows : (n : ℕ) → n < 281474976710656 → wordOf (clearedFields (L.Rows n)) ≡ n
+unfolding wordOf
+cleared-rows n h = omega (arith, h)

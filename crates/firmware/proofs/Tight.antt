@@ -17,6 +17,7 @@ use Rattle.firmware.proofs.attribute.doorbramble_find_attribute.Reads a
 use Rattle.firmware.proofs.list.doorbramble_count_nlri_list.Reads as count_nlri_list
 use Rattle.firmware.proofs.list.doorbramble_parse_nlri_list.Reads as parse_nlri_list
 use Rattle.firmware.proofs.list.doorbramble_encode_nlri_prefixes.Reads as encode_nlri_prefixes
+use Rattle.firmware.proofs.list.doorbramble_clear_guessed.Reads as clear_guessed
 use Rattle.firmware.proofs.mp.doorbramble_count_mp_reach_nlri.Reads as count_mp_reach_nlri
 use Rattle.firmware.proofs.mp.doorbramble_parse_mp_reach_nlri.Reads as parse_mp_reach_nlri
 use Rattle.firmware.proofs.mp.doorbramble_encode_mp_reach_nlri.Reads as encode_mp_reach_nlri
@@ -84,6 +85,9 @@ tight-parse-nlri-list κs a z z′ e e′ p q = (p .0 ∙ sym (q .0), p .1 ∙ s
 
 pub tight-encode-nlri-prefixes : (κs : _) (a : _) (z z′ : _) (e e′ : _) → encode_nlri_prefixes.Learnt κs a z e → encode_nlri_prefixes.Learnt κs a z′ e′ → (z ≡ z′) × (now (e .1 .1 .1 .0) ≡ now (e′ .1 .1 .1 .0))
 tight-encode-nlri-prefixes κs a z z′ e e′ p q = (p .0 ∙ sym (q .0), p .1 ∙ sym (q .1))
+
+pub tight-clear-guessed : (κs : _) (a : _) (z z′ : _) (e e′ : _) → clear_guessed.Learnt κs a z e → clear_guessed.Learnt κs a z′ e′ → (z ≡ z′) × (now (e .0) ≡ now (e′ .0))
+tight-clear-guessed κs a z z′ e e′ p q = (p .0 ∙ sym (q .0), p .1 ∙ sym (q .1))
 
 pub tight-count-mp-reach-nlri : (κs : _) (a : _) (z z′ : _) (e e′ : _) → count_mp_reach_nlri.Learnt κs a z e → count_mp_reach_nlri.Learnt κs a z′ e′ → z ≡ z′
 tight-count-mp-reach-nlri κs a z z′ e e′ p q = p ∙ sym q

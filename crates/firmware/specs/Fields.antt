@@ -1,6 +1,6 @@
 -- The fields of the answers whose fields are not their values in order. The others go by `inFields` of words: a list has its rows and its host rows, an
 -- AS_PATH its segments and numbers, a writer its bytes.
-use Prim.Native.Nat.{ℕ, _+_, _*_}
+use Prim.Native.Nat.{ℕ, _+_, _*_, _/_, _%_}
 use mathlib.Core.List.{List, [], _∷_}
 use lib.Dec.{ltb}
 use Rattle.wire.specs.Answer.{Answer, given, refusal, numberIn, valueIn, handed}
@@ -15,6 +15,8 @@ use Rattle.attributes.specs.Promises.{attributeMeaning}
 use Rattle.attributes.specs.declared.AttributeAnswer.{AttributeAnswer}
 use Rattle.mp_nlri.specs.Read.{reachMeaning}
 use Rattle.mp_nlri.specs.declared.ReachAnswer.{ReachAnswer}
+use Rattle.routes.specs.declared.ListAnswer.{ListAnswer}
+use Rattle.routes.specs.declared.ListAnswer.the-variants.{Rows, Refused}
 use Rattle.updates.specs.Body.{partsMeaning}
 use Rattle.updates.specs.Update.{updateMeaning}
 use Rattle.updates.specs.declared.PartsAnswer.{PartsAnswer}
@@ -56,6 +58,13 @@ abbrev pub attributeFields : AttributeAnswer → Fields
 attributeFields a =
     fields (valueIn 3 (attributeMeaning a)) (valueIn 4 (attributeMeaning a)) (valueIn 2 (attributeMeaning a) + 256 * valueIn 1 (attributeMeaning a))
     (numberIn (attributeMeaning a))
+
+-- ---- marks taken off rows
+
+-- the rows in the 48 bits below the refusal number, since a store may have more rows than a list
+abbrev pub clearedFields : ListAnswer → Fields
+clearedFields (Rows n) = fields (n % 65536) (n / 65536 % 65536) (n / 4294967296 % 65536) 0
+clearedFields (Refused n) = fields 0 0 0 n
 
 -- ---- MP_REACH_NLRI
 
@@ -130,7 +139,7 @@ abbrev pub versionMajor : ℕ
 versionMajor = 1
 
 abbrev pub versionMinor : ℕ
-versionMinor = 6
+versionMinor = 7
 
 abbrev pub versionFields : Fields
 versionFields = fields versionMajor versionMinor 0 0

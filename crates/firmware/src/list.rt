@@ -1,13 +1,15 @@
-// A list of routes, counted, read and written.
+// A list of routes, counted, read and written; and the mark of guessed ids taken off its rows.
 ghost use mathlib.Core.Path.{_≡_};
 ghost use lib.ListN.{length};
 ghost use Rattle.wire.specs.Answer.{writeMeaning};
 ghost use Rattle.families.specs.Family.{maxOf, modeOf};
 ghost use Rattle.routes.specs.List.{upTo, listOf};
 ghost use Rattle.routes.specs.Promises as Routes;
+ghost use Rattle.route_marks.specs.Promises.{clearAnswer, clearAfter};
 ghost use Rattle.route_writer.specs.Promises as RouteWriter;
 ghost use Rattle.words.specs.Settings.{familyOf, formOf};
 ghost use Rattle.words.specs.Word.{inFields, wordOf, Narrow};
+ghost use Rattle.firmware.specs.Fields.{clearedFields};
 use super::write_word;
 use families::Afi;
 use families::mode_of;
@@ -72,4 +74,21 @@ pub extern "C" fn doorbramble_encode_nlri_prefixes(
     ensures out { λ _. ⌜ now (out .exit) ≡ RouteWriter.outAfter (now (rows .entry)) (maxOf (familyOf ipv6)) (formOf «add_path») (now (out .entry)) ⌝ }
 {
     write_word(route_writer::encode_nlri_prefixes(rows, family_of(ipv6), form_of(add_path), out))
+}
+
+// The mark of a guessed id taken off every row of a store, which may have more rows than a list: they are told in all three fields.
+#[no_mangle]
+pub extern "C" fn doorbramble_clear_guessed(store: &mut [u32]) -> u64
+    ensures answer { λ r. ⌜ r ≡ wordOf (clearedFields (clearAnswer (length (now (store .entry))))) ⌝ }
+    ensures store { λ _. ⌜ now (store .exit) ≡ clearAfter (now (store .entry)) ⌝ }
+{
+    match route_marks::clear_guessed(store) {
+        ListAnswer::Rows(n) => word(
+            (n % 65536) as u16,
+            (n / 65536 % 65536) as u16,
+            (n / 4294967296 % 65536) as u16,
+            0,
+        ),
+        ListAnswer::Refused(number) => word(0, 0, 0, number),
+    }
 }

@@ -8,7 +8,7 @@ use words::word;
 pub const MAJOR: u16 = 1;
 
 // Rises when calls are added.
-pub const MINOR: u16 = 6;
+pub const MINOR: u16 = 7;
 
 // The version of the library.
 #[no_mangle]
