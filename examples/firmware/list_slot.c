@@ -1,5 +1,5 @@
-/* Reads the slot records of a file and prints the routes of each UPDATE in them, marked where they have host bits, and the types of its
- * attributes.
+/* Reads the slot records of a file and prints the routes of each UPDATE in them, marked where their id is guessed or they have host bits, and
+ * the types of its attributes.
  *
  * usage: list_slot FILE     `-` is standard input
  *

@@ -71,6 +71,9 @@ static void check_out(const char *what, uint64_t answer, uint64_t wanted, const 
     check(what, answer, wanted, NULL, 0, NULL, 0, bytes, count);
 }
 
+/* the first word of a row with an id, where the guess found it */
+#define GUESSED(length) ((length) + DOORBRAMBLE_ROW_HAS_ID + DOORBRAMBLE_ROW_GUESSED)
+
 #define MARKER 0xFF, 0xFF, 0xFF, 0xFF, 0xFF, 0xFF, 0xFF, 0xFF, 0xFF, 0xFF, 0xFF, 0xFF, 0xFF, 0xFF, 0xFF, 0xFF
 
 static void messages(void) {
@@ -351,7 +354,7 @@ static void lists(void) {
     static const uint8_t guess[] = {0, 0, 0, 0, 8, 10, 8, 11};
     static const uint32_t seven[] = {8 + DOORBRAMBLE_ROW_HAS_ID, 7, 0x0A000000, 0, 0, 0};
     static const uint32_t six[] = {64, 0, 0x20010DB8, 1, 0, 0};
-    static const uint32_t guessed[] = {8 + DOORBRAMBLE_ROW_HAS_ID, 0, 0x0A000000, 0, 0, 0, 8, 0, 0x0B000000, 0, 0, 0};
+    static const uint32_t guessed[] = {GUESSED(8), 0, 0x0A000000, 0, 0, 0, 8, 0, 0x0B000000, 0, 0, 0};
     uint64_t answer;
 
     answer = doorbramble_count_nlri_list(tagged, 6, 0, DOORBRAMBLE_ADD_PATH);
@@ -867,6 +870,8 @@ static void rows(void) {
     static const uint32_t longer_prefix[] = {129, 0, 0, 0, 0, 0};
     static const uint32_t unmarked_id[] = {8, 7, 0x0A000000, 0, 0, 0};
     static const uint32_t mixed[] = {8 + DOORBRAMBLE_ROW_HAS_ID, 0, 0x0A000000, 0, 0, 0, 8, 0, 0x0B000000, 0, 0, 0};
+    static const uint32_t guessed[] = {GUESSED(8), 7, 0x0A000000, 0, 0, 0};
+    static const uint32_t mark_alone[] = {8 + DOORBRAMBLE_ROW_GUESSED, 0, 0x0A000000, 0, 0, 0};
     static const uint8_t four_bits[] = {4, 0xFF};
     static const uint8_t wide[] = {33, 0, 0, 0, 0, 0};
     const uint64_t not_writable = refused(DOORBRAMBLE_NOT_WRITABLE);
@@ -885,8 +890,70 @@ static void rows(void) {
     check_answer("rows: 14, a mark without", doorbramble_encode_nlri_prefixes(seven, 6, 0, 0, out, PLACES), not_writable);
     check_answer("rows: 14, mixed forms", doorbramble_encode_nlri_prefixes(mixed, 12, 0, 0, out, PLACES), not_writable);
     check_answer("rows: 14, mixed forms, add_path", doorbramble_encode_nlri_prefixes(mixed, 12, 0, 1, out, PLACES), not_writable);
+    check_answer("rows: 14, a guessed id", doorbramble_encode_nlri_prefixes(guessed, 6, 0, 1, out, PLACES), not_writable);
+    check_answer("rows: 14, a guessed id of IPv6", doorbramble_encode_nlri_prefixes(guessed, 6, 1, 1, out, PLACES), not_writable);
+    check_answer("rows: 14, a guessed id without add_path", doorbramble_encode_nlri_prefixes(guessed, 6, 0, 0, out, PLACES), not_writable);
+    check_answer("rows: 14, the guess's mark alone", doorbramble_encode_nlri_prefixes(mark_alone, 6, 0, 0, out, PLACES), not_writable);
+    check_answer("rows: 14, a guessed id announced",
+                 doorbramble_encode_bgp_update_message(NULL, 0, NULL, 0, guessed, 6, 1, out, PLACES), not_writable);
+    check_answer("rows: 14, a guessed id withdrawn",
+                 doorbramble_encode_bgp_update_message(guessed, 6, NULL, 0, NULL, 0, 1, out, PLACES), not_writable);
+    check_answer("rows: 14, a guessed id in MP_UNREACH_NLRI", doorbramble_encode_mp_unreach_nlri(guessed, 6, 1, out, PLACES),
+                 not_writable);
     check_answer("rows: DOORBRAMBLE_GUESS as add_path is a yes",
                  doorbramble_encode_nlri_prefixes(host_bits, 6, 0, DOORBRAMBLE_GUESS, out, 2), not_writable);
+}
+
+/* what the guess marks, and marks taken off: the rows are then as with Add-Path, and are written where each has an id */
+static void marks(void) {
+    static const uint8_t tagged[] = {0, 0, 0, 7, 8, 10, 0, 0, 0, 8, 9, 10, 0xFF};
+    static const uint32_t guessed[] = {GUESSED(8), 7, 0x0A000000, 0, 0, 0, GUESSED(9), 8, 0x0AFF0000, 0, 0, 0};
+    static const uint32_t sent[] = {8 + DOORBRAMBLE_ROW_HAS_ID, 7, 0x0A000000, 0, 0, 0, 9 + DOORBRAMBLE_ROW_HAS_ID, 8, 0x0AFF0000, 0, 0, 0};
+    static const uint8_t body[] = {0, 6, 0, 0, 0, 7, 8, 10, 0, 0, 0, 0, 0, 8, 9, 10, 0xFF, 8, 11};
+    static const uint32_t announced[] = {GUESSED(9), 8, 0x0AFF0000, 0, 0, 0, 8, 0, 0x0B000000, 0, 0, 0};
+    uint64_t answer;
+
+    check_store("parse_nlri_list: no mark with Add-Path", doorbramble_parse_nlri_list(tagged, 13, 0, DOORBRAMBLE_ADD_PATH, one, PLACES),
+                accepted(2, 1, 0), sent, 12);
+    check_store("parse_nlri_list: no mark with both settings", doorbramble_parse_nlri_list(tagged, 13, 0, 3, one, PLACES),
+                accepted(2, 1, 0), sent, 12);
+    check("parse_bgp_update_message: the guess's marks",
+          doorbramble_parse_bgp_update_message(body, 19, DOORBRAMBLE_GUESS, one, PLACES, two, PLACES), accepted(1, 2, 0), guessed, 6,
+          announced, 12, NULL, 0);
+
+    doorbramble_parse_nlri_list(tagged, 13, 0, DOORBRAMBLE_GUESS, one, PLACES);
+    expect("parse_nlri_list: the guess's marks", has_words(one, guessed, 12));
+    expect("clear_guessed: 14, seven words", doorbramble_clear_guessed(one, 7) == refused(DOORBRAMBLE_NOT_WRITABLE));
+    expect("clear_guessed: 14, a word less", doorbramble_clear_guessed(one, 11) == refused(DOORBRAMBLE_NOT_WRITABLE));
+    expect("clear_guessed: 14 changes nothing", has_words(one, guessed, 12));
+    answer = doorbramble_clear_guessed(one, 12);
+    expect("the field of cleared rows", doorbramble_refusal(answer) == 0 && doorbramble_cleared_rows(answer) == 2);
+    expect("clear_guessed: once more", doorbramble_clear_guessed(one, 12) == 2);
+    check_store("clear_guessed", answer, accepted(2, 0, 0), sent, 12);
+    check_out("clear_guessed: such rows are written", doorbramble_encode_nlri_prefixes(sent, 12, 0, 1, out, PLACES), accepted(13, 0, 0),
+              tagged, 13);
+}
+
+/* the mark taken off words of every kind: no other bit is changed, nor a word that is not a row's first; and stores of no rows and of many */
+static void cleared_stores(void) {
+    static const uint32_t bits[] = {UINT32_MAX, UINT32_MAX, DOORBRAMBLE_ROW_GUESSED, 1, 2, 3, DOORBRAMBLE_ROW_GUESSED, 4, 5, 6, 7, 8};
+    static const uint32_t off[] = {UINT32_MAX - DOORBRAMBLE_ROW_GUESSED, UINT32_MAX, DOORBRAMBLE_ROW_GUESSED, 1, 2, 3, 0, 4, 5, 6, 7, 8};
+    static uint32_t many[6 * 65537];
+    unsigned wrong = 0, i;
+
+    memcpy(one, bits, sizeof bits);
+    check_store("clear_guessed: every other bit stays", doorbramble_clear_guessed(one, 12), accepted(2, 0, 0), off, 12);
+    check_answer("clear_guessed: no rows", doorbramble_clear_guessed(NULL, 0), accepted(0, 0, 0));
+    for (i = 0; i < PLACES; i++)
+        wrong += doorbramble_clear_guessed(two, i) != (i % 6 == 0 ? i / 6 : refused(DOORBRAMBLE_NOT_WRITABLE));
+    expect("clear_guessed: stores of every size", wrong == 0);
+    clear();
+    for (i = 0; i < 6 * 65537; i += 6)
+        many[i] = GUESSED(i % 33);
+    expect("clear_guessed: more rows than a field holds", doorbramble_cleared_rows(doorbramble_clear_guessed(many, 6 * 65537)) == 65537);
+    for (i = 0; i < 6 * 65537; i++)
+        wrong += many[i] != (i % 6 == 0 ? i % 33 + DOORBRAMBLE_ROW_HAS_ID : 0);
+    expect("clear_guessed: all of them", wrong == 0);
 }
 
 #define GLOBAL 0x20, 0x01, 0x0D, 0xB8, 0, 0, 0, 0, 0, 0, 0, 0, 0, 0, 0, 1
@@ -964,7 +1031,8 @@ static void mp_lists(struct mp_reader by, uint64_t head) {
                          mixed[] = {0, 0, 0, 0, 8, 0x20, 8, 0xFC};
     static const uint32_t seven[] = {8 + DOORBRAMBLE_ROW_HAS_ID, 7, 0x20000000, 0, 0, 0}, all[] = {0, 0, 0, 0, 0, 0};
     static const uint32_t bits[] = {3, 0, 0x3F000000, 0, 0, 0};
-    static const uint32_t guessed[] = {8 + DOORBRAMBLE_ROW_HAS_ID, 0, 0x20000000, 0, 0, 0, 8, 0, 0xFC000000, 0, 0, 0};
+    static const uint32_t found[] = {GUESSED(8), 7, 0x20000000, 0, 0, 0};
+    static const uint32_t guessed[] = {GUESSED(8), 0, 0x20000000, 0, 0, 0, 8, 0, 0xFC000000, 0, 0, 0};
     const size_t list = by.list;
 
     check_mp("mp_nlri: an empty list", by, mp_value(by, zero, 0), list, 0, accepted(0, 0, head), NULL, 0);
@@ -973,7 +1041,7 @@ static void mp_lists(struct mp_reader by, uint64_t head) {
     check_mp("mp_nlri: host bits", by, mp_value(by, host, 2), list + 2, 0, accepted(1, 1, head), bits, 6);
     check_mp("mp_nlri: Add-Path", by, mp_value(by, tagged, 6), list + 6, DOORBRAMBLE_ADD_PATH, accepted(1, 0, head), seven, 6);
     check_mp("mp_nlri: both settings are Add-Path", by, mp_value(by, tagged, 6), list + 6, 3, accepted(1, 0, head), seven, 6);
-    check_mp("mp_nlri: the guess", by, mp_value(by, tagged, 6), list + 6, DOORBRAMBLE_GUESS, accepted(1, 0, head), seven, 6);
+    check_mp("mp_nlri: the guess", by, mp_value(by, tagged, 6), list + 6, DOORBRAMBLE_GUESS, accepted(1, 0, head), found, 6);
     check_mp("mp_nlri: the guess in one form and the other", by, mp_value(by, mixed, 8), list + 8, DOORBRAMBLE_GUESS, accepted(2, 0, head),
              guessed, 12);
     check_answer("mp_nlri: no other bit is read", by.count(mp_value(by, tagged, 6), list + 6, 0xFC), refused(DOORBRAMBLE_TRUNCATED));
@@ -1162,7 +1230,7 @@ static void slots(void) {
 
 static void version(void) {
     uint64_t answer = doorbramble_version();
-    check_answer("version", answer, accepted(1, 6, 0));
+    check_answer("version", answer, accepted(1, 7, 0));
     expect("the version of the header", doorbramble_version_major(answer) == DOORBRAMBLE_VERSION_MAJOR &&
                                             doorbramble_version_minor(answer) == DOORBRAMBLE_VERSION_MINOR);
 }
@@ -1235,6 +1303,8 @@ int main(void) {
     malformed_hosts();
     host_limits();
     rows();
+    marks();
+    cleared_stores();
     mp_values();
     paths();
     strict_paths();

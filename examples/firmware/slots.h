@@ -53,11 +53,11 @@ static int has_host_bits(const uint32_t *row) {
     return length % 32 != 0 && (row[2 + length / 32] & UINT32_MAX >> length % 32) != 0;
 }
 
-/* The rest of a route's line, after its address. */
+/* The rest of a route's line, after its address: whether an id was sent or only guessed stands in the row. */
 static void print_rest(const uint32_t *row) {
     printf("/%u", (unsigned)(row[0] % DOORBRAMBLE_ROW_HAS_ID));
     if (row[0] >= DOORBRAMBLE_ROW_HAS_ID)
-        printf(" id %u", (unsigned)row[1]);
+        printf(" %sid %u", (row[0] & DOORBRAMBLE_ROW_GUESSED) != 0 ? "guessed " : "", (unsigned)row[1]);
     printf("%s\n", has_host_bits(row) ? " host bits" : "");
 }
 
