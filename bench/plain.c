@@ -29,7 +29,7 @@ enum {
     BAD_NEXT_HOP = 18,
 };
 
-enum { MOST_BYTES = 65535, MOST_BODY = 65516, HEADER = 19, ROW = 6, HAS_ID = 256 };
+enum { MOST_BYTES = 65535, MOST_BODY = 65516, HEADER = 19, ROW = 6, HAS_ID = 256, GUESSED = 512 };
 
 typedef enum { WITHOUT_ID, WITH_ID, GUESS } form;
 
@@ -224,11 +224,14 @@ INLINE void put_row(uint32_t *row, uint32_t first, uint32_t id, uint64_t address
     row[5] = (uint32_t)rest;
 }
 
-// Puts the row of a checked item; `last` where its address may end within 16 (IPv4: 4) bytes of the end.
-INLINE size_t fill_item(const uint8_t *restrict s, size_t at, family of, bool id, bool last, uint32_t *restrict row) {
+// Puts the row of a checked item, which has an id where the first word has a mark beside the length; `last` where its
+// address may end within 16 (IPv4: 4) bytes of the end.
+INLINE size_t fill_item(const uint8_t *restrict s, size_t at, family of, uint32_t mark, bool last,
+                        uint32_t *restrict row) {
+    bool id = mark != 0;
     uint32_t bits = s[at + head_of(id)];
     uint32_t octets = octets_after(bits, of);
-    uint32_t first = bits + (id ? HAS_ID : 0), path = id ? read4(s + at) : 0;
+    uint32_t first = bits + mark, path = id ? read4(s + at) : 0;
     uint8_t copied[16] = {0};
     const uint8_t *address = s + at + head_of(id) + 1;
     if (last) {
@@ -247,14 +250,15 @@ INLINE uint32_t longest(bool ipv6, bool id) { return head_of(id) + 1 + (ipv6 ? 1
 
 INLINE void fill_items(const uint8_t *s, size_t n, family of, bool id, uint32_t *store) {
     size_t at = 0;
-    for (; at + longest(of.ipv6, id) <= n; store += ROW) at = fill_item(s, at, of, id, false, store);
-    for (; at < n; store += ROW) at = fill_item(s, at, of, id, true, store);
+    uint32_t mark = id ? HAS_ID : 0;
+    for (; at + longest(of.ipv6, id) <= n; store += ROW) at = fill_item(s, at, of, mark, false, store);
+    for (; at < n; store += ROW) at = fill_item(s, at, of, mark, true, store);
 }
 
 INLINE size_t fill_guessed_item(const uint8_t *s, size_t n, size_t at, family of, bool *tagged, bool last,
                                 uint32_t *row) {
     *tagged = (*tagged || s[at] == 0) && (last ? item_with_id(s, n, at, of) : octets_after(s[at + 4], of) != REFUSED_LENGTH);
-    return *tagged ? fill_item(s, at, of, true, last, row) : fill_item(s, at, of, false, last, row);
+    return *tagged ? fill_item(s, at, of, HAS_ID + GUESSED, last, row) : fill_item(s, at, of, 0, last, row);
 }
 
 INLINE void fill_guessed(const uint8_t *s, size_t n, family of, uint32_t *store) {
@@ -312,6 +316,13 @@ uint64_t plain_parse_nlri_list(const uint8_t *s, size_t n, uint8_t ipv6, uint8_t
     uint64_t counted = with_room(count_in_form(s, n, of, form_of(settings)), places);
     if (!refusal_of(counted)) fill_in_form(s, n, of, form_of(settings), store);
     return counted;
+}
+
+// Takes the guess's mark off every row of a store, whose number is the answer: 48 bits hold that of any store.
+uint64_t plain_clear_guessed(uint32_t *store, size_t places) {
+    if (places % ROW) return refused(NOT_WRITABLE);
+    for (size_t at = 0; at < places; at += ROW) store[at] &= ~(uint32_t)GUESSED;
+    return places / ROW;
 }
 
 // ---- MP_REACH_NLRI and MP_UNREACH_NLRI of IPv6 unicast ----

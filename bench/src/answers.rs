@@ -17,7 +17,7 @@ pub fn fields(word: u64) -> [u64; 4] {
 
 /// Whether the C boundary has a call for this op.
 pub fn has_call(op: u8) -> bool {
-    matches!(op, 2 | 3 | 6..=27)
+    matches!(op, 2 | 3 | 6..=28)
 }
 
 pub fn four_bytes(request: &Request) -> u8 {
@@ -54,6 +54,7 @@ pub fn answer<L: Library>(request: &Request) -> Answer {
         20 => standing::<L>(&request.parts[0], &request.parts[1]),
         21 => merged::<L>(request, &mut lent),
         22..=25 => mp_value::<L>(request, &mut lent),
+        28 => cleared::<L>(&mut lent),
         _ => read::<L>(request, &mut lent),
     };
     let refusal = fields(word)[3] as u32;
@@ -219,6 +220,12 @@ fn mp_value<L: Library>(request: &Request, lent: &mut [Lent]) -> (u64, Vec<u64>)
     let (length, reserved) = (c & 0xFF, c >> 8);
     let next_hop = &value[NEXT_HOP..NEXT_HOP + length as usize];
     (word, vec![length, sum_bytes(next_hop), reserved, rows, hosts])
+}
+
+/// The rows are one number in all three fields.
+fn cleared<L: Library>(lent: &mut [Lent]) -> (u64, Vec<u64>) {
+    let word = L::clear_guessed(store(&mut lent[0]));
+    (word, vec![word & 0xFFFF_FFFF_FFFF])
 }
 
 fn written<L: Library>(request: &Request, lent: &mut [Lent]) -> (u64, Vec<u64>) {

@@ -353,6 +353,12 @@ pub fn long_messages() -> Vec<Request> {
     messages.map(|message| on_bytes(9, STRICT | EXTENDED, (0, 0), &message)).collect()
 }
 
+/// The request that takes the marks off the rows that this one reads, which are its store.
+pub fn clearing(read: &Request) -> Request {
+    let rows = stored(read).remove(0);
+    on_bytes(28, 0, (rows.len() / 4, 0), &rows)
+}
+
 /// The same request by the strict rule.
 pub fn strict(asked: &Request) -> Request {
     Request { settings: asked.settings | STRICT, ..asked.clone() }

@@ -67,6 +67,7 @@ libraries! {
         s.as_ptr() => Bytes, s.len() => usize, ipv6 => u8, settings => u8,
         store.as_mut_ptr() => Store, store.len() => usize
     );
+    fn clear_guessed(store: &mut [u32]) passes (store.as_mut_ptr() => Store, store.len() => usize);
     fn count_mp_reach_nlri(value: &[u8], settings: u8) passes (
         value.as_ptr() => Bytes, value.len() => usize, settings => u8
     );

@@ -148,6 +148,7 @@ impl Calls {
             18 | 19 => self.attributes::<L>(),
             20 | 21 | COUNT_MERGED => self.side_by_side::<L>(),
             22..=25 => self.mp_values::<L>(),
+            28 => self.clearing::<L>(),
             _ => self.writers::<L>(),
         }
     }
@@ -227,6 +228,22 @@ impl Calls {
             24 => self.batch(|call, to| L::parse_mp_unreach_nlri(call.s(), call.settings, to.two(call).0)),
             _ => self.batch(|call, _| L::count_mp_unreach_nlri(call.s(), call.settings)),
         }
+    }
+
+    /// Marks taken off stores, which have them again before the clock starts.
+    fn clearing<L: Library>(&self) -> Side {
+        let own = self.clone();
+        Box::new(move || {
+            let stores = &mut *own.stores.borrow_mut();
+            for each in own.calls.iter() {
+                stores.two(each).0.copy_from_slice(&each.words[0]);
+            }
+            timed(|| {
+                for each in own.calls.iter() {
+                    black_box(L::clear_guessed(black_box(stores.two(each).0)));
+                }
+            })
+        })
     }
 
     fn writers<L: Library>(&self) -> Side {
