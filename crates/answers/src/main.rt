@@ -42,7 +42,7 @@ fn show_lent(h: Head, a: &[u32], b: &[u32], w: &[u8], out: &mut [u8], at: usize)
     if stores == 0 {
         return at;
     }
-    let first = line::words(out, at, a, h.room_a);
+    let first = line::words(out, at, a, request::first_room(h));
     if stores == 1 {
         return first;
     }

@@ -66,6 +66,17 @@ pub fn of_list(a: RoutesAnswer) -> Numbers {
     }
 }
 
+// A store whose marks are taken off: its rows.
+pub fn of_cleared(a: ListAnswer) -> Numbers {
+    match a {
+        ListAnswer::Rows(n) => Numbers {
+            count: 2,
+            values: [0, n, 0, 0, 0, 0, 0, 0, 0],
+        },
+        ListAnswer::Refused(n) => refused(n, 2),
+    }
+}
+
 // MP_REACH_NLRI: the length and the sum of its next hop, whether the reserved byte is not 0, its rows, and those with a bit set past their length.
 pub fn of_reach(a: ReachAnswer, next_hop: &[u8]) -> Numbers {
     match a {

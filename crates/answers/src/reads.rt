@@ -1,4 +1,4 @@
-// Ops 1 to 12 and 18 to 25: the readers.
+// Ops 1 to 12 and 18 to 25, the readers, and 28, which takes the marks off a store of rows.
 use crate::numbers;
 use crate::numbers::Numbers;
 use crate::request;
@@ -107,7 +107,13 @@ fn plain<'a>(h: Head, s: &'a [u8], two: &'a [u8]) -> Numbers {
     }
 }
 
-// Ops 2, 4, 22 and 24, which lend one store, and ops 6 and 10, which lend two, on part one.
+// Op 28, on a store with a place for each number of the part, which it holds before the call.
+fn cleared(part: &[u8], words: &mut [u32]) -> Numbers {
+    store::decode(part, words);
+    numbers::of_cleared(route_marks::clear_guessed(words))
+}
+
+// Ops 2, 4, 22, 24 and 28, which lend one store, and ops 6 and 10, which lend two, on part one.
 fn stored(op: u8, settings: u8, s: &[u8], a: &mut [u32], b: &mut [u32]) -> Numbers {
     let mode = families::mode_of(settings);
     match op {
@@ -122,6 +128,7 @@ fn stored(op: u8, settings: u8, s: &[u8], a: &mut [u32], b: &mut [u32]) -> Numbe
         )),
         22 => stored_reach(s, mode, a),
         24 => numbers::of_list(mp_nlri::parse_mp_unreach_nlri(s, mode, a)),
+        28 => cleared(s, a),
         _ => numbers::of_update(updates::parse_bgp_update_message(s, mode, a, b)),
     }
 }
@@ -144,7 +151,7 @@ fn merged(h: Head, s: &[u8], a: &mut [u32], b: &mut [u32]) -> Numbers {
 // How many stores an op lends.
 pub fn stores_lent(op: u8) -> u8 {
     match op {
-        2 | 4 | 22 | 24 => 1,
+        2 | 4 | 22 | 24 | 28 => 1,
         6 | 10 | 21 => 2,
         _ => 0,
     }
@@ -165,7 +172,7 @@ pub fn answer(h: Head, s: &[u8], a: &mut [u32], b: &mut [u32]) -> Numbers {
     if stores_lent(h.op) == 0 {
         return plain(h, request::part_one(s, h), request::part_two(s, h));
     }
-    let m = wire::least(h.room_a, a.len());
+    let m = wire::least(request::first_room(h), a.len());
     let n = wire::least(h.room_b, b.len());
     into_stores(h, s, &mut a[..m], &mut b[..n])
 }

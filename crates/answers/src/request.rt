@@ -12,7 +12,7 @@ pub const HEAD_SIZE: usize = 18;
 pub const ROOM_LIMIT: usize = 400000;
 
 // The last op; the first is 1.
-const LAST_OP: u8 = 27;
+const LAST_OP: u8 = 28;
 
 // The largest settings byte.
 const SETTINGS_LIMIT: u8 = 63;
@@ -70,6 +70,14 @@ pub fn read_head(s: &[u8]) -> Head {
     }
 }
 
+// The places lent in the first store: those asked for, and in op 28 one for each number of part one.
+pub fn first_room(h: Head) -> usize {
+    if h.op == 28 {
+        return h.one / 4;
+    }
+    h.room_a
+}
+
 // Whether a part is whole numbers of four bytes.
 fn whole(size: usize) -> bool {
     size % 4 == 0
@@ -79,7 +87,7 @@ fn whole(size: usize) -> bool {
 fn parts_given(h: Head) -> bool {
     let op = h.op;
     match op {
-        13 | 27 => whole(h.one),
+        13 | 27 | 28 => whole(h.one),
         14 => whole(wire::most(h.one % 4, h.two % 4)),
         15 => h.one == 8,
         17 => whole(wire::most(h.one % 4, h.three % 4)),

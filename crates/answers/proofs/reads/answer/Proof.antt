@@ -18,6 +18,9 @@ plain-requires c κs = search needs
 returns : tie.Need-returns
 returns c = search needs
 
+first-room-requires : tie.Need-first-room-requires
+first-room-requires c κs = search needs
+
 least-requires : tie.Need-least-requires
 least-requires c κs = search needs
 
@@ -57,6 +60,7 @@ answer-spec =
     part-two-requires
     plain-requires
     returns
+    first-room-requires
     least-requires
     least-requires-2
     slice-relend-prefix-into-stores
