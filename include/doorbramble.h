@@ -58,8 +58,8 @@ extern "C" {
 
 /* of this header: the major number rises when a caller that was compiled before would break, the minor one when calls or fields are
  * added. doorbramble_version() is that of the library. */
-#define DOORBRAMBLE_VERSION_MAJOR 1
-#define DOORBRAMBLE_VERSION_MINOR 7
+#define DOORBRAMBLE_VERSION_MAJOR 2
+#define DOORBRAMBLE_VERSION_MINOR 0
 
 /* ---- refusal numbers */
 

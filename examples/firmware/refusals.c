@@ -1230,7 +1230,7 @@ static void slots(void) {
 
 static void version(void) {
     uint64_t answer = doorbramble_version();
-    check_answer("version", answer, accepted(1, 7, 0));
+    check_answer("version", answer, accepted(2, 0, 0));
     expect("the version of the header", doorbramble_version_major(answer) == DOORBRAMBLE_VERSION_MAJOR &&
                                             doorbramble_version_minor(answer) == DOORBRAMBLE_VERSION_MINOR);
 }

@@ -25,6 +25,9 @@ use Rattle.routes.specs.Promises as routes
 use Rattle.routes.specs.Promises.{listMeaning, withHosts, countList, countSection, readList, routesMeaning}
 use Rattle.route_bytes.specs.Encode.{fourWords, rowBytes, allZero, writable, frontRow, writeStep, writing, bytesOf}
 use Rattle.route_bytes.specs.Promises.{measured}
+use Rattle.route_marks.specs.Marks.{clearedFrom}
+use Rattle.route_marks.specs.Marks as marks
+use Rattle.route_marks.specs.Promises.{clearAnswer, clearAfter}
 use Rattle.route_writer.specs.Promises as routeWriter
 use Rattle.asns.specs.Asn.{widthOf, span}
 use Rattle.asns.specs.Aggregator.{aggregatorMeaning, aggregatorOf, aggregatorBytes, aggregatorWritten}
@@ -797,12 +800,12 @@ guessedIds =
     ∷ line (firstWord Guess (0 ∷ 0 ∷ 0 ∷ 7 ∷ 8 ∷ 10 ∷ 8 ∷ 11 ∷ []) 1) 8
     ∷ line (firstWord Guess (8 ∷ 10 ∷ []) 0) 8
     -- that one bit, whatever else is there
-    ∷ line (unmarked 512) 0
-    ∷ line (unmarked 776) 264
-    ∷ line (unmarked 264) 264
-    ∷ line (unmarked 1023) 511
-    ∷ line (unmarked 1024) 1024
-    ∷ line (unmarked 0xFFFFFFFF) 0xFFFFFDFF
+    ∷ line (marks.unmarked 512) 0
+    ∷ line (marks.unmarked 776) 264
+    ∷ line (marks.unmarked 264) 264
+    ∷ line (marks.unmarked 1023) 511
+    ∷ line (marks.unmarked 1024) 1024
+    ∷ line (marks.unmarked 0xFFFFFFFF) 0xFFFFFDFF
     -- of every row, and of no other word; 14 for a part of a row, which stays
     ∷ line (clearedRows 0) 0
     ∷ line (clearedRows 1) 0xE0000
@@ -906,7 +909,7 @@ settings =
     ∷ line keptLimit 65535
     ∷ line bodyRows 65512
     -- the version of the calls for C
-    ∷ line (wordOf versionFields) 0x60001
+    ∷ line (wordOf versionFields) 2
     -- an attribute: where its value starts, its length, its type and its flags
     ∷ line (wordOf (attributeFields (A.Attribute 0x50 2 8 3 11))) 0x500200030008
     ∷ line (wordOf (attributeFields A.Absent)) 0

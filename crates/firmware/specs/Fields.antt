@@ -136,10 +136,10 @@ bodyRows = 65512
 -- ---- the version
 
 abbrev pub versionMajor : ℕ
-versionMajor = 1
+versionMajor = 2
 
 abbrev pub versionMinor : ℕ
-versionMinor = 7
+versionMinor = 0
 
 abbrev pub versionFields : Fields
 versionFields = fields versionMajor versionMinor 0 0

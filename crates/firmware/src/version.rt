@@ -5,10 +5,10 @@ ghost use Rattle.firmware.specs.Fields.{versionFields};
 use words::word;
 
 // Rises when a caller that was compiled before would break.
-pub const MAJOR: u16 = 1;
+pub const MAJOR: u16 = 2;
 
 // Rises when calls are added.
-pub const MINOR: u16 = 7;
+pub const MINOR: u16 = 0;
 
 // The version of the library.
 #[no_mangle]
