@@ -26,6 +26,26 @@ pub fn answer(request: &Request) -> Answer {
     }
 }
 
+/// The same answer, with the marks of guessed ids taken off the rows that were put: the crate knows none.
+pub fn answer_without_marks(request: &Request) -> Answer {
+    let mut answer = answer(request);
+    // which numbers count the rows of each store
+    let counts: &[usize] = match request.op {
+        2 | 4 | 24 => &[0],
+        10 => &[0, 2],
+        22 => &[3],
+        _ => &[],
+    };
+    for (count, store) in counts.iter().zip(&mut answer.lent) {
+        if let Lent::Numbers(places) = store {
+            let rows = &places[..6 * answer.numbers[*count] as usize];
+            let cleared = routes::without_marks(rows).expect("whole rows");
+            store.put_numbers(&cleared);
+        }
+    }
+    answer
+}
+
 type Done = Result<(Vec<u64>, Vec<Lent>), Refusal>;
 
 fn call(request: &Request) -> Done {
@@ -63,6 +83,7 @@ fn call(request: &Request) -> Done {
         25 => Ok((counts(&mp_nlri::read_unreach(bytes, reading(request))?), vec![])),
         26 => written(request, mp_nlri::write_reach(bytes, &request.numbers(1), request.has(ADD_PATH))?, true),
         27 => written(request, mp_nlri::write_unreach(&request.numbers(0), request.has(ADD_PATH))?, true),
+        28 => cleared(request),
         _ => unreachable!("records gives the ops up to LAST_OP"),
     }
 }
@@ -249,6 +270,12 @@ fn announcement(request: &Request, value: &[u8]) -> Done {
     let (counts, lent) =
         if request.op == 22 { stored_rows(request, reach.rows)? } else { (counts(&reach.rows), vec![]) };
     Ok(([&head[..], &counts].concat(), lent))
+}
+
+/// The store that part 1 is, without its rows' marks.
+fn cleared(request: &Request) -> Done {
+    let words = routes::without_marks(&request.numbers(0))?;
+    Ok((vec![words.len() as u64 / 6], vec![Lent::Numbers(words)]))
 }
 
 /// An UPDATE body into the output; its limits are its own.

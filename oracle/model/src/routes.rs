@@ -26,10 +26,13 @@ pub enum Reading {
     Guess,
 }
 
-/// Length, plus 256 with an id; id or 0; four address words.
+/// Length, plus 256 with an id, plus 512 where the id was guessed; id or 0; four address words.
 pub type Row = [u32; 6];
 
 const HAS_ID: u32 = 256;
+
+/// The mark of a guessed id.
+const GUESSED: u32 = 512;
 
 /// A row that was read, and whether a bit of the item's octets past its length is set.
 #[derive(Debug, Clone, Copy, PartialEq, Eq)]
@@ -112,6 +115,13 @@ enum State {
     Tagged,
 }
 
+/// One item that the guess takes with an id: its row has the mark.
+fn guessed_item(bytes: &[u8], family: Family) -> Result<(usize, ReadRow), Refusal> {
+    let (used, mut row) = item(bytes, true, family)?;
+    row.words[0] += GUESSED;
+    Ok((used, row))
+}
+
 /// The walk of the guess.
 fn guessed_items(mut bytes: &[u8], family: Family) -> Result<Vec<ReadRow>, Refusal> {
     let mut rows = vec![];
@@ -123,7 +133,7 @@ fn guessed_items(mut bytes: &[u8], family: Family) -> Result<Vec<ReadRow>, Refus
                 continue;
             }
             State::Plain => item(bytes, false, family)?,
-            State::Tagged => match item(bytes, true, family) {
+            State::Tagged => match guessed_item(bytes, family) {
                 Ok(taken) => taken,
                 Err(_) => {
                     state = State::Plain;
@@ -157,7 +167,24 @@ pub fn section(bytes: &[u8], reading: Reading) -> Result<Vec<ReadRow>, Refusal> 
     }
 }
 
-/// The bytes of one row, or 14.
+/// Words as rows, or 14 where they are not whole ones.
+fn whole_rows(words: &[u32]) -> Result<Vec<Row>, Refusal> {
+    if words.len() % 6 != 0 {
+        return Err(14);
+    }
+    Ok(words.chunks_exact(6).map(|row| row.try_into().expect("six words")).collect())
+}
+
+/// Rows of any words without their marks; all else is as it was.
+pub fn without_marks(words: &[u32]) -> Result<Vec<u32>, Refusal> {
+    let mut rows = whole_rows(words)?;
+    for row in &mut rows {
+        row[0] &= !GUESSED;
+    }
+    Ok(rows.concat())
+}
+
+/// The bytes of one row, or 14; no length is as great as the mark.
 fn write_row(row: &[u32], with_id: bool, family: Family) -> Result<Vec<u8>, Refusal> {
     let (first, id, address) = (row[0], row[1], &row[2..6]);
     let length = if with_id { first.checked_sub(HAS_ID).ok_or(14u32)? } else { first };
@@ -180,12 +207,9 @@ fn write_row(row: &[u32], with_id: bool, family: Family) -> Result<Vec<u8>, Refu
 
 /// The bytes of a list of rows, or 14; how many they may be is for the caller.
 pub fn write(words: &[u32], with_id: bool, family: Family) -> Result<Vec<u8>, Refusal> {
-    if words.len() % 6 != 0 {
-        return Err(14);
-    }
     let mut bytes = vec![];
-    for row in words.chunks_exact(6) {
-        bytes.extend(write_row(row, with_id, family)?);
+    for row in whole_rows(words)? {
+        bytes.extend(write_row(&row, with_id, family)?);
     }
     Ok(bytes)
 }

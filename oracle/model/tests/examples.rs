@@ -51,6 +51,11 @@ fn tagged(id: u32, length: u32, address: [u8; 4]) -> [u32; 6] {
     [256 + length, id, u32::from_be_bytes(address), 0, 0, 0]
 }
 
+/// The same, with the mark of a guessed id.
+fn guessed(id: u32, length: u32, address: [u8; 4]) -> [u32; 6] {
+    tagged(id, 512 + length, address)
+}
+
 #[test]
 fn lists() {
     let default = plain(0, [0; 4]);
@@ -69,8 +74,8 @@ fn lists() {
     let routes = vec![default, plain(24, [10, 1, 8, 0]), plain(24, [200, 2, 0, 0])];
     assert_eq!(rows(2, 0, "00 18 0A 01 08 18 C8 02 00"), Ok(routes));
     assert_eq!(rows(2, GUESS, "00 18 0A 01 08 18 C8 02 00"), Err(7));
-    assert_eq!(rows(2, GUESS, "00 18 0A 01 08 18"), Ok(vec![tagged(1_575_425, 8, [24, 0, 0, 0])]));
-    let routes = vec![tagged(0, 8, [10, 0, 0, 0]), plain(8, [11, 0, 0, 0])];
+    assert_eq!(rows(2, GUESS, "00 18 0A 01 08 18"), Ok(vec![guessed(1_575_425, 8, [24, 0, 0, 0])]));
+    let routes = vec![guessed(0, 8, [10, 0, 0, 0]), plain(8, [11, 0, 0, 0])];
     assert_eq!(rows(2, GUESS, "00 00 00 00 08 0A 08 0B"), Ok(routes));
     let ipv6 = [64, 0, 0x2001_0DB8, 1, 0, 0];
     assert_eq!(rows(2, IPV6, "40 20 01 0D B8 00 00 00 01"), Ok(vec![ipv6]));
@@ -141,6 +146,110 @@ fn host_bits_of_updates() {
     };
     assert_eq!(rooms(6, 6), (0, vec![1, 0, 1, 0, 1, 1]));
     assert_eq!(rooms(6, 5), (11, vec![0; 6]));
+}
+
+/// The first words of the rows in a store, which this number counts.
+fn first_words(answer: &records::Answer, store: usize, count: usize) -> Vec<u32> {
+    let records::Lent::Numbers(places) = &answer.lent[store] else { panic!("rows are numbers") };
+    places.chunks_exact(6).take(answer.numbers[count] as usize).map(|row| row[0]).collect()
+}
+
+/// A request on one part, with room for rows.
+fn reading(op: u8, settings: u8, bytes: Vec<u8>) -> Request {
+    Request { op, settings, room_a: 60, room_b: 60, parts: [bytes, vec![], vec![]], argument: 0 }
+}
+
+#[test]
+fn marks_of_guessed_ids() {
+    assert_eq!(rows(2, GUESS, "00 00 00 07 08 0A"), Ok(vec![[776, 7, 0x0A00_0000, 0, 0, 0]]));
+    // a plain item, two with ids, one that the guess falls back on, and one with an id again
+    let list = hex("08 0A 00 00 00 07 08 0B 00 00 00 08 09 0C 80 20 01 02 03 FF 00 00 00 00 00");
+    let body = [vec![0, list.len() as u8], list.clone(), vec![0, 0], list.clone()].concat();
+    let inputs = [
+        (2, list.clone(), [Some(0), None]),
+        (4, list.clone(), [Some(0), None]),
+        (10, body, [Some(0), Some(2)]),
+        (22, [&[0, 2, 1, 16], &[0; 17][..], &list].concat(), [Some(3), None]),
+        (24, [&[0, 2, 1][..], &list].concat(), [Some(0), None]),
+    ];
+    for (op, bytes, counts) in inputs {
+        let asked = reading(op, GUESS, bytes);
+        let (marked, plain) = (model::answer(&asked), model::answer_without_marks(&asked));
+        assert_eq!((marked.refusal, &marked.numbers), (0, &plain.numbers), "op {op}: no number of it changes");
+        for (store, count) in counts.into_iter().flatten().enumerate() {
+            assert_eq!(first_words(&marked, store, count), [8, 776, 777, 32, 768], "op {op}");
+            assert_eq!(first_words(&plain, store, count), [8, 264, 265, 32, 256], "op {op}");
+        }
+    }
+}
+
+#[test]
+fn no_marks() {
+    let list = hex("00 00 00 07 08 0A 00 00 00 08 08 0B");
+    let values = [
+        (2, list.clone()),
+        (4, list.clone()),
+        (10, [vec![0, 12], list.clone(), vec![0, 0], list.clone()].concat()),
+        (22, [&[0, 2, 1, 16], &[0; 17][..], &list].concat()),
+        (24, [&[0, 2, 1][..], &list].concat()),
+    ];
+    for (op, bytes) in values {
+        let [told, guess] = [ADD_PATH, ADD_PATH | GUESS].map(|settings| reading(op, settings, bytes.clone()));
+        assert_eq!(model::answer(&told), model::answer(&guess), "the guess is nothing where ids are told");
+        assert_eq!(model::answer(&told), model::answer_without_marks(&told));
+        assert!(model::answer(&told).lent[0] != model::answer(&reading(op, GUESS, bytes)).lent[0]);
+    }
+    assert_eq!(told(1, ADD_PATH, hex("00 00 00 07 08 0A")), "0 6 264 7 167772160 0 0 0 0");
+    assert_eq!(told(1, ADD_PATH | GUESS, hex("00 00 00 07 08 0A")), "0 6 264 7 167772160 0 0 0 0");
+    assert_eq!(rows(2, GUESS, "00"), Ok(vec![plain(0, [0; 4])]), "looked for, and not found");
+}
+
+#[test]
+fn marked_rows_are_not_written() {
+    let guessed = guessed(7, 8, [10, 0, 0, 0]);
+    let good = tagged(7, 8, [10, 0, 0, 0]);
+    for row in [guessed, [520, 7, 0x0A00_0000, 0, 0, 0], [520, 0, 0x0A00_0000, 0, 0, 0], [512, 0, 0, 0, 0, 0]] {
+        let (alone, after) = (words(&row), words(&[good, row].concat()));
+        for settings in [0, ADD_PATH, GUESS, ADD_PATH | GUESS | IPV6] {
+            for rows in [&alone, &after] {
+                let written = |op, parts| written(op, settings, 99, parts);
+                assert_eq!(written(13, [rows.clone(), vec![], vec![]]), Err(14));
+                assert_eq!(written(17, [rows.clone(), vec![], vec![]]), Err(14));
+                assert_eq!(written(17, [vec![], vec![], rows.clone()]), Err(14));
+                assert_eq!(written(26, [NEXT_HOP.to_vec(), rows.clone(), vec![]]), Err(14));
+                assert_eq!(written(27, [rows.clone(), vec![], vec![]]), Err(14));
+            }
+        }
+    }
+}
+
+/// Refusal, rows and the store after its marks were taken off.
+fn cleared(store: &[u32]) -> (u32, u64, Vec<u32>) {
+    let asked = Request { op: 28, room_a: 3, parts: [words(store), vec![], vec![]], ..Request::default() };
+    let answer = model::answer(&asked);
+    let [records::Lent::Numbers(places)] = &answer.lent[..] else { panic!("a store of numbers") };
+    (answer.refusal, answer.numbers[0], places.clone())
+}
+
+#[test]
+fn marks_taken_off() {
+    let line = |store: &[u32]| told(28, 0, words(store));
+    assert_eq!(line(&[]), "0 0 | 0");
+    assert_eq!(line(&[776, 7, 0x0A00_0000, 0, 0, 0]), line(&[264, 7, 0x0A00_0000, 0, 0, 0]));
+    assert!(line(&[776, 7, 0x0A00_0000, 0, 0, 0]).ends_with(" 264 7 167772160 0 0 0"));
+    assert!(line(&[u32::MAX; 6]).ends_with(" 4294966783 4294967295 4294967295 4294967295 4294967295 4294967295"));
+    for bit in 0..32 {
+        for place in 0..12 {
+            let mut store = vec![0; 12];
+            store[place] = 1 << bit;
+            let kept = if bit == 9 && place % 6 == 0 { vec![0; 12] } else { store.clone() };
+            assert_eq!(cleared(&store), (0, 2, kept));
+        }
+    }
+    for count in (1..=100).filter(|count| count % 6 != 0) {
+        let store = vec![u32::MAX; count];
+        assert_eq!(cleared(&store), (14, 0, store), "not whole rows: as it was");
+    }
 }
 
 #[test]

@@ -19,7 +19,7 @@ pub const EXTENDED: u8 = 32;
 pub const LAST_SETTINGS: u8 = 63;
 
 /// Ops are numbered from 1 up to this one.
-pub const LAST_OP: u8 = 27;
+pub const LAST_OP: u8 = 28;
 
 /// The most places of a room and bytes of a part.
 pub const MOST: usize = 400_000;
@@ -72,7 +72,7 @@ impl Request {
             18 => self.parts[1].len() == 4,
             21 => usize::from(self.argument) <= self.parts[2].len(),
             26 => whole(1),
-            27 => whole(0),
+            27 | 28 => whole(0),
             _ => true,
         };
         (1..=LAST_OP).contains(&self.op) && self.settings <= LAST_SETTINGS && parts_given
@@ -214,6 +214,7 @@ pub fn lent_of(request: &Request) -> Vec<Lent> {
         2 | 4 | 22 | 24 => vec![Lent::numbers(request.room_a)],
         6 | 10 | 21 => vec![Lent::numbers(request.room_a), Lent::numbers(request.room_b)],
         13..=17 | 26 | 27 => vec![Lent::bytes(request.room_a)],
+        28 => vec![Lent::Numbers(request.numbers(0))],
         _ => vec![],
     }
 }
