@@ -2,6 +2,7 @@
 
 pub mod buffers;
 pub mod inputs;
+pub mod marks;
 pub mod programs;
 pub mod progress;
 pub mod report;

@@ -8,14 +8,14 @@
 
 use compare::inputs::captures::{self, Capture};
 use compare::inputs::Inputs;
-use compare::programs::Program;
+use compare::programs::{Built, Program};
 use compare::progress::Progress;
 use compare::report::{Given, Report};
 use compare::{sample, stops, table};
 use records::ending::{self, about};
 use std::env;
 use std::io::{self, Write};
-use std::path::{Path, PathBuf};
+use std::path::Path;
 use std::process::ExitCode;
 
 const USAGE: &str = "compare run SEED COUNT FOLDER [ANSWERS] | compare sample SEED FOLDER | compare table SEED FOLDER";
@@ -25,24 +25,24 @@ const CHUNK: u64 = 20_000;
 
 /// The programs to compare: those built beside this one, and the one that is given.
 struct Programs {
-    by_crate: Program,
-    model: Program,
+    built: Built,
     answers: Option<Program>,
 }
 
 impl Programs {
     fn new(answers: Option<&String>) -> io::Result<Programs> {
         let own = env::current_exe().map_err(|error| about("the folder of this program", error))?;
-        let beside = |name: &str| -> PathBuf { own.with_file_name(name) };
-        Ok(Programs {
-            by_crate: Program::new("crate", beside("crate-oracle")),
-            model: Program::new("model", beside("model")),
-            answers: answers.map(|path| Program::new("answers", path)),
-        })
+        Ok(Programs { built: Built::beside(&own), answers: answers.map(|path| Program::new("answers", path)) })
     }
 
+    /// Each program once.
     fn all(&self) -> Vec<&Program> {
-        [&self.by_crate, &self.model].into_iter().chain(&self.answers).collect()
+        [&self.built.by_crate, &self.built.model].into_iter().chain(&self.answers).collect()
+    }
+
+    /// Those that answer each request: the model also without marks.
+    fn asked(&self) -> Vec<&Program> {
+        [&self.built.by_crate, &self.built.model, &self.built.unmarked].into_iter().chain(&self.answers).collect()
     }
 }
 
@@ -89,16 +89,17 @@ fn chunk(
     }
     let file = folder.join("chunk.bin");
     std::fs::write(&file, &bytes).map_err(|error| about(file.display(), error))?;
-    let mut runs = programs.all().into_iter().map(|program| program.run(&file)).collect::<io::Result<Vec<_>>>()?;
+    let mut runs = programs.asked().into_iter().map(|program| program.run(&file)).collect::<io::Result<Vec<_>>>()?;
     let mut lines = vec![String::new(); runs.len()];
     for (number, request) in (done + 1..).zip(&requests) {
         for (run, line) in runs.iter_mut().zip(&mut lines) {
             run.next(line)?;
         }
-        let given = Given { by_crate: &lines[0], model: &lines[1], answers: lines.get(2).map(String::as_str) };
+        let [by_crate, model, unmarked, ..] = &lines[..] else { unreachable!("three programs at least") };
+        let given = Given { by_crate, model, unmarked, answers: lines.get(3).map(String::as_str) };
         report.add(number, request, &given, out)?;
     }
-    for (run, program) in runs.into_iter().zip(programs.all()) {
+    for (run, program) in runs.into_iter().zip(programs.asked()) {
         if !run.end()? {
             report.add_more(program.name, done + size, out)?;
         }
@@ -122,7 +123,7 @@ fn command(me: &str, arguments: &[String]) -> io::Result<bool> {
                 seed: number(seed)?,
                 captures: &captured()?,
                 folder: Path::new(folder),
-                programs: (&programs.by_crate, &programs.model),
+                programs: &programs.built,
             };
             if verb == "sample" {
                 sample::write(&making, &mut out)

@@ -12,21 +12,43 @@ const LONGEST: u64 = 1 << 16;
 pub struct Program {
     pub name: &'static str,
     path: PathBuf,
+    word: Option<&'static str>,
 }
 
 impl Program {
     pub fn new(name: &'static str, path: impl Into<PathBuf>) -> Program {
-        Program { name, path: path.into() }
+        Program { name, path: path.into(), word: None }
+    }
+
+    /// The same program, run with a word.
+    fn with(&self, word: &'static str) -> Program {
+        Program { name: self.name, path: self.path.clone(), word: Some(word) }
     }
 
     /// Runs on the records of a file.
     pub fn run(&self, requests: &Path) -> io::Result<Lines> {
         let records = File::open(requests).map_err(|error| about(requests.display(), error))?;
         let name = format!("the program {}", self.path.display());
-        let start = Command::new(&self.path).stdin(records).stdout(Stdio::piped()).spawn();
+        let start = Command::new(&self.path).args(self.word).stdin(records).stdout(Stdio::piped()).spawn();
         let mut child = start.map_err(|error| about(format!("{name} cannot be run"), error))?;
         let lines = child.stdout.take().expect("the pipe that was asked for");
         Ok(Lines { name, child, lines: BufReader::with_capacity(1 << 16, lines), bytes: vec![] })
+    }
+}
+
+/// The programs that are built beside this one.
+pub struct Built {
+    pub by_crate: Program,
+    pub model: Program,
+    /// The model, with the marks of guessed ids taken off.
+    pub unmarked: Program,
+}
+
+impl Built {
+    pub fn beside(own: &Path) -> Built {
+        let model = Program::new("model", own.with_file_name("model"));
+        let unmarked = model.with("unmarked");
+        Built { by_crate: Program::new("crate", own.with_file_name("crate-oracle")), model, unmarked }
     }
 }
 

@@ -1,5 +1,6 @@
 //! Totals per op and per refusal number, and the first differences.
 
+use crate::marks::line_of_crate;
 use records::{Request, LAST_OP};
 use std::io::{self, Write};
 
@@ -28,9 +29,10 @@ pub struct Report {
     differences: usize,
 }
 
-/// The lines that the three programs gave for one request.
+/// The lines that the three programs gave for one request, the model's also without marks.
 pub struct Given<'a> {
     pub model: &'a str,
+    pub unmarked: &'a str,
     pub by_crate: &'a str,
     pub answers: Option<&'a str>,
 }
@@ -49,7 +51,7 @@ impl Report {
         }
         if given.by_crate != "-" {
             totals.by_crate += 1;
-            if given.by_crate != given.model {
+            if given.by_crate != line_of_crate(request, given.model, given.unmarked) {
                 totals.crate_differs += 1;
                 differs = true;
             }
@@ -112,6 +114,9 @@ fn show(record: u64, request: &Request, given: &Given, out: &mut impl Write) -> 
     writeln!(out, "difference in request {record}: op {} settings {}", request.op, request.settings)?;
     writeln!(out, "  request {hex}{}", if bytes.len() > SHOWN_BYTES { ".." } else { "" })?;
     writeln!(out, "  model   {}", given.model)?;
+    if given.unmarked != given.model {
+        writeln!(out, "  without marks {}", given.unmarked)?;
+    }
     writeln!(out, "  crate   {}", given.by_crate)?;
     match given.answers {
         Some(answers) => writeln!(out, "  answers {answers:.SHOWN_BYTES$}"),

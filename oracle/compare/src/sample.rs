@@ -4,7 +4,8 @@
 use crate::buffers::crossed;
 use crate::inputs::captures::Capture;
 use crate::inputs::{numbers, random};
-use crate::programs::Program;
+use crate::marks::line_of_crate;
+use crate::programs::{Built, Lines};
 use crate::rng::Rng;
 use crate::stops;
 use records::ending::about;
@@ -32,15 +33,15 @@ fn requests(seed: u64, captures: &[Capture]) -> Vec<Request> {
     requests
 }
 
-/// What a sample is made from: a seed, the captured messages, a folder for its files, and the crate's program and the model.
+/// What a sample is made from: a seed, the captured messages, a folder for its files, and the programs.
 pub struct Making<'a> {
     pub seed: u64,
     pub captures: &'a [Capture],
     pub folder: &'a Path,
-    pub programs: (&'a Program, &'a Program),
+    pub programs: &'a Built,
 }
 
-/// The lines on requests: the crate's where it has one, else the model's; and how many are the crate's, and where the model's are others.
+/// The model's lines on requests; how many the crate has too, and where the crate's are others.
 pub struct Answers {
     pub lines: Vec<String>,
     pub by_crate: u64,
@@ -48,33 +49,37 @@ pub struct Answers {
 }
 
 /// Asks crate and model about the requests and the bytes after them, which take one line more where there are any. `file` gets the records.
-pub fn answers(
-    requests: &[Request],
-    after: &[u8],
-    file: &Path,
-    (by_crate, model): (&Program, &Program),
-) -> io::Result<Answers> {
+pub fn answers(requests: &[Request], after: &[u8], file: &Path, programs: &Built) -> io::Result<Answers> {
     let mut bytes = vec![];
     for request in requests {
         request.write_to(&mut bytes);
     }
     bytes.extend(after);
     std::fs::write(file, &bytes).map_err(|error| about(file.display(), error))?;
-    let (mut crate_lines, mut model_lines) = (by_crate.run(file)?, model.run(file)?);
+    let mut runs = [programs.by_crate.run(file)?, programs.model.run(file)?, programs.unmarked.run(file)?];
     let mut given = Answers { lines: vec![], by_crate: 0, differences: 0 };
-    for _ in 0..requests.len() + usize::from(!after.is_empty()) {
-        let (mut first, mut second) = (String::new(), String::new());
-        crate_lines.next(&mut first)?;
-        model_lines.next(&mut second)?;
-        let by_crate = first != "-";
-        given.by_crate += u64::from(by_crate);
-        given.differences += u64::from(by_crate && first != second);
-        given.lines.push(if by_crate { first } else { second });
+    // what comes after the requests is no request, and has no marks
+    let none = Request::default();
+    for request in requests.iter().chain((!after.is_empty()).then_some(&none)) {
+        let [by_crate, model, unmarked] = next_lines(&mut runs)?;
+        if by_crate != "-" {
+            given.by_crate += 1;
+            given.differences += u64::from(by_crate != line_of_crate(request, &model, &unmarked));
+        }
+        given.lines.push(model);
     }
-    for lines in [crate_lines, model_lines] {
-        given.differences += u64::from(!lines.end()?);
+    for run in runs {
+        given.differences += u64::from(!run.end()?);
     }
     Ok(given)
+}
+
+fn next_lines(runs: &mut [Lines; 3]) -> io::Result<[String; 3]> {
+    let mut lines = [(); 3].map(|()| String::new());
+    for (run, line) in runs.iter_mut().zip(&mut lines) {
+        run.next(line)?;
+    }
+    Ok(lines)
 }
 
 /// The bytes of a request's record.

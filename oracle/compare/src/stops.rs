@@ -31,7 +31,7 @@ fn bad_records() -> Vec<Vec<u8>> {
     let with_argument = |argument, part_3| record(request(21, 0, (9, 9), [vec![], vec![], vec![0; part_3]], argument));
     let mut bad = vec![
         record(on_bytes(0, 0, (0, 0), &[])),
-        record(on_bytes(28, 0, (0, 0), &[])),
+        record(on_bytes(29, 0, (0, 0), &[])),
         record(on_bytes(255, 0, (0, 0), &[])),
         record(on_bytes(3, 64, (0, 0), &[])),
         record(on_bytes(9, 128, (0, 0), &[])),
@@ -57,6 +57,9 @@ fn bad_records() -> Vec<Vec<u8>> {
         with_numbers(26, [vec![0; 16], vec![0; 23], vec![]]),
         with_numbers(26, [vec![], vec![0; 1], vec![]]),
         with_numbers(27, [vec![0; 26], vec![], vec![]]),
+        with_numbers(28, [vec![0; 1], vec![], vec![]]),
+        with_numbers(28, [vec![0; 23], vec![], vec![]]),
+        with_numbers(28, [vec![0; 26], vec![], vec![]]),
         record(on_bytes(3, 0, (0, 0), &vec![0; 400_001])),
         record(request(3, 0, (0, 0), [vec![], vec![0; 400_001], vec![]], 0)),
         record(request(3, 0, (0, 0), [vec![], vec![], vec![0; 400_001]], 0)),

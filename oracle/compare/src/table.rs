@@ -1,5 +1,5 @@
 //! The input of the lister and its table: slot records of captured messages, whole and damaged, of the longest and of short ones, and at the end one
-//! that is not all there. What a line says is the crate's answer on the message where it has one, else the model's.
+//! that is not all there. What a line says is the model's answer on the message, and the crate's where it has one.
 
 use crate::buffers::crossed;
 use crate::inputs::captures::Capture;
