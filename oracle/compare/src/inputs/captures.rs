@@ -3,6 +3,7 @@
 use super::as4::{joined, standing};
 use super::attributes::{search, walk};
 use super::examples::{headers, on_bytes};
+use super::marks::{marked, take_off};
 use super::mp_nlri::{announced, withdrawn, write_announcement, write_withdrawal};
 use super::pieces::{EXTENDED_LENGTH, FAMILIES};
 use records::ending::about;
@@ -165,9 +166,7 @@ impl Capture {
     fn update_requests(&self, body: &[u8]) -> Option<Vec<Request>> {
         let mut requests = vec![];
         requests.push(on_bytes(10, self.settings(), (ROWS, ROWS), body));
-        if !self.add_path_ipv4 {
-            requests.push(on_bytes(10, self.settings() | GUESS, (ROWS, ROWS), body));
-        }
+        requests.push(on_bytes(10, self.width_setting() | GUESS, (ROWS, ROWS), body));
         requests.push(on_bytes(11, self.settings() | GUESS, (0, 0), body));
         requests.push(on_bytes(12, self.settings(), (0, 0), body));
         let (_withdrawn, rest) = counted(body)?;
@@ -232,15 +231,16 @@ impl Capture {
         }
     }
 
-    /// The value of MP_REACH_NLRI as the session was and by the guess; of IPv6 unicast also its list, and its routes to be written back.
+    /// The value of MP_REACH_NLRI as the session was and by the guess; of IPv6 unicast also its list, and its routes to be written back, which
+    /// they are not with the marks of the guess until these are taken off.
     fn announcement_requests(&self, value: &[u8]) -> Option<Vec<Request>> {
         let mut requests = [self.ipv6_setting(), GUESS].map(|settings| announced(settings, ROWS, value)).concat();
         if value.starts_with(&FAMILIES) {
             let (next_hop, rest) = value.get(4..)?.split_at_checked(usize::from(value[3]))?;
             let list = rest.get(1..)?;
             requests.extend(self.list_requests(list));
-            let rows = rows(list, self.add_path_ipv6);
-            requests.extend(rows.map(|rows| write_announcement(self.ipv6_setting(), value.len(), next_hop, &rows)));
+            let write = |rows: &[u32]| write_announcement(self.ipv6_setting(), value.len(), next_hop, rows);
+            requests.extend(self.row_requests(list, write));
         }
         Some(requests)
     }
@@ -250,10 +250,20 @@ impl Capture {
         let mut requests = [self.ipv6_setting(), GUESS].map(|settings| withdrawn(settings, ROWS, value)).concat();
         if let Some(list) = value.strip_prefix(&FAMILIES) {
             requests.extend(self.list_requests(list));
-            let rows = rows(list, self.add_path_ipv6);
-            requests.extend(rows.map(|rows| write_withdrawal(self.ipv6_setting(), value.len(), &rows)));
+            let write = |rows: &[u32]| write_withdrawal(self.ipv6_setting(), value.len(), rows);
+            requests.extend(self.row_requests(list, write));
         }
         requests
+    }
+
+    /// The rows of a list to write; and where they have ids, the same with marks to write and to take these off.
+    fn row_requests(&self, list: &[u8], write: impl Fn(&[u32]) -> Request) -> Vec<Request> {
+        let Some(rows) = rows(list, self.add_path_ipv6) else { return vec![] };
+        let marked = marked(&rows);
+        if marked == rows {
+            return vec![write(&rows)];
+        }
+        vec![write(&rows), write(&marked), take_off(&marked)]
     }
 
     fn list_requests(&self, list: &[u8]) -> Vec<Request> {

@@ -1,10 +1,11 @@
 //! All short inputs: every byte string of at most two bytes, longer ones over the bytes where something changes, every
-//! host bit, and all combinations of boundary values for headers, rows and written messages.
+//! host bit, every short first word of a row, and all combinations of boundary values for headers, rows and written messages.
 
 use super::as4::{self, joined};
 use super::attributes::{search, walk};
 use super::examples::{self, on_bytes, request, words, PATH_SETTINGS};
 use super::hosts::{self, READINGS};
+use super::marks::{take_off, MARK};
 use super::mp_nlri::NEXT_HOP;
 use super::pieces;
 use records::{Request, ADD_PATH, FOUR_BYTE_AS, GUESS, IPV6};
@@ -18,6 +19,7 @@ impl Short {
             written_paths()
                 .chain(written_messages())
                 .chain(written_rows())
+                .chain(marks_taken_off())
                 .chain(aggregators())
                 .chain(announcements_and_withdrawals())
                 .chain(hosts::every_way())
@@ -173,7 +175,7 @@ fn header_requests(claimed: u16, given: usize, kind: u8) -> Vec<Request> {
 }
 
 fn written_rows() -> impl Iterator<Item = Request> {
-    const FIRST: [u32; 26] = [
+    const FIRST: [u32; 32] = [
         0,
         1,
         7,
@@ -199,6 +201,12 @@ fn written_rows() -> impl Iterator<Item = Request> {
         385,
         511,
         512,
+        520,
+        544,
+        768,
+        776,
+        800,
+        1_032,
         u32::MAX,
     ];
     const ADDRESSES: [[u32; 4]; 9] = [
@@ -222,6 +230,11 @@ fn written_rows() -> impl Iterator<Item = Request> {
             })
         })
     })
+}
+
+/// Every first word up to twice the bit above the mark, before words with the mark's bit and a row of it.
+fn marks_taken_off() -> impl Iterator<Item = Request> {
+    (0..4 * MARK).map(|first| take_off(&[[first, MARK, MARK, MARK, MARK, MARK], [MARK; 6]].concat()))
 }
 
 /// Two segments of good and bad types and counts; the numbers all fit two bytes, or the first or last does not.

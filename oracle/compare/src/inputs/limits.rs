@@ -4,6 +4,7 @@
 use super::as4::{joined, standing, ABSENT, FIRST_STANDS};
 use super::attributes::{search, walk};
 use super::examples::{on_bytes, request, words, HEADER_SETTINGS};
+use super::marks::take_off;
 use super::mp_nlri::{write_announcement, write_withdrawal, NEXT_HOP};
 use super::pieces;
 use records::{Request, ADD_PATH, EXTENDED, FOUR_BYTE_AS, GUESS, IPV6, STRICT};
@@ -27,6 +28,7 @@ pub fn all() -> Vec<Request> {
         long_joined_paths(),
         announcements_and_withdrawals(),
         written_announcements_and_withdrawals(),
+        stores(),
     ]
     .concat()
 }
@@ -316,6 +318,11 @@ fn written_announcements_and_withdrawals() -> Vec<Request> {
         write_withdrawal(ADD_PATH, 0, &rows(65_533, 0)),
         write_withdrawal(ADD_PATH, 0, &rows(65_533, 1)),
     ]
+}
+
+/// The most words that a part holds are not whole rows; the most rows are 16,666.
+fn stores() -> Vec<Request> {
+    [99_996, 100_000].map(|count| take_off(&vec![u32::MAX; count])).to_vec()
 }
 
 /// One or two attributes of a type that the crate keeps raw, so that the section has exactly this size.

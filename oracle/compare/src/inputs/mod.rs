@@ -1,5 +1,5 @@
-//! The inputs: examples of document 01, every least length, limit and order of two checks, every host bit, captured messages, all short
-//! inputs, random ones around every boundary, damaged copies of good ones, and a few of the largest sizes.
+//! The inputs: examples of document 01, every least length, limit and order of two checks, every host bit and mark, captured messages, all
+//! short inputs, random ones around every boundary, damaged copies of good ones, and a few of the largest sizes.
 
 pub mod as4;
 pub mod as4_pairs;
@@ -10,6 +10,7 @@ pub mod examples;
 pub mod exhaustive;
 pub mod hosts;
 pub mod limits;
+pub mod marks;
 pub mod mp_nlri;
 pub mod pieces;
 pub mod random;
@@ -20,7 +21,7 @@ use records::Request;
 
 /// Document 01's examples, and the numbers and orders of checks of it and of the requests: these stand in the sample too.
 pub fn numbers() -> Vec<Request> {
-    let checks = [checks::all(), attributes::all(), as4::all(), hosts::all(), mp_nlri::all()].concat();
+    let checks = [checks::all(), attributes::all(), as4::all(), hosts::all(), mp_nlri::all(), marks::all()].concat();
     [examples::all(), checks, limits::all()].concat()
 }
 
@@ -50,14 +51,14 @@ impl Inputs {
         }
     }
 
-    /// A request on a captured message, its bytes damaged; rows to write stay whole numbers.
+    /// A request on a captured message, its bytes damaged; rows that are lent stay whole numbers.
     fn damaged_capture(&mut self) -> Request {
         let at = self.rng.under(self.captures.len());
         let requests = &self.captures[at].requests;
         let mut request = requests[self.rng.under(requests.len())].clone();
         let part = &mut request.parts[0];
         pieces::damage(&mut self.rng, part);
-        if request.op == 27 {
+        if matches!(request.op, 27 | 28) {
             part.truncate(part.len() / 4 * 4);
         }
         request

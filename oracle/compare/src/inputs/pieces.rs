@@ -1,5 +1,6 @@
 //! Good pieces of messages and ways to damage them.
 
+use super::marks::MARK;
 use crate::rng::Rng;
 
 pub const IPV4_LENGTHS: &[u8] = &[0, 1, 7, 8, 9, 15, 16, 17, 22, 23, 24, 25, 30, 31, 32];
@@ -247,6 +248,9 @@ pub fn row(rng: &mut Rng, with_id: bool, ipv6: bool) -> [u32; 6] {
     }
     if rng.one_in(80) {
         row[0] ^= 256;
+    }
+    if rng.one_in(80) {
+        row[0] |= MARK;
     }
     row
 }

@@ -5,6 +5,7 @@ use super::as4_pairs::{self, AS_TRANS};
 use super::attributes::{search, walk};
 use super::examples::{on_bytes, words};
 use super::limits::raw_attribute;
+use super::marks::{take_off, MARK};
 use super::mp_nlri::{write_announcement, write_withdrawal};
 use super::pieces::{self, damage, Segments};
 use crate::rng::Rng;
@@ -33,7 +34,8 @@ pub fn request_of(rng: &mut Rng, op: u8, settings: u8) -> Request {
         21 => joined_paths(rng, settings),
         22..=25 => announced_or_withdrawn(rng, op, settings),
         26 => written_announcement(rng, settings),
-        _ => written_withdrawal(rng, settings),
+        27 => written_withdrawal(rng, settings),
+        _ => marks_taken_off(rng, settings),
     }
 }
 
@@ -47,8 +49,15 @@ pub fn request(rng: &mut Rng) -> Request {
     }
 }
 
+/// Any settings; with neither Add-Path nor the guess, half the time the guess after all, which the crate is compared with and which marks rows.
 fn any_settings(rng: &mut Rng) -> u8 {
-    rng.under(usize::from(LAST_SETTINGS) + 1) as u8
+    let settings = rng.under(usize::from(LAST_SETTINGS) + 1) as u8;
+    let neither = settings & (ADD_PATH | GUESS) == 0;
+    if neither && rng.one_in(2) {
+        settings | GUESS
+    } else {
+        settings
+    }
 }
 
 fn width(settings: u8) -> usize {
@@ -417,6 +426,36 @@ fn written_withdrawal(rng: &mut Rng, settings: u8) -> Request {
     write_withdrawal(settings, places, &numbers)
 }
 
+/// Any word, or one with bits around the mark's.
+fn word_near_mark(rng: &mut Rng) -> u32 {
+    match rng.under(4) {
+        0 => rng.word(),
+        1 => rng.pick(&[0, MARK, u32::MAX, u32::MAX - MARK]),
+        _ => rng.under(2_048) as u32,
+    }
+}
+
+/// A store of rows as readers give them, marked and not, and of any words; at times not whole rows. Its rooms, other parts and argument are any,
+/// as nothing uses them.
+fn marks_taken_off(rng: &mut Rng, settings: u8) -> Request {
+    let mut store = vec![];
+    for _ in 0..pieces::count(rng) {
+        let mut row = pieces::row(rng, settings & ADD_PATH != 0, settings & IPV6 != 0);
+        match rng.under(3) {
+            0 => row[0] |= MARK,
+            1 => row = row.map(|_| word_near_mark(rng)),
+            _ => {}
+        }
+        store.extend(row);
+    }
+    if rng.one_in(4) {
+        store.extend((0..rng.under(6)).map(|_| word_near_mark(rng)).collect::<Vec<_>>());
+    }
+    let (second, third) = (rng.under(4), rng.under(4));
+    let parts = [words(&store), rng.bytes(second), rng.bytes(third)];
+    request_on(28, settings, rng.under(9), parts, rng.byte())
+}
+
 /// A request near the greatest size of its op.
 pub fn large(rng: &mut Rng, op: u8) -> Request {
     let settings = any_settings(rng);
@@ -455,6 +494,10 @@ fn large_to_read(rng: &mut Rng, op: u8, settings: u8, size: usize) -> Request {
         19 => search(&large_section(rng, size), rng.pick(&[14, 15, 200, 201])),
         20 => standing([&vec![7; size], &[]]),
         21 => large_joined(rng, size),
+        28 => {
+            let count = rng.pick(&[99_990, 99_995, 99_996, 99_997, 100_000]);
+            take_off(&(0..count).map(|_| word_near_mark(rng)).collect::<Vec<_>>())
+        }
         _ => large_announced_or_withdrawn(rng, op, settings, size),
     }
 }
