@@ -43,7 +43,7 @@ const LISTS: &[&str] = &[
     "00 00 00 07 08 0A 08 0B 20",
 ];
 
-/// Each list in each reading by each call that puts rows, with room and with a place too few for its last row.
+/// Each list in each reading by each call that puts rows, with room and with a place too few for a row.
 fn lists() -> Vec<Request> {
     let mut requests = vec![];
     for list in LISTS.iter().map(|text| hex(text)) {

@@ -247,10 +247,7 @@ pub fn row(rng: &mut Rng, with_id: bool, ipv6: bool) -> [u32; 6] {
         row[rng.under(6)] = rng.pick(&[0, 1, 33, 129, 256, 289, 512, u32::MAX, 0x0100_0000, 255]);
     }
     if rng.one_in(80) {
-        row[0] ^= 256;
-    }
-    if rng.one_in(80) {
-        row[0] |= MARK;
+        row[0] ^= rng.pick(&[256, MARK, 256 + MARK]);
     }
     row
 }

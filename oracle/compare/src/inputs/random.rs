@@ -9,7 +9,7 @@ use super::marks::{take_off, MARK};
 use super::mp_nlri::{write_announcement, write_withdrawal};
 use super::pieces::{self, damage, Segments};
 use crate::rng::Rng;
-use records::{Request, ADD_PATH, FOUR_BYTE_AS, GUESS, IPV6, LAST_OP, LAST_SETTINGS};
+use records::{Request, ADD_PATH, FOUR_BYTE_AS, GUESS, IPV6, LAST_OP, LAST_SETTINGS, STRICT};
 
 /// One in this many requests is large.
 const LARGE: usize = 1_500;
@@ -40,20 +40,34 @@ pub fn request_of(rng: &mut Rng, op: u8, settings: u8) -> Request {
 }
 
 pub fn request(rng: &mut Rng) -> Request {
-    let op = 1 + rng.under(usize::from(LAST_OP)) as u8;
     if rng.one_in(LARGE) {
-        large(rng, op)
-    } else {
-        let settings = any_settings(rng);
-        request_of(rng, op, settings)
+        let op = 1 + rng.under(usize::from(LAST_OP)) as u8;
+        return large(rng, op);
+    }
+    let op = 1 + rng.under(usize::from(TAKE_OFF) - 1) as u8;
+    let settings = any_settings(rng);
+    // in the place of what the crate cannot answer either, so that no op is compared with it less for this one
+    let op = if has_no_call_of_crate(op, settings) && rng.one_in(4) { TAKE_OFF } else { op };
+    request_of(rng, op, settings)
+}
+
+/// The op that takes marks off, which the crate does not have.
+const TAKE_OFF: u8 = 28;
+
+/// Whether the crate has no call for an op by its settings: a strict path or header, and routes with neither Add-Path nor the guess.
+fn has_no_call_of_crate(op: u8, settings: u8) -> bool {
+    match op {
+        6 | 7 | 9 | 14 => settings & STRICT != 0,
+        2..=5 | 10 | 11 => settings & (ADD_PATH | GUESS) == 0,
+        _ => false,
     }
 }
 
-/// Any settings; with neither Add-Path nor the guess, half the time the guess after all, which the crate is compared with and which marks rows.
+/// Any settings; of those with neither Add-Path nor the guess one in eight has the guess after all, which marks rows.
 fn any_settings(rng: &mut Rng) -> u8 {
     let settings = rng.under(usize::from(LAST_SETTINGS) + 1) as u8;
     let neither = settings & (ADD_PATH | GUESS) == 0;
-    if neither && rng.one_in(2) {
+    if neither && rng.one_in(8) {
         settings | GUESS
     } else {
         settings
