@@ -25,6 +25,11 @@ pub fn short_record() -> Vec<u8> {
     bytes
 }
 
+/// Rows whose last number is cut, to write and to take marks off.
+fn cut_stores() -> [Vec<u8>; 4] {
+    [(27, 26), (28, 1), (28, 23), (28, 26)].map(|(op, size)| record(on_bytes(op, 0, (9, 0), &vec![0; size])))
+}
+
 /// Runs that end in a stop: the bytes after one good record.
 fn bad_records() -> Vec<Vec<u8>> {
     let with_numbers = |op, parts| record(request(op, 0, (9, 0), parts, 0));
@@ -56,14 +61,11 @@ fn bad_records() -> Vec<Vec<u8>> {
         with_argument(255, 254),
         with_numbers(26, [vec![0; 16], vec![0; 23], vec![]]),
         with_numbers(26, [vec![], vec![0; 1], vec![]]),
-        with_numbers(27, [vec![0; 26], vec![], vec![]]),
-        with_numbers(28, [vec![0; 1], vec![], vec![]]),
-        with_numbers(28, [vec![0; 23], vec![], vec![]]),
-        with_numbers(28, [vec![0; 26], vec![], vec![]]),
         record(on_bytes(3, 0, (0, 0), &vec![0; 400_001])),
         record(request(3, 0, (0, 0), [vec![], vec![0; 400_001], vec![]], 0)),
         record(request(3, 0, (0, 0), [vec![], vec![], vec![0; 400_001]], 0)),
     ];
+    bad.extend(cut_stores());
     let good = good_record();
     bad.extend((1..good.len()).map(|cut| good[..cut].to_vec()));
     bad

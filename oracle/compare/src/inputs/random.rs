@@ -54,11 +54,12 @@ pub fn request(rng: &mut Rng) -> Request {
 /// The op that takes marks off, which the crate does not have.
 const TAKE_OFF: u8 = 28;
 
-/// Whether the crate has no call for an op by its settings: a strict path or header, and routes with neither Add-Path nor the guess.
+/// Whether the crate has no call for an op by its settings: a strict path or header, and sections with neither Add-Path nor the guess. Lists
+/// with neither it can read item by item.
 fn has_no_call_of_crate(op: u8, settings: u8) -> bool {
     match op {
         6 | 7 | 9 | 14 => settings & STRICT != 0,
-        2..=5 | 10 | 11 => settings & (ADD_PATH | GUESS) == 0,
+        4 | 5 | 10 | 11 => settings & (ADD_PATH | GUESS) == 0,
         _ => false,
     }
 }
