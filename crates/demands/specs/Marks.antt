@@ -173,8 +173,10 @@ module _ (κs : _) (given : _) (answer : _) (exit : _) (call : clear_guessed.Lea
       let is : lent exit ≡ cleared (lent given) = call .1 ∙ sym (w .1) in (
         call .0 ∙ sym (w .0),
         ap length is ∙ cleared-length 0 (lent given),
-        (λ i first. ap (λ (l : List ℕ). getD l i 0) is ∙ cleared-first (lent given) i first,
-        λ i other. ap (λ (l : List ℕ). getD l i 0) is ∙ cleared-other (lent given) i other),
+        (
+          λ i first. ap (λ (l : List ℕ). getD l i 0) is ∙ cleared-first (lent given) i first,
+          λ i other. ap (λ (l : List ℕ). getD l i 0) is ∙ cleared-other (lent given) i other,
+        ),
       )
 
   pub cleared-refused : (length (lent given) % 6 ≡ 0 → ⊥) → (answer ≡ Refused notWritable) × (lent exit ≡ lent given)

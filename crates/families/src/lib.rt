@@ -52,7 +52,7 @@ pub fn guess_mark(form: Form) -> u32
     ensures { λ r. ⌜ r ≡ guessMark AddPath.Guess form ⌝ }
 {
     match form {
-        Form::Plain => 0,
+        Form::Plain => 0, // no id to mark
         Form::Tagged => GUESSED,
     }
 }
