@@ -1,13 +1,14 @@
 -- Every call that is lent a store or an output, of the calls themselves: a refusal counts nothing and leaves what was lent as it was; after success
 -- what lies past the counted places is as it was.
 -- Assumes nothing.
-use Prim.Native.Nat.{ℕ, _+_, _*_, _≤_, _<_}
-use mathlib.Core.Path.{_≡_, refl, sym, ap, _∙_}
+use Prim.Native.Nat.{ℕ, _+_, _*_, _/_, _%_, _≤_, _<_}
+use mathlib.Core.Path.{_≡_, refl, sym, ap, subst, _∙_}
 use mathlib.Core.List.{List, [], _∷_}
 use mathlib.Core.Bool.{false}
+use native.Mathlib.Decide.{decLe}
 use native.Mathlib.Omega.{arith}
 use denote.Ref.{now}
-use lib.ListN.{length, take, drop}
+use lib.ListN.{length, take, drop, drop-of-length-le}
 use lib.Dec.{ltb}
 use Rattle.wire.specs.Answer.{Answer, given, refusal, valueIn, filled, writeMeaning}
 use Rattle.wire.specs.Number.{toBe}
@@ -42,6 +43,10 @@ use Rattle.route_reader.proofs.parse_nlri_list.Reads as parse_nlri_list
 use Rattle.route_reader.proofs.read_nlri.Reads as read_nlri
 use Rattle.route_reader.proofs.read_nlri_pair.Reads as read_nlri_pair
 use Rattle.route_bytes.specs.Encode.{bytesOf}
+use Rattle.route_marks.specs.Marks.{cleared}
+use Rattle.route_marks.specs.Promises.{clearAnswer, clearAfter}
+use Rattle.route_marks.proofs.ClearLaws.{cleared-length, clear-whole, clear-part}
+use Rattle.route_marks.proofs.clear_guessed.Reads as clear_guessed
 use Rattle.route_writer.specs.Pair.{listsMeaning, writePairEnd, writePairAfter}
 use Rattle.route_writer.specs.declared.ListsAnswer.{ListsAnswer}
 use Rattle.route_writer.specs.declared.ListsAnswer.the-variants as S
@@ -100,9 +105,10 @@ use Rattle.update_writer.proofs.RoundTrip as Bodies
 use Rattle.update_writer.proofs.encode_bgp_update_message.Reads as encode_bgp_update_message
 use Rattle.words.specs.Settings.{asnLengthOf}
 use Rattle.words.specs.Word.{inFields, wordOf}
-use Rattle.firmware.specs.Fields.{updateFields, reachFields, aggregatorSize, aggregatorStored, aggregatorWords}
+use Rattle.firmware.specs.Fields.{updateFields, reachFields, clearedFields, aggregatorSize, aggregatorStored, aggregatorWords}
 use Rattle.firmware.proofs.list.doorbramble_parse_nlri_list.Reads as c_parse_nlri_list
 use Rattle.firmware.proofs.list.doorbramble_encode_nlri_prefixes.Reads as c_encode_nlri_prefixes
+use Rattle.firmware.proofs.list.doorbramble_clear_guessed.Reads as c_clear_guessed
 use Rattle.firmware.proofs.mp.doorbramble_parse_mp_reach_nlri.Reads as c_parse_mp_reach_nlri
 use Rattle.firmware.proofs.mp.doorbramble_parse_mp_unreach_nlri.Reads as c_parse_mp_unreach_nlri
 use Rattle.firmware.proofs.mp.doorbramble_encode_mp_reach_nlri.Reads as c_encode_mp_reach_nlri
@@ -137,6 +143,10 @@ kept (given fields) count values before after none all e = record {
 }
 kept (refusal m) count values before after none all e = record { refused = λ n f. (none m, e); past = ap (drop (count (refusal m))) e }
 
+-- a store that a refusal leaves
+refusal-kept : (n : ℕ) (before after : List ℕ) → after ≡ before → Kept (refusal n) 0 before after
+refusal-kept n before after e = record { refused = λ m f. (refl, e); past = e }
+
 -- ---- readers into one store: six places a row
 
 list-kept : (s : List ℕ) (r : Reading Row) (before after : List ℕ) (a : ListAnswer) → a ≡ readAnswer s r (length before) → after ≡ storeAfter s r before
@@ -170,6 +180,32 @@ module _ (κs : _) (lent : _) (answer : _) (exit : _) where
       let max = maxOf (lent .1 .0) in
       let mode = lent .1 .1 .0 in
       routes-kept s (sectionOf s max mode) (hostsOf s max mode) _ _ answer (call .0) (call .1)
+
+-- ---- marks taken off: the rows that are counted are all of the store
+
+cleared-kept : (before after : List ℕ) (a : ListAnswer) → a ≡ clearAnswer (length before) → after ≡ clearAfter before → Kept (listMeaning a) (6 * valueIn 0 (listMeaning a)) before after
+cleared-kept before after a e f =
+    elim (decLe (length before % 6) 0) [
+      | yes whole ↦
+          let c = clear-whole before (omega (arith, whole)) in
+          let is : after ≡ cleared before = f ∙ sym (c .1) in
+          let size : length after ≡ length before = ap length is ∙ cleared-length 0 before in
+          let counted : ℕ = 6 * (length before / 6) in
+          let all : length before ≤ counted = omega (arith, whole) in
+          let all-after : length after ≤ counted = omega (arith, all, size) in
+          subst (λ (x : ListAnswer). Kept (listMeaning x) (6 * valueIn 0 (listMeaning x)) before after) (c .0 ∙ sym e)
+          (record {
+            refused = λ n g. (let z : _≡_ {A = ℕ} 0 1 = cc in absurd (omega arith));
+            past = drop-of-length-le after all-after ∙ sym (drop-of-length-le before all);
+          })
+      | no part ↦
+          let c = clear-part before (λ z. part (omega (arith, z))) in
+          subst (λ (x : ListAnswer). Kept (listMeaning x) (6 * valueIn 0 (listMeaning x)) before after) (c .0 ∙ sym e) (refusal-kept _ before after (f ∙ sym (c .1)))
+    ]
+
+module _ (κs : _) (lent : _) (answer : _) (exit : _) where
+  pub clear-guessed-kept : clear_guessed.Learnt κs lent answer exit → Kept (listMeaning answer) (6 * valueIn 0 (listMeaning answer)) (now (lent .0)) (now (exit .0))
+  clear-guessed-kept call = cleared-kept _ _ answer (call .0) (call .1)
 
 -- ---- writers: a place a byte
 
@@ -296,10 +332,6 @@ rows-read : (l : List ℕ) (mode : AddPath) (places rows hosts : ℕ) → readLi
 rows-read l mode places rows hosts e =
     let r : Reading Row = listOf l (maxOf Ipv6) mode in
     read-places l r places (L.Rows rows) (rows ∷ []) (answer-is (readAnswer l r places) _ rows hosts e .0) refl
-
--- a store that a refusal leaves
-refusal-kept : (n : ℕ) (before after : List ℕ) → after ≡ before → Kept (refusal n) 0 before after
-refusal-kept n before after e = record { refused = λ m f. (refl, e); past = e }
 
 module _ (v : List ℕ) (mode : AddPath) (before after : List ℕ) where
   reach-kept : (a : ReachAnswer) → a ≡ readReach v mode (length before) → after ≡ reachAfter a v mode before → Kept (reachMeaning a) (6 * valueIn 2 (reachMeaning a)) before after
@@ -553,6 +585,11 @@ module _ (κs : _) (lent : _) (word : _) (exit : _) where
 module _ (κs : _) (lent : _) (word : _) (exit : _) where
   pub c-encode-mp-unreach-nlri-kept : c_encode_mp_unreach_nlri.Learnt κs lent word exit → WordKept word (valueIn 0) (now (lent .1 .1 .0)) (now (exit .1 .1 .0))
   c-encode-mp-unreach-nlri-kept call = word-kept word _ (valueIn 0) _ _ (call .0) (unreach-written _ _ _ _ _ refl (call .1))
+
+-- so is that of taking marks off, with its rows in 48 bits
+module _ (κs : _) (lent : _) (word : _) (exit : _) (call : c_clear_guessed.Learnt κs lent word exit) where
+  pub c-clear-guessed-kept : (a : ListAnswer) × (word ≡ wordOf (clearedFields a)) × Kept (listMeaning a) (6 * valueIn 0 (listMeaning a)) (now (lent .0)) (now (exit .0))
+  c-clear-guessed-kept = (clearAnswer (length (now (lent .0))), call .0, cleared-kept _ _ _ refl (call .1))
 
 -- ---- numbers and bytes put at a place: there is no refusal number, and where there is no room nothing is put
 
