@@ -185,7 +185,7 @@ module _ (κs : _) (given : _) (answer : _) (exit : _) (call : encode_nlri_prefi
       ∙ ap (take n′) (call′ .1)
       ∙ ap₂ (λ (afi : Afi) (f : Form). take n′ (outAfter (rows given′) (maxOf afi) f (output given′))) (sym alike) (sym form))
 
--- ---- 6. The guess on answers and leaves what the guess off does, wherever no item of the guess-off reading starts with a zero byte: every refusal too.
+-- ---- 6. The guess on answers and leaves what the guess off does, wherever no item of the guess-off reading starts with a zero byte: every refusal, row and mark too.
 
 module _ (κs : _) (given : _) (answer : _) (hosts : _) (exit : _) (call : parse_nlri_list.Learnt κs given (told answer hosts) exit)
     (κs′ : _) (given′ : _) (answer′ : _) (hosts′ : _) (exit′ : _) (call′ : parse_nlri_list.Learnt κs′ given′ (told answer′ hosts′) exit′) where

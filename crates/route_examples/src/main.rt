@@ -1,4 +1,4 @@
-// Runs the route examples of document 01 through the calls of routes, route_reader and route_writer, and prints what they answer.
+// Runs the route examples of document 01 through the calls of routes, route_reader, route_marks and route_writer, and prints what they answer.
 use families::AddPath;
 use families::Afi;
 use families::Form;
@@ -62,6 +62,9 @@ fn show_row(row: Row, afi: Afi) {
     address(row, afi);
     text(b"/");
     number(row.first % 256);
+    if families::GUESSED <= row.first {
+        text(b" guessed");
+    }
     if 256 <= row.first {
         text(b" id ");
         number(row.id);
@@ -196,7 +199,35 @@ fn list(s: &[u8], afi: Afi, mode: AddPath) {
     write_read(answer, &store, afi, mode, s);
 }
 
-// A section of an UPDATE, likewise.
+// Rows without the marks of the guess, and what they are written as with Add-Path on.
+fn believe(rows: &mut [u32], s: &[u8]) {
+    match route_marks::clear_guessed(rows) {
+        ListAnswer::Rows(n) => {
+            show_rows(rows, n, Afi::Ipv4);
+            write_back(rows, Afi::Ipv4, AddPath::On, s);
+        }
+        ListAnswer::Refused(n) => refused(n),
+    }
+}
+
+// A list that the guess reads, its ids believed.
+fn believed(s: &[u8]) {
+    text(b"believed ");
+    heading(Afi::Ipv4, AddPath::Guess, s);
+    let mut store = [0u32; 60];
+    let n = routes::rows_in(route_reader::parse_nlri_list(
+        s,
+        Afi::Ipv4,
+        AddPath::Guess,
+        &mut store,
+    ));
+    if n <= store.len() / 6 {
+        let e = 6 * n;
+        believe(&mut store[0..e], s);
+    }
+}
+
+// A section of an UPDATE, as a list is shown.
 fn section(s: &[u8], mode: AddPath) {
     text(b"section ");
     heading(Afi::Ipv4, mode, s);
@@ -262,6 +293,8 @@ fn lengths() {
 fn with_id() {
     list(b"\x00\x00\x00\x07\x08\x0A", Afi::Ipv4, AddPath::On);
     list(b"\x00\x00\x00\x07\x08\x0A", Afi::Ipv4, AddPath::Off);
+    list(b"\x00\x00\x00\x07\x08\x0A", Afi::Ipv4, AddPath::Guess);
+    believed(b"\x00\x00\x00\x07\x08\x0A");
     items(b"\x00\x00\x00\x07\x08\x0A", Form::Plain);
 }
 
