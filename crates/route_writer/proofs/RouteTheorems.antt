@@ -1,6 +1,6 @@
 -- What reading and writing lists of routes are, in terms of bytes alone, over the definitions: what the demand of the calls cites.
 -- Assumes nothing.
-use Prim.Native.Nat.{ℕ, suc, _+_, _*_, _/_, _≤_}
+use Prim.Native.Nat.{ℕ, _+_, _*_, _/_, _≤_}
 use mathlib.Core.Path.{_≡_, sym, ap, ap₂, subst, _∙_}
 use mathlib.Core.List.{List, map}
 use native.Mathlib.Omega.{arith}
@@ -12,7 +12,7 @@ use Rattle.wire.specs.Refusal.{listLimit}
 use Rattle.wire.specs.Store.{laid}
 use Rattle.wire.specs.Answer.{flag}
 use Rattle.wire.specs.Walk.{Reading, pieces, tally, flat}
-use Rattle.wire.specs.declared.WriteAnswer.the-variants.{Bytes, Refused}
+use Rattle.wire.specs.declared.WriteAnswer.the-variants.{Bytes}
 use Rattle.wire.proofs.CuttingLaws as Cuttings
 use Rattle.wire.proofs.StoreLaws.{take-laid}
 use Rattle.wire.proofs.WalkLaws.{tally-one, tally-flat}
@@ -166,11 +166,6 @@ module _ (max : ℕ) (small : max ≤ 128) (form : Form) where
       → take n (outAfter ws max form d) ≡ take n′ (outAfter ws′ max form d′) → ws ≡ ws′
   stores-equal ws ws′ d d′ n n′ h h′ e e′ same =
       bytes-equal ws ws′ h h′ (written-bytes ws max form d n e .0) (written-bytes ws′ max form d′ n′ e′ .0) (sym (out-bytes ws d n e) ∙ same ∙ out-bytes ws′ d′ n′ e′)
-
--- a store that has a row which cannot be written is refused, and the output is as it was
-pub refused-out : (max : ℕ) (form : Form) (ws out : List ℕ) (n : ℕ) → writing ws max form .verdict ≡ suc n → (writeAnswer ws max form (length out) ≡ Refused (suc n)) × (outAfter ws max form out ≡ out)
-unfolding writeAnswer outAfter
-refused-out max form ws out n e = (rw e, rw e)
 
 -- ---- a store that is written, from its bytes
 
