@@ -3,11 +3,12 @@
 use Prim.Native.Nat.{ℕ, zero, suc, _+_, _-_, _*_, _≤_, _<_}
 use mathlib.Core.Path.{_≡_, refl, sym, ap, ap₂, subst, _∙_}
 use mathlib.Core.List.{List, [], _∷_, _++_, map}
-use native.Mathlib.Nat.{not-suc-le-zero, le-refl, mul-zero, mul-suc}
+use native.Mathlib.Nat.{not-suc-le-zero, le-refl, zero-add, mul-zero, mul-suc}
 use native.Mathlib.Numerals.{sub-one}
 use native.Mathlib.Omega.{arith}
-use lib.ListN.{length, take, drop, length-drop, length-append}
-use Rattle.wire.specs.Walk.{Step, took, stop, Reading, whole, refused, more, after, walk, readAll, noted, notes, pieces, tally, flat}
+use lib.ListN.{length, getD, take, drop, length-drop, length-append}
+use lib.Seq.{drop-drop, length-take-le}
+use Rattle.wire.specs.Walk.{Step, took, stop, Reading, whole, refused, more, after, walk, readAll, noted, notes, pieces, starts, past, tally, flat}
 
 -- ---- the equations that a reader expects
 
@@ -139,6 +140,59 @@ module _ {S A B : Type 0} (f : S → List ℕ → B) (step : S → List ℕ → 
       (λ st st′ s used a pos e again.
       let up = sound .takes st st′ s used a e .0 in
       notes-took f step st st′ s used a pos up e ∙ ap₂ _∷_ (same st st′ s used a e) again ∙ ap (map g) (sym (pieces-took step st st′ s used a pos up e)))
+
+-- ---- where the items start
+
+-- as many starts as items
+pub starts-length : (at : ℕ) (items : List (List ℕ)) → length (starts at items) ≡ length items
+unfolding starts
+starts-length at [] = refl
+starts-length at (item ∷ items) = ap suc (starts-length (at + length item) items)
+
+-- from a place on, the starts are as many places further
+starts-from : (at n : ℕ) (items : List (List ℕ)) → n < length items → getD (starts at items) n 0 ≡ at + getD (starts 0 items) n 0
+unfolding starts
+starts-from at n [] h = absurd (not-suc-le-zero h)
+starts-from at zero (item ∷ items) h = omega arith
+starts-from at (suc n) (item ∷ items) h =
+    let there : n < length items = omega arith in
+    omega (arith, starts-from (at + length item) n items there, starts-from (0 + length item) n items there)
+
+module _ {S A : Type 0} (step : S → List ℕ → Step S A) (sound : Sound step) where
+  -- that reading from the start of item n reads the items from there on
+  abbrev From : S → List ℕ → ℕ → Reading A → Type 0
+  From st s n r = (st′ : S) × (readAll step st′ (drop (getD (starts 0 (pieces step st s)) n 0) s) ≡ past n r)
+
+  from-took : (st st′ : S) (s : List ℕ) (used : ℕ) (a : A) → 0 < length s → step st s ≡ took used a st′
+      → ((n : ℕ) → n < length (readAll step st′ (drop used s) .rows) → From st′ (drop used s) n (readAll step st′ (drop used s)))
+      → (n : ℕ) → n < length (more a (readAll step st′ (drop used s)) .rows) → From st s n (more a (readAll step st′ (drop used s)))
+  unfolding starts
+  from-took st st′ s used a pos e again zero h =
+      let up = sound .takes st st′ s used a e .0 in (
+        st,
+        ap (λ (items : List (List ℕ)). readAll step st (drop (getD (starts 0 items) 0 0) s)) (pieces-took step st st′ s used a pos up e)
+            ∙ all-took step st st′ s used a pos up e,
+      )
+  from-took st st′ s used a pos e again (suc n) h =
+      let takes = sound .takes st st′ s used a e in
+      let items : List (List ℕ) = pieces step st′ (drop used s) in
+      let there : n < length items = omega (arith, h, noted-alike (λ _ item. item) step sound st′ (drop used s) .1) in
+      let size : length (take used s) ≡ used = length-take-le used s (takes .1) in
+      let start : getD (starts 0 (pieces step st s)) (suc n) 0 ≡ used + getD (starts 0 items) n 0 =
+      ap (λ (l : List (List ℕ)). getD (starts 0 l) (suc n) 0) (pieces-took step st st′ s used a pos (takes .0) e)
+      ∙ starts-from (0 + length (take used s)) n items there
+      ∙ ap (λ (i : ℕ). i + getD (starts 0 items) n 0) (zero-add (length (take used s)) ∙ size) in
+      let rest = again n (omega arith) in
+      (rest .0, ap (readAll step (rest .0)) (ap (λ (i : ℕ). drop i s) start ∙ sym (drop-drop (getD (starts 0 items) n 0) used s)) ∙ rest .1)
+
+  -- reading from an item's start reads the rest of the items
+  pub rest-read : (st : S) (s : List ℕ) (n : ℕ) → n < length (readAll step st s .rows)
+      → (st′ : S) × (readAll step st′ (drop (getD (starts 0 (pieces step st s)) n 0) s) ≡ past n (readAll step st s))
+  rest-read =
+      all-ind step sound (λ st s r. (n : ℕ) → n < length (r .rows) → From st s n r)
+      (λ st n h. absurd (not-suc-le-zero h))
+      (λ st s why pos e n h. absurd (not-suc-le-zero h))
+      from-took
 
 -- ---- sums and places of values
 

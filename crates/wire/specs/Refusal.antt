@@ -73,6 +73,14 @@ otherFamily = 17
 abbrev pub nextHopLength : ℕ
 nextHopLength = 18
 
+-- an index that is not strictly rising from 0, or has a place at or past its list's end
+abbrev pub notAnIndex : ℕ
+notAnIndex = 19
+
+-- a route that an index does not lead to, or that a list has not
+abbrev pub noSuchRoute : ℕ
+noSuchRoute = 20
+
 -- past every refusal number: an answer in one number is a refusal number, or a count from here on
 abbrev pub pastAll : ℕ
 pastAll = 32

@@ -1,7 +1,7 @@
 -- Reading item by item, over any step and any state: a step looks at what is left, and takes some of it for a value or refuses.
 use Prim.Native.Nat.{ℕ, zero, suc, _+_, _-_}
 use mathlib.Core.List.{List, [], _∷_, _++_}
-use lib.ListN.{take}
+use lib.ListN.{length, take, drop}
 
 -- what a step finds: it takes that many places for a value and goes on in a state, or it refuses with a number
 pub data Step (S A : Type 0) : Type 0 where
@@ -49,6 +49,15 @@ notes f step st s = readAll (λ st′ t. noted f t (step st′ t)) st s .rows
 -- the places of each item
 abbrev pub pieces : {S A : Type 0} → (S → List ℕ → Step S A) → S → List ℕ → List (List ℕ)
 pieces step st s = notes (λ _ item. item) step st s
+
+-- where items laid end to end start, the first of them at a place
+unfoldable pub starts : ℕ → List (List ℕ) → List ℕ
+starts at [] = []
+starts at (item ∷ items) = at ∷ starts (at + length item) items
+
+-- a reading without its first n values
+abbrev pub past : {A : Type 0} → ℕ → Reading A → Reading A
+past n r = record { rows = drop n (r .rows); verdict = r .verdict }
 
 -- the sum of a weight over values
 unfoldable pub tally : {A : Type 0} → (A → ℕ) → List A → ℕ

@@ -36,5 +36,9 @@ pub const OTHER_FAMILY: u8 = 17;
 
 pub const NEXT_HOP_LENGTH: u8 = 18;
 
+pub const NOT_AN_INDEX: u8 = 19;
+
+pub const NO_SUCH_ROUTE: u8 = 20;
+
 // Past every refusal number. An answer in one number is a refusal number, or a count from here on.
 pub const PAST_ALL: usize = 32;
