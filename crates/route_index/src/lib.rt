@@ -1,0 +1,238 @@
+// An index beside a list of routes, guess off (document 02, K9): the start of every sixteenth item, by which a route is found without reading all before it.
+ghost use mathlib.Core.Path.{_≡_};
+ghost use mathlib.Core.Bool.{Bool};
+ghost use Prim.Native.Nat.{_≤_, _<_};
+ghost use lib.ListN.{length, drop};
+ghost use Rattle.wire.specs.Refusal.{listLimit};
+ghost use Rattle.wire.specs.Store.{laid};
+ghost use Rattle.families.specs.Family.{maxOf};
+ghost use Rattle.routes.specs.List.{upTo, fixed, stepBy};
+ghost use Rattle.routes.specs.ByTable.{byTable};
+ghost use Rattle.routes.specs.Promises.{sized};
+ghost use Rattle.routes.specs.declared.StepAnswer.the-variants as Step;
+ghost use Rattle.route_index.specs.Index.{indexBy, isIndex, refusedRoute, routeBy};
+ghost use Rattle.route_index.specs.Private.{skipped, Passes, Fitting};
+ghost use Rattle.route_index.specs.Promises.{countIndex, buildIndex, indexAfter, placesIn};
+use families::AddPath;
+use families::Afi;
+use families::Form;
+use families::octets;
+use routes::PrefixAnswer;
+use routes::RouteAnswer;
+use routes::StepAnswer;
+use wire::refusal;
+
+// An index: how many places it has, or a refusal number.
+pub enum IndexAnswer {
+    Places(usize),
+    Refused(u8),
+}
+
+// How many items lie from one place of an index to the next.
+pub const SPACING: usize = 16;
+
+// A place of a list, or the refusal that stands before it.
+enum PlaceAnswer {
+    At(usize),
+    Refused(u8),
+}
+
+// A place, and how many items are still to be passed from there on.
+struct Passed {
+    at: usize,
+    left: usize,
+}
+
+// The setting under which every item stands in a form.
+fn fixed_mode(form: Form) -> AddPath
+    ensures { λ r. ⌜ r ≡ fixed form ⌝ }
+{
+    match form {
+        Form::Plain => AddPath::Off,
+        Form::Tagged => AddPath::On,
+    }
+}
+
+// Passes over the item of `used` bytes at a place and those after it that are as long, `most` at the most. While they are, the next place waits for no byte
+// of the list: the processor goes on ahead of the tests.
+fn pass_alike(
+    s: &[u8],
+    from: usize,
+    used: usize,
+    most: usize,
+    counts: &[u8; 256],
+    form: Form,
+) -> Passed
+    requires { ⌜ 0 < most ⌝ }
+    requires { ⌜ Step.Item used form ≡ sized (stepBy (byTable (now counts)) (fixed form) form (drop from (now s))) ⌝ }
+    ensures { λ r. ⌜ Passes (byTable (now (counts .entry))) form (now (s .entry)) most from (r .left) (r .at) ⌝ }
+{
+    let k = families::id_size(form);
+    let n = used - k - 1;
+    let mut at = from + used;
+    let mut left = most - 1;
+    while 0 < left {
+        if s.len() - at < used {
+            return Passed { at, left };
+        }
+        if octets::after(counts, s[at + k]) as usize != n {
+            return Passed { at, left };
+        }
+        at = at + used;
+        left = left - 1;
+    }
+    Passed { at, left }
+}
+
+// Passes over n items from a place on, or over all where there are fewer.
+fn pass_items(s: &[u8], from: usize, n: usize, counts: &[u8; 256], form: Form) -> PlaceAnswer
+    ensures { λ r. ⌜ r ≡ skipped (byTable (now (counts .entry))) form (now (s .entry)) n from ⌝ }
+{
+    let mut at = from;
+    let mut left = n;
+    while 0 < left {
+        if s.len() <= at {
+            return PlaceAnswer::At(at);
+        }
+        match routes::item_step(s, at, counts, fixed_mode(form), form) {
+            StepAnswer::Item { used, form: _ } => {
+                let p = pass_alike(s, at, used, left, counts, form);
+                at = p.at;
+                left = p.left;
+            }
+            StepAnswer::Refused(why) => {
+                return PlaceAnswer::Refused(why);
+            }
+        }
+    }
+    PlaceAnswer::At(at)
+}
+
+// How many places the index of a list has, in one number.
+fn count_places(s: &[u8], counts: &[u8; 256], form: Form) -> usize
+    ensures { λ r. ⌜ placesIn r ≡ countIndex (byTable (now (counts .entry))) (now (s .entry)) form ⌝ }
+{
+    if wire::LIST_LIMIT < s.len() {
+        return refusal::TOO_LONG as usize;
+    }
+    let mut at: usize = 0;
+    let mut n: usize = refusal::PAST_ALL;
+    while at < s.len() {
+        match pass_items(s, at, SPACING, counts, form) {
+            PlaceAnswer::At(next) => {
+                at = next;
+                n = n + 1;
+            }
+            PlaceAnswer::Refused(why) => {
+                return why as usize;
+            }
+        }
+    }
+    n
+}
+
+// Puts the places of a list that was counted.
+fn put_places(s: &[u8], counts: &[u8; 256], form: Form, places: &mut [u16])
+    requires { ⌜ length (now s) ≤ listLimit ⌝ }
+    requires { ⌜ Fitting (byTable (now counts)) (now s) form (now places) ⌝ }
+    ensures { λ _. ⌜ now (places .exit) ≡ laid (now (places .entry)) 0 (indexBy (byTable (now (counts .entry))) (now (s .entry)) form) ⌝ }
+{
+    let mut at: usize = 0;
+    let mut i: usize = 0;
+    while at < s.len() {
+        match pass_items(s, at, SPACING, counts, form) {
+            PlaceAnswer::At(next) => {
+                places[i] = at as u16;
+                i = i + 1;
+                at = next;
+            }
+            PlaceAnswer::Refused(_) => {
+                return;
+            }
+        }
+    }
+}
+
+// How many places the index of a list needs.
+pub fn count_index(s: &[u8], afi: Afi, form: Form) -> IndexAnswer
+    ensures answer { λ r. ⌜ r ≡ countIndex (upTo (maxOf afi)) (now (s .entry)) form ⌝ }
+{
+    let mut counts = [0u8; 256];
+    octets::put_counts(afi, &mut counts);
+    let n = count_places(s, &counts, form);
+    if n < refusal::PAST_ALL {
+        return IndexAnswer::Refused(n as u8);
+    }
+    IndexAnswer::Places(n - refusal::PAST_ALL)
+}
+
+// Builds the index of a list in a store, and says how many places it has.
+pub fn build_index(s: &[u8], afi: Afi, form: Form, places: &mut [u16]) -> IndexAnswer
+    ensures answer { λ r. ⌜ r ≡ buildIndex (upTo (maxOf afi)) (now (s .entry)) form (length (now (places .entry))) ⌝ }
+    ensures store { λ _. ⌜ now (places .exit) ≡ indexAfter (upTo (maxOf afi)) (now (s .entry)) form (now (places .entry)) ⌝ }
+{
+    let mut counts = [0u8; 256];
+    octets::put_counts(afi, &mut counts);
+    let n = count_places(s, &counts, form);
+    if n < refusal::PAST_ALL {
+        return IndexAnswer::Refused(n as u8);
+    }
+    if places.len() < n - refusal::PAST_ALL {
+        return IndexAnswer::Refused(refusal::NO_ROOM);
+    }
+    put_places(s, &counts, form, places);
+    IndexAnswer::Places(n - refusal::PAST_ALL)
+}
+
+// Whether places are strictly rising from 0 and lie before the end of a list of so many bytes. Every place is looked at, and none decides where to go on,
+// so that many are compared at once.
+fn is_index(index: &[u16], end: usize) -> bool
+    ensures { λ r. ⌜ r ≡ isIndex end (now (index .entry)) ⌝ }
+{
+    if index.len() == 0 {
+        return true;
+    }
+    let last = index.len() - 1;
+    let mut rises = index[0] == 0;
+    let mut i: usize = 0;
+    while i < last {
+        rises = rises & (index[i] < index[i + 1]);
+        i = i + 1;
+    }
+    rises & ((index[last] as usize) < end)
+}
+
+// No route, and why.
+fn no_route(why: u8) -> RouteAnswer
+    ensures { λ r. ⌜ r ≡ refusedRoute why ⌝ }
+{
+    RouteAnswer {
+        prefix: PrefixAnswer::Refused(why),
+        host: false,
+    }
+}
+
+// Route number n of a list, counted from 0, by an index of it: as `try_parse_prefix` answers of the item's bytes.
+pub fn route_at(s: &[u8], index: &[u16], n: usize, afi: Afi, form: Form) -> RouteAnswer
+    ensures answer { λ r. ⌜ r ≡ routeBy (upTo (maxOf afi)) form (now (s .entry)) (now (index .entry)) n ⌝ }
+{
+    if wire::LIST_LIMIT < s.len() {
+        return no_route(refusal::TOO_LONG);
+    }
+    if !is_index(index, s.len()) {
+        return no_route(refusal::NOT_AN_INDEX);
+    }
+    if index.len() <= n / SPACING {
+        return no_route(refusal::NO_SUCH_ROUTE);
+    }
+    let counts = octets::counts(afi);
+    match pass_items(s, index[n / SPACING] as usize, n % SPACING, &counts, form) {
+        PlaceAnswer::At(at) => {
+            if s.len() <= at {
+                return no_route(refusal::NO_SUCH_ROUTE);
+            }
+            routes::try_parse_prefix(&s[at..], afi, form)
+        }
+        PlaceAnswer::Refused(why) => no_route(why),
+    }
+}
