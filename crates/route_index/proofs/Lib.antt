@@ -1,0 +1,4 @@
+pub mod SkipLaws
+pub mod IndexLaws
+pub mod AskLaws
+pub mod Tight

@@ -67,15 +67,14 @@ fn pass_alike(
     requires { ⌜ Step.Item used form ≡ sized (stepBy (byTable (now counts)) (fixed form) form (drop from (now s))) ⌝ }
     ensures { λ r. ⌜ Passes (byTable (now (counts .entry))) form (now (s .entry)) most from (r .left) (r .at) ⌝ }
 {
-    let k = families::id_size(form);
-    let n = used - k - 1;
+    let n = used - families::id_size(form) - 1;
     let mut at = from + used;
     let mut left = most - 1;
     while 0 < left {
         if s.len() - at < used {
             return Passed { at, left };
         }
-        if octets::after(counts, s[at + k]) as usize != n {
+        if octets::after(counts, s[at + families::id_size(form)]) as usize != n {
             return Passed { at, left };
         }
         at = at + used;

@@ -1,77 +1,75 @@
+use borrow.Author.Needs.{needs}
+use Prim.Native.Nat.{_+_, _-_, _<_}
+use native.Mathlib.Omega.{arith}
+use mathlib.Core.Path.{_≡_, refl}
+use lib.ListN.{length}
+use Rattle.route_index.proofs.AskLaws.{Judging, judge-none, judge-start, judge-step, judge-done}
 use Rattle.route_index.proofs.is_index.Statement.{statement}
 use Rattle.route_index.proofs.is_index.Tie as tie
-use Rattle.route_index.proofs.is_index.Reads as reads
-use Rattle.route_index.proofs.is_index.Lts as lts
 
 abbrev Inv-loop : tie.InvT-loop
-Inv-loop index end last rises₀ i₀ rises i = ?
+Inv-loop index end last rises₀ i₀ rises i = Judging end index rises i × (last ≡ length index - 1)
 
 abbrev μ-loop : tie.MeasureT-loop
-μ-loop index end last rises₀ i₀ rises i = ?
+μ-loop index end last rises₀ i₀ rises i = last - i
 
--- src/lib.rt:186:9
 returns : tie.Need-returns Inv-loop μ-loop
-returns c = ?
+returns c = judge-none (c .before .args .end) (c .before .args .index .now) (omega (arith, c .if1 .taken))
 
--- src/lib.rt:188:16
 sub-last : tie.Need-sub-last Inv-loop μ-loop
-sub-last c = ?
+sub-last c = search needs
 
--- src/lib.rt:189:21
 shared-slice-read-rises : tie.Need-shared-slice-read-rises Inv-loop μ-loop
-shared-slice-read-rises c = ?
+shared-slice-read-rises c = search needs
 
--- src/lib.rt:191:5
 loop-holds : tie.Need-loop-holds Inv-loop μ-loop
-loop-holds c = ?
+loop-holds c = (judge-start (c .before .before .args .end) (c .before .before .args .index .now) (omega (arith, c .before .if1 .left)), refl)
 
--- src/lib.rt:192:26
 mul-rises : tie.Need-mul-rises Inv-loop μ-loop
-mul-rises c = ?
+mul-rises c = search needs
 
--- src/lib.rt:192:26
 shared-slice-read-rises-2 : tie.Need-shared-slice-read-rises-2 Inv-loop μ-loop
-shared-slice-read-rises-2 c = ?
+shared-slice-read-rises-2 c = search needs
 
--- src/lib.rt:192:43
 add-rises : tie.Need-add-rises Inv-loop μ-loop
-add-rises c = ?
+add-rises c = search needs
 
--- src/lib.rt:192:37
 mul-rises-2 : tie.Need-mul-rises-2 Inv-loop μ-loop
-mul-rises-2 c = ?
+mul-rises-2 c = search needs
 
--- src/lib.rt:192:37
 shared-slice-read-rises-3 : tie.Need-shared-slice-read-rises-3 Inv-loop μ-loop
-shared-slice-read-rises-3 c = ?
+shared-slice-read-rises-3 c = search needs
 
--- src/lib.rt:193:13
 add-i : tie.Need-add-i Inv-loop μ-loop
-add-i c = ?
+add-i c = search needs
 
--- src/lib.rt:191:5
+-- the place that the turn judges is not the last
+more : (c : tie.In-loop Inv-loop μ-loop) → c .before .loop .i + 1 < length (c .before .before .before .before .args .index .now)
+more c = omega (arith, c .loop-test .taken, c .before .loop .inv .0 .within)
+
 loop-less : tie.Need-loop-less Inv-loop μ-loop
-loop-less c = ?
+loop-less c = omega (arith, c .before .before .loop-test .taken)
 
--- src/lib.rt:191:5
 loop-again : tie.Need-loop-again Inv-loop μ-loop
-loop-again c = ?
+loop-again c =
+    let l = c .before .before .before in
+    let a = l .before .before .before .args in
+    (judge-step (a .end) (a .index .now) (l .loop .rises) (l .loop .i) (l .loop .inv .0) (more (c .before .before)), refl)
 
--- src/lib.rt:195:15
 mul-result : tie.Need-mul-result Inv-loop μ-loop
-mul-result c = ?
+mul-result c = search needs
 
--- src/lib.rt:195:15
 shared-slice-read-result : tie.Need-shared-slice-read-result Inv-loop μ-loop
-shared-slice-read-result c = ?
+shared-slice-read-result c = search needs
 
--- src/lib.rt:195:15
 cast-result : tie.Need-cast-result Inv-loop μ-loop
-cast-result c = ?
+cast-result c = omega (arith, c .shared-slice-known4 .given (length (c .before .before .before .before .before .args .index .now) - 1))
 
--- src/lib.rt:182:1
 returns-2 : tie.Need-returns-2 Inv-loop μ-loop
-returns-2 c = ?
+returns-2 c =
+    let l = c .before .before in
+    let a = l .before .before .before .args in
+    judge-done (a .end) (a .index .now) (l .loop .rises) (l .loop .i) (l .loop .inv .0) (length (a .index .now) - 1) (omega (arith, c .before .loop-test .left, l .loop .inv .0 .within)) (omega (arith, l .loop .inv .0 .within))
 
 pub is-index-spec : {M : Type 1} → statement M
 is-index-spec =
