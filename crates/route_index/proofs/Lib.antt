@@ -1,4 +1,5 @@
 pub mod SkipLaws
 pub mod IndexLaws
 pub mod AskLaws
+pub mod OwnLaws
 pub mod Tight

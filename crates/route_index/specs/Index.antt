@@ -9,7 +9,7 @@ use Rattle.wire.specs.Refusal.{tooLong, notAnIndex, noSuchRoute, listLimit}
 use Rattle.wire.specs.Walk.{pieces, starts}
 use Rattle.families.specs.declared.Form.{Form}
 use Rattle.families.specs.declared.Form.the-variants.{Plain}
-use Rattle.routes.specs.Prefix.{withHost}
+use Rattle.routes.specs.Prefix.{itemRow, hostBits, withHost}
 use Rattle.routes.specs.List.{Reader, fixed, stepBy}
 use Rattle.routes.specs.declared.PrefixAnswer.{PrefixAnswer}
 use Rattle.routes.specs.declared.PrefixAnswer.the-variants.{Prefix, Refused}
@@ -59,6 +59,10 @@ unlessNone (b ∷ s) a = a
 unfoldable pub routeFrom : Reader → Form → ℕ → List ℕ → RouteAnswer
 routeFrom read form zero s = unlessNone s (withHost form s (read s form))
 routeFrom read form (suc n) s = unlessNone s (pastItem (read s form) (λ used. routeFrom read form n (drop used s)))
+
+-- what one route's reader answers of an item
+abbrev pub itemRoute : Form → List ℕ → RouteAnswer
+itemRoute form item = record { prefix = Prefix (length item) (itemRow form item); host = hostBits form item }
 
 -- route number n by an index, from the nearest start at or before it: 1; 19; 20 where that start is lacking; then as above
 unfoldable pub routeBy : Reader → Form → List ℕ → List ℕ → ℕ → RouteAnswer
