@@ -10,6 +10,7 @@ pub mod Attributes
 pub mod Updates
 pub mod MpNlri
 pub mod Marks
+pub mod Index
 pub mod Written
 pub mod Slots
 pub mod Numbers

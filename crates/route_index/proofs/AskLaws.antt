@@ -3,15 +3,14 @@
 use Prim.Native.Nat.{ℕ, zero, suc, _+_, _/_, _%_, _≤_, _<_}
 use mathlib.Core.Path.{_≡_, refl, sym, ap, _∙_}
 use mathlib.Core.List.{List, [], _∷_}
-use mathlib.Core.Bool.{Bool, true, false, _&&_}
+use mathlib.Core.Bool.{Bool, true, false, _&&_, not}
 use native.Mathlib.Nat.{not-suc-le-zero, lt-of-not-le}
 use native.Mathlib.Decide.{decLe}
 use native.Mathlib.Omega.{arith}
-use borrow.Author.Tests.{le-leb, lt-leb, lt-ltb, le-ltb}
+use borrow.Author.Tests.{leb-true, le-leb, lt-leb, lt-ltb, le-ltb}
 use lib.ListN.{length, getD, drop, length-drop, drop-of-length-le}
 use lib.Seq.{drop-drop}
 use lib.Dec.{leb, ltb, eqb}
-use Rattle.wire.specs.Choice.{pick}
 use Rattle.wire.specs.Refusal.{tooLong, notAnIndex, noSuchRoute, listLimit}
 use Rattle.wire.proofs.ChoiceLaws.{pick-leb}
 use Rattle.families.specs.declared.Form.{Form}
@@ -21,7 +20,7 @@ use Rattle.routes.specs.declared.PrefixAnswer.{PrefixAnswer}
 use Rattle.routes.specs.declared.PrefixAnswer.the-variants as P
 use Rattle.routes.specs.declared.RouteAnswer.{RouteAnswer}
 use Rattle.route_index.specs.Index.{rising, isIndex, refusedRoute, pastItem, unlessNone, routeFrom, routeBy}
-use Rattle.route_index.specs.Private.{onward, skipped}
+use Rattle.route_index.specs.Private.{onward, skipped, indexFault}
 use Rattle.route_index.specs.declared.PlaceAnswer.{PlaceAnswer}
 use Rattle.route_index.specs.declared.PlaceAnswer.the-variants.{At, Refused}
 
@@ -104,15 +103,21 @@ module _ (end : ℕ) (index : List ℕ) (rises : Bool) (i : ℕ) (h : Judging en
 
 -- ---- the route at a place
 
+pub unless-some : (t : List ℕ) (a : RouteAnswer) → 0 < length t → unlessNone t a ≡ a
+unless-some [] a some = absurd (not-suc-le-zero some)
+unless-some (b ∷ t) a some = refl
+
+-- a fault of an index is one of the two, and none where neither holds
+pub fault-none : (other lacking : Bool) → indexFault other lacking ≡ 0 → (other ≡ false) × (lacking ≡ false)
+fault-none true lacking e = absurd (omega (arith, e))
+fault-none false true e = absurd (omega (arith, e))
+fault-none false false e = (refl, refl)
+
 module _ (read : Reader) (form : Form) (s : List ℕ) where
   -- what is answered of a place that was reached
   abbrev pub found : PlaceAnswer → RouteAnswer
   found (At at) = unlessNone (drop at s) (withHost form (drop at s) (read (drop at s) form))
   found (Refused why) = refusedRoute why
-
-  unless-some : (t : List ℕ) (a : RouteAnswer) → 0 < length t → unlessNone t a ≡ a
-  unless-some [] a some = absurd (not-suc-le-zero some)
-  unless-some (b ∷ t) a some = refl
 
   past-found : (n at : ℕ) → ((used : ℕ) → routeFrom read form n (drop (at + used) s) ≡ found (skipped read form s n (at + used)))
       → (a : PrefixAnswer) → pastItem a (λ used. routeFrom read form n (drop used (drop at s))) ≡ found (onward a (λ used. skipped read form s n (at + used)))
@@ -158,3 +163,10 @@ module _ (read : Reader) (form : Form) (s : List ℕ) where
         pub ask-found : n / 16 < length index → (a : PlaceAnswer) → skipped read form s (n % 16) (getD index (n / 16) 0) ≡ a → found a ≡ routeBy read form s index n
         unfolding routeBy
         ask-found lt a e = rw (le-leb (length s) listLimit short, good, lt-ltb (n / 16) (length index) lt) (ap found (sym e) ∙ sym (route-found (n % 16) (getD index (n / 16) 0)))
+
+      -- the first fault, where there is one
+      pub ask-fault : (taken lacking : Bool) → taken ≡ isIndex (length s) index → lacking ≡ leb (length index) (n / 16) → (why : ℕ) → why ≡ indexFault (not taken) lacking → (why ≡ 0 → ⊥)
+          → refusedRoute why ≡ routeBy read form s index n
+      ask-fault false lacking o l why e some = ap refusedRoute e ∙ ask-other (sym o)
+      ask-fault true true o l why e some = ap refusedRoute e ∙ ask-lacking (sym o) (leb-true (length index) (n / 16) (sym l))
+      ask-fault true false o l why e some = absurd (some e)

@@ -3,19 +3,18 @@
 use Prim.Native.Nat.{ℕ, zero, suc, _+_, _-_, _≤_, _<_}
 use mathlib.Core.Path.{_≡_, refl, sym, ap, ap₂, _∙_}
 use mathlib.Core.List.{List, [], _∷_}
-use native.Mathlib.Nat.{zero-add}
 use native.Mathlib.Omega.{arith}
 use borrow.Author.Tests.{le-leb, lt-leb}
-use lib.ListN.{length, set, take, drop, length-drop, drop-of-length-le}
+use lib.ListN.{length, set, drop, length-drop, drop-of-length-le}
 use lib.Seq.{drop-drop, length-take-le}
-use Rattle.wire.specs.Answer.{filled, unpacked}
+use Rattle.wire.specs.Answer.{filled}
 use Rattle.wire.proofs.AnswerLaws.{unpacked-count, unpacked-refused}
 use Rattle.wire.proofs.ChoiceLaws.{pick-leb}
 use Rattle.wire.specs.Refusal.{tooLong, noRoom, pastAll, listLimit}
 use Rattle.wire.specs.Store.{laid}
 use Rattle.wire.proofs.StoreLaws.{Laying, laying-start, laying-room, laying-long, laying-set, laying-done}
-use Rattle.wire.specs.Walk.{Step, took, stop, Reading, noted, notes, readAll, pieces, starts, tally}
-use Rattle.wire.proofs.WalkLaws.{Sound, all-nil, all-took, all-stop, all-blind, pieces-nil, pieces-took, tally-one}
+use Rattle.wire.specs.Walk.{Step, took, stop, Reading, noted, notes, readAll, pieces, starts}
+use Rattle.wire.proofs.WalkLaws.{all-nil, all-took, all-stop, all-blind, pieces-nil, pieces-took, tally-one}
 use Rattle.families.specs.Family.{maxOf}
 use Rattle.families.specs.Octets.{tableOf}
 use Rattle.families.specs.declared.Afi.{Afi}

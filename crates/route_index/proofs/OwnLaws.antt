@@ -10,23 +10,30 @@ use native.Mathlib.Omega.{arith}
 use borrow.Author.Tests.{le-leb, lt-ltb, le-ltb}
 use lib.ListN.{length, getD, take, drop, length-drop, length-map, List·getD-eq-default, List·getD-map}
 use lib.Seq.{getD-drop, length-take-le}
-use Rattle.wire.specs.Answer.{either}
+use Rattle.wire.specs.Answer.{filled, either}
 use Rattle.wire.proofs.AnswerLaws.{either-first}
-use Rattle.wire.specs.Choice.{pick}
+use Rattle.wire.proofs.ChoiceLaws.{pick-leb}
 use Rattle.wire.specs.Refusal.{noSuchRoute, listLimit}
-use Rattle.wire.specs.Walk.{Step, took, stop, Reading, noted, notes, readAll, pieces, starts}
-use Rattle.wire.proofs.WalkLaws.{Sound, all-ind, all-nil, all-blind, noted-sound, noted-alike, notes-pieces, pieces-nil, pieces-stop, pieces-took, starts-length, rest-read}
+use Rattle.wire.proofs.StoreLaws.{take-laid}
+use Rattle.wire.specs.Walk.{Step, took, stop, Reading, noted, notes, readAll, pieces, starts, flat}
+use Rattle.wire.proofs.WalkLaws.{Sound, all-ind, all-blind, noted-sound, noted-alike, pieces-nil, pieces-stop, pieces-took, starts-length, rest-read}
 use Rattle.families.specs.declared.Form.{Form}
-use Rattle.families.specs.declared.Form.the-variants.{Plain}
 use Rattle.routes.specs.List.{Reader, fixed, stepBy, listBy}
-use Rattle.routes.specs.Prefix.{itemRow, hostBits, withHost}
+use Rattle.routes.specs.Prefix.{itemRow, words, hostBits, withHost}
+use Rattle.routes.specs.Promises.{countAnswer}
 use Rattle.routes.specs.declared.Row.{Row}
 use Rattle.routes.specs.declared.PrefixAnswer.{PrefixAnswer}
 use Rattle.routes.specs.declared.PrefixAnswer.the-variants as P
 use Rattle.routes.specs.declared.RouteAnswer.{RouteAnswer}
-use Rattle.routes.proofs.ListLaws.{Fair, fixed-step, list-fixed, sound-by}
+use Rattle.routes.specs.declared.ListAnswer.{ListAnswer}
+use Rattle.routes.specs.declared.ListAnswer.the-variants as L
+use Rattle.routes.proofs.ListLaws.{Fair, fixed-step, list-fixed, sound-by, count-rows}
 use Rattle.route_index.specs.Index.{sixteenths, itemsBy, indexBy, rising, isIndex, refusedRoute, pastItem, unlessNone, routeFrom, itemRoute, routeBy}
-use Rattle.route_index.proofs.IndexLaws.{itemsFrom, items-fixed, index-is, step-took, step-stops}
+use Rattle.route_index.proofs.AskLaws.{unless-some}
+use Rattle.route_index.proofs.IndexLaws.{itemsFrom, items-fixed, index-is, step-took, step-stops, count-fits}
+use Rattle.route_index.specs.Promises.{indexMeaning, placesFor, countIndex, roomFor, buildIndex, indexAfter}
+use Rattle.route_index.specs.declared.IndexAnswer.{IndexAnswer}
+use Rattle.route_index.specs.declared.IndexAnswer.the-variants as I
 
 -- ---- every sixteenth of a list
 
@@ -82,10 +89,6 @@ module _ (read : Reader) (fair : Fair read) (form : Form) where
   -- the answers of the items, in their order
   abbrev pub routesIn : List ℕ → List RouteAnswer
   routesIn t = map (itemRoute form) (itemsFrom read form t)
-
-  unless-some : (t : List ℕ) (a : RouteAnswer) → 0 < length t → unlessNone t a ≡ a
-  unless-some [] a some = absurd (omega arith)
-  unless-some (b ∷ t) a some = refl
 
   abbrev Finds : List ℕ → ℕ → Type 0
   Finds t verdict = (n : ℕ) → routeFrom read form n t ≡ getD (routesIn t) n (refusedRoute (either verdict noSuchRoute))
@@ -288,3 +291,77 @@ module _ (read : Reader) (fair : Fair read) (form : Form) where
             ∙ getD-drop (16 * (n / 16)) routes (n % 16) (refusedRoute noSuchRoute)
             ∙ ap (λ (i : ℕ). getD routes i (refusedRoute noSuchRoute)) on)
       ]
+
+-- ---- in the words of the calls
+
+-- two ways to say what stands at a place that is there
+getD-there : {A : Type 0} (l : List A) (n : ℕ) (d d′ : A) → n < length l → getD l n d ≡ getD l n d′
+getD-there [] n d d′ h = absurd (omega arith)
+getD-there (x ∷ l) zero d d′ h = refl
+getD-there (x ∷ l) (suc n) d d′ h = getD-there l n d d′ (omega arith)
+
+-- the six words of row n of a store of rows
+words-at : (rows : List Row) (n : ℕ) (none : Row) → n < length rows → take 6 (drop (6 * n) (flat words rows)) ≡ words (getD rows n none)
+unfolding flat
+words-at [] n none h = absurd (omega arith)
+words-at (row ∷ rows) zero none h = refl
+words-at (row ∷ rows) (suc n) none h =
+    let on : 6 * suc n ≡ suc (suc (suc (suc (suc (suc (6 * n)))))) = omega arith in
+    ap (λ (i : ℕ). take 6 (drop i (flat words (row ∷ rows)))) on ∙ words-at rows n none (omega arith)
+
+module _ (read : Reader) (fair : Fair read) (s : List ℕ) (form : Form) where
+  -- what a store holds at its front where an index was built in it
+  pub built : (d : List ℕ) (n : ℕ) → buildIndex read s form (length d) ≡ I.Places n
+      → (length s ≤ listLimit) × (listBy read s (fixed form) .verdict ≡ 0) × (length (indexBy read s form) ≡ n) × (take n (indexAfter read s form d) ≡ indexBy read s form)
+  unfolding buildIndex indexAfter
+  built d n e =
+      let c = by (countIndex read s form) e in
+      let f = count-fits read s form n (c .0) in
+      let all : n ≡ 0 + length (indexBy read s form) = omega (arith, f .2) in (
+        f .0,
+        f .1,
+        f .2,
+        ap₂ (λ (i : ℕ) (a : IndexAnswer). take i (filled (indexMeaning a) (indexBy read s form) d)) all e ∙ take-laid d 0 (indexBy read s form) (omega (arith, c .1, f .2)),
+      )
+    where
+      by : (a : IndexAnswer) → roomFor a (length d) ≡ I.Places n → (a ≡ I.Places n) × (n ≤ length d)
+      by (I.Places m) =
+          pick-leb (λ (a : IndexAnswer). a ≡ I.Places n → (I.Places m ≡ I.Places n) × (n ≤ length d)) m (length d) _ _
+          (λ le f. let same : m ≡ n = cc in (f, omega arith))
+          (λ _ f. let z : _≡_ {A = ℕ} 0 1 = cc in absurd (omega arith))
+      by (I.Refused m) = λ f. let z : _≡_ {A = ℕ} 0 1 = cc in absurd (omega arith)
+
+  -- counting an index goes by counting the list
+  pub counted-places : (m : ℕ) → countAnswer s (listBy read s (fixed form)) ≡ L.Rows m → countIndex read s form ≡ I.Places ((m + 15) / 16)
+  unfolding countIndex
+  counted-places m e =
+      let rows : length (itemsBy read s form) ≡ m = sym (length-map (itemsBy read s form) (itemRow form)) ∙ ap length (sym (rows-items read fair form s)) ∙ count-rows s (listBy read s (fixed form)) m e .1 in
+      let places : length (indexBy read s form) ≡ (m + 15) / 16 = omega (arith, own-length read fair form s, rows) in
+      ap (λ (a : ListAnswer). placesFor a (indexBy read s form)) e ∙ ap I.Places places
+
+  pub counted-refused : (why : ℕ) → countAnswer s (listBy read s (fixed form)) ≡ L.Refused why → countIndex read s form ≡ I.Refused why
+  unfolding countIndex
+  counted-refused why e = ap (λ (a : ListAnswer). placesFor a (indexBy read s form)) e
+
+  -- route n of the answers is row n of the rows
+  pub route-row : (n : ℕ) → n < length (listBy read s (fixed form) .rows)
+      → (used : ℕ) × (row : Row) × (host : Bool) × (getD (map (itemRoute form) (itemsBy read s form)) n (refusedRoute noSuchRoute) ≡ record { prefix = P.Prefix used row; host = host })
+      × (take 6 (drop (6 * n) (flat words (listBy read s (fixed form) .rows))) ≡ words row)
+  route-row n lt =
+      let items : List (List ℕ) = itemsBy read s form in
+      let is = rows-items read fair form s in
+      let some : n < length items = omega (arith, lt, ap length is, length-map items (itemRow form)) in
+      let item : List ℕ = getD items n [] in (
+        length item,
+        itemRow form item,
+        hostBits form item,
+        getD-there (map (itemRoute form) items) n (refusedRoute noSuchRoute) (itemRoute form []) (omega (arith, some, length-map items (itemRoute form))) ∙ List·getD-map (itemRoute form) items n [],
+        words-at (listBy read s (fixed form) .rows) n (itemRow form []) lt
+            ∙ ap words (ap (λ (rows : List Row). getD rows n (itemRow form [])) is ∙ List·getD-map (itemRow form) items n []),
+      )
+
+  pub route-none : (n : ℕ) → length (listBy read s (fixed form) .rows) ≤ n → getD (map (itemRoute form) (itemsBy read s form)) n (refusedRoute noSuchRoute) ≡ refusedRoute noSuchRoute
+  route-none n le =
+      let items : List (List ℕ) = itemsBy read s form in
+      List·getD-eq-default (map (itemRoute form) items) (refusedRoute noSuchRoute)
+      (omega (arith, le, ap length (rows-items read fair form s), length-map items (itemRow form), length-map items (itemRoute form)))

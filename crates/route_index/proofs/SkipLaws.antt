@@ -7,7 +7,6 @@ use native.Mathlib.Omega.{arith}
 use borrow.Author.Tests.{le-leb, lt-leb}
 use lib.ListN.{length, getD, drop, length-drop}
 use lib.Seq.{getD-drop}
-use Rattle.wire.specs.Walk.{took}
 use Rattle.families.specs.Family.{idSize}
 use Rattle.families.specs.Octets.{refusedLength, entry}
 use Rattle.families.specs.declared.Form.{Form}
@@ -23,7 +22,6 @@ use Rattle.routes.specs.declared.StepAnswer.the-variants as S
 use Rattle.routes.proofs.ListLaws.{step-form, step-stop, step-taken, turn-took, turn-refused}
 use Rattle.routes.proofs.TableLaws.{table-long, table-took, table-size, fair-table}
 use Rattle.route_index.specs.Private.{skipped, Passes}
-use Rattle.route_index.specs.declared.PlaceAnswer.{PlaceAnswer}
 use Rattle.route_index.specs.declared.PlaceAnswer.the-variants.{At, Refused}
 
 -- ---- by any way to read one item

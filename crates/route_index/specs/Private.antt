@@ -2,9 +2,11 @@
 use Prim.Native.Nat.{ℕ, zero, suc, _+_, _≤_, _<_}
 use mathlib.Core.Path.{_≡_}
 use mathlib.Core.List.{List}
+use mathlib.Core.Bool.{Bool}
 use lib.ListN.{length, drop}
 use lib.Dec.{leb}
 use Rattle.wire.specs.Choice.{pick}
+use Rattle.wire.specs.Refusal.{notAnIndex, noSuchRoute}
 use Rattle.families.specs.declared.Form.{Form}
 use Rattle.routes.specs.List.{Reader, fixed, listBy}
 use Rattle.routes.specs.declared.PrefixAnswer.{PrefixAnswer}
@@ -34,3 +36,7 @@ pub record Passes (read : Reader) (form : Form) (s : List ℕ) (n at n′ at′ 
 pub record Fitting (read : Reader) (s : List ℕ) (form : Form) (store : List ℕ) : Type 0 where
   pub good : listBy read s (fixed form) .verdict ≡ 0
   pub room : length (indexBy read s form) ≤ length store
+
+-- the first of two faults of an index: that it is none, and that the start is lacking
+abbrev pub indexFault : Bool → Bool → ℕ
+indexFault other lacking = pick other notAnIndex (pick lacking noSuchRoute 0)

@@ -1,6 +1,5 @@
 // An index beside a list of routes, guess off (document 02, K9): the start of every sixteenth item, by which a route is found without reading all before it.
 ghost use mathlib.Core.Path.{_≡_};
-ghost use mathlib.Core.Bool.{Bool};
 ghost use Prim.Native.Nat.{_≤_, _<_};
 ghost use lib.ListN.{length, drop};
 ghost use Rattle.wire.specs.Refusal.{listLimit};
@@ -11,7 +10,7 @@ ghost use Rattle.routes.specs.ByTable.{byTable};
 ghost use Rattle.routes.specs.Promises.{sized};
 ghost use Rattle.routes.specs.declared.StepAnswer.the-variants as Step;
 ghost use Rattle.route_index.specs.Index.{indexBy, isIndex, refusedRoute, routeBy};
-ghost use Rattle.route_index.specs.Private.{skipped, Passes, Fitting};
+ghost use Rattle.route_index.specs.Private.{skipped, Passes, Fitting, indexFault};
 ghost use Rattle.route_index.specs.Promises.{countIndex, buildIndex, indexAfter, placesIn};
 use families::AddPath;
 use families::Afi;
@@ -201,6 +200,19 @@ fn is_index(index: &[u16], end: usize) -> bool
     rises & ((index[last] as usize) < end)
 }
 
+// Why an index does not lead to a start: it is none, or the start is lacking; 0 where it does.
+fn index_fault(other: bool, lacking: bool) -> u8
+    ensures { λ r. ⌜ r ≡ indexFault other lacking ⌝ }
+{
+    if other {
+        return refusal::NOT_AN_INDEX; // before the start is looked for
+    }
+    if lacking {
+        return refusal::NO_SUCH_ROUTE; // of an index
+    }
+    0
+}
+
 // No route, and why.
 fn no_route(why: u8) -> RouteAnswer
     ensures { λ r. ⌜ r ≡ refusedRoute why ⌝ }
@@ -218,14 +230,14 @@ pub fn route_at(s: &[u8], index: &[u16], n: usize, afi: Afi, form: Form) -> Rout
     if wire::LIST_LIMIT < s.len() {
         return no_route(refusal::TOO_LONG);
     }
-    if !is_index(index, s.len()) {
-        return no_route(refusal::NOT_AN_INDEX);
-    }
-    if index.len() <= n / SPACING {
-        return no_route(refusal::NO_SUCH_ROUTE);
+    let q = n / SPACING;
+    let r = n % SPACING;
+    let why = index_fault(!is_index(index, s.len()), index.len() <= q);
+    if why != 0 {
+        return no_route(why);
     }
     let counts = octets::counts(afi);
-    match pass_items(s, index[n / SPACING] as usize, n % SPACING, &counts, form) {
+    match pass_items(s, index[q] as usize, r, &counts, form) {
         PlaceAnswer::At(at) => {
             if s.len() <= at {
                 return no_route(refusal::NO_SUCH_ROUTE);

@@ -1,8 +1,8 @@
 use Rattle.wire.specs.Refusal.{pastAll}
 use Rattle.route_index.specs.Promises.{countIndex}
 use Rattle.route_index.specs.declared.IndexAnswer.the-variants.{Places}
-use mathlib.Core.Path.{_≡_, refl, sym, ap, _∙_}
-use Prim.Native.Nat.{ℕ, _-_, _≤_}
+use mathlib.Core.Path.{_≡_, refl}
+use Prim.Native.Nat.{_-_}
 use native.Mathlib.Omega.{arith}
 use Rattle.families.specs.Family.{maxOf}
 use Rattle.routes.specs.List.{upTo}

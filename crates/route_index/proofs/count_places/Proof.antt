@@ -2,7 +2,7 @@ use borrow.Author.Needs.{needs}
 use Prim.Native.Nat.{_+_, _-_, _<_}
 use native.Mathlib.Omega.{arith}
 use lib.ListN.{length}
-use mathlib.Core.Path.{_≡_, sym, _∙_}
+use mathlib.Core.Path.{sym, _∙_}
 use Rattle.routes.specs.ByTable.{byTable}
 use Rattle.routes.proofs.TableLaws.{fair-table}
 use Rattle.route_index.proofs.IndexLaws.{Counting, counting-long, counting-start, counting-step, counting-stop, counting-done}

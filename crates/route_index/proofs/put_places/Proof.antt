@@ -2,7 +2,7 @@ use borrow.Author.Needs.{needs}
 use Prim.Native.Nat.{_+_, _-_, _<_}
 use native.Mathlib.Omega.{arith}
 use lib.ListN.{length, set}
-use mathlib.Core.Path.{_≡_, sym, _∙_}
+use mathlib.Core.Path.{sym, _∙_}
 use Rattle.routes.specs.ByTable.{byTable}
 use Rattle.routes.proofs.TableLaws.{fair-table}
 use Rattle.route_index.proofs.IndexLaws.{Placing, placing-start, placing-long, placing-step, placing-never, placing-done}
@@ -38,7 +38,7 @@ turn c =
     (omega (arith, c .before .before .before .before .loop-test .taken)) (sym (c .before .before .before .pass-items .ensures) ∙ c .before .next .given .1)
 
 cast-places : tie.Need-cast-places Inv-loop μ-loop
-cast-places c = omega (arith, c .before .before .before .before .loop-test .taken, c .before .before .before .before .before .before .before .before .pre .0)
+cast-places c = omega (arith, c .before .before .before .before .loop-test .taken, turn c .2 .within, c .before .before .before .before .before .before .before .before .pre .0)
 
 mul-places : tie.Need-mul-places Inv-loop μ-loop
 mul-places c = omega (arith, c .before .before .before .before .before .loop .inv .few, c .before .before .before .before .before .loop .inv .within, c .before .before .before .before .before .before .before .before .pre .0)

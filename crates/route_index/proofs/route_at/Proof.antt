@@ -1,18 +1,18 @@
-use Prim.Native.Nat.{ℕ, _/_, _%_}
+use Prim.Native.Nat.{ℕ, _/_, _%_, _<_}
 use mathlib.Core.Path.{_≡_, refl, sym, ap, _∙_}
 use mathlib.Core.List.{List}
+use mathlib.Core.Bool.{true}
 use native.Mathlib.Omega.{arith}
-use borrow.Author.Tests.{not-true, not-false}
-use lib.ListN.{length, getD, drop}
+use borrow.Author.Tests.{leb-false, not-false}
+use lib.ListN.{length, getD}
 use Rattle.wire.proofs.Turn.{rest}
 use Rattle.families.specs.Family.{maxOf}
 use Rattle.routes.specs.Prefix.{routeOf}
 use Rattle.routes.specs.List.{Reader, upTo}
 use Rattle.routes.proofs.TableLaws.{item-family}
-use mathlib.Core.Bool.{true}
 use Rattle.route_index.specs.Index.{isIndex, routeBy}
 use Rattle.route_index.specs.Private.{skipped}
-use Rattle.route_index.proofs.AskLaws.{found, found-none, found-some, ask-long, ask-other, ask-lacking, ask-found}
+use Rattle.route_index.proofs.AskLaws.{fault-none, found, found-none, found-some, ask-long, ask-fault, ask-found}
 use borrow.Author.Needs.{needs}
 use Rattle.route_index.proofs.route_at.Statement.{statement}
 use Rattle.route_index.proofs.route_at.Tie as tie
@@ -28,29 +28,26 @@ returns c =
 is-index-requires : tie.Need-is-index-requires
 is-index-requires c κs = search needs
 
+index-fault-requires : tie.Need-index-fault-requires
+index-fault-requires c κs = search needs
+
 no-route-requires-2 : tie.Need-no-route-requires-2
 no-route-requires-2 c κs = search needs
 
 returns-2 : tie.Need-returns-2
 returns-2 c =
-    let a = c .before .before .before .before .before .before .args in
+    let f = c .before .before in
+    let a = f .before .before .before .before .before .args in
     c .no-route2 .ensures
-    ∙ ask-other (upTo (maxOf (a .afi))) (a .form) (a .s .now) (a .index .now) (a .n) (omega (arith, c .before .before .before .if1 .left)) (sym (c .before .before .is-index .ensures) ∙ not-true _ (c .before .if2 .taken))
+    ∙ ask-fault (upTo (maxOf (a .afi))) (a .form) (a .s .now) (a .index .now) (a .n) (omega (arith, f .before .before .if1 .left)) _ _ (f .before .is-index .ensures) refl _ (f .index-fault .ensures) (λ e. omega (arith, e, c .before .if2 .taken))
 
-no-route-requires-3 : tie.Need-no-route-requires-3
-no-route-requires-3 c κs = search needs
-
--- the index that was taken
+-- the index is one, and has the start
 taken : (c : tie.Else2) →
-    let a = c .before .before .before .before .before .args in
-    isIndex (length (a .s .now)) (a .index .now) ≡ true
-taken c = sym (c .before .is-index .ensures) ∙ not-false _ (c .if2 .left)
-
-returns-3 : tie.Need-returns-3
-returns-3 c =
-    let a = c .before .before .before .before .before .before .before .args in
-    c .no-route3 .ensures
-    ∙ ask-lacking (upTo (maxOf (a .afi))) (a .form) (a .s .now) (a .index .now) (a .n) (omega (arith, c .before .before .before .before .if1 .left)) (taken (c .before .before)) (omega (arith, c .before .if3 .taken))
+    let a = c .before .before .before .before .before .before .args in
+    (isIndex (length (a .s .now)) (a .index .now) ≡ true) × (a .n / 16 < length (a .index .now))
+taken c =
+    let f = fault-none _ _ (sym (c .before .index-fault .ensures) ∙ omega (arith, c .if2 .left)) in
+    (sym (c .before .before .is-index .ensures) ∙ not-false _ (f .0), leb-false _ _ (f .1))
 
 counts-requires : tie.Need-counts-requires
 counts-requires c κs = search needs
@@ -59,7 +56,7 @@ mul-pass-items : tie.Need-mul-pass-items
 mul-pass-items c = search needs
 
 shared-slice-read-pass-items : tie.Need-shared-slice-read-pass-items
-shared-slice-read-pass-items c = search needs
+shared-slice-read-pass-items c = taken (c .before .before) .1
 
 cast-pass-items : tie.Need-cast-pass-items
 cast-pass-items c = omega (arith, c .shared-slice-known3 .given (c .before .before .before .before .before .before .before .before .args .n / 16))
@@ -70,25 +67,25 @@ pass-items-requires c κs = search needs
 enum-known-at : tie.Need-enum-known-at
 enum-known-at c = search needs
 
-no-route-requires-4 : tie.Need-no-route-requires-4
-no-route-requires-4 c κs = search needs
+no-route-requires-3 : tie.Need-no-route-requires-3
+no-route-requires-3 c κs = search needs
 
 -- the place that was reached
 reached : (c : tie.After-pass-items) →
     let a = c .before .before .before .before .before .before .before .before .before .before .args in
     found (upTo (maxOf (a .afi))) (a .form) (a .s .now) (c .pass-items .result) ≡ routeBy (upTo (maxOf (a .afi))) (a .form) (a .s .now) (a .index .now) (a .n)
 reached c =
-    let e = c .before .before .before .before .before in
-    let a = e .before .before .before .before .before .args in
-    ask-found (upTo (maxOf (a .afi))) (a .form) (a .s .now) (a .index .now) (a .n) (omega (arith, e .before .before .if1 .left)) (taken e) (omega (arith, c .before .before .before .before .if3 .left)) (c .pass-items .result)
+    let e = c .before .before .before .before in
+    let a = e .before .before .before .before .before .before .args in
+    ask-found (upTo (maxOf (a .afi))) (a .form) (a .s .now) (a .index .now) (a .n) (omega (arith, e .before .before .before .if1 .left)) (taken e .0) (taken e .1) (c .pass-items .result)
     (ap (λ (read : Reader). skipped read (a .form) (a .s .now) (a .n % 16) (getD (a .index .now) (a .n / 16) 0)) (sym (item-family _ (a .afi) (c .before .before .before .counts .ensures))) ∙ sym (c .pass-items .ensures))
 
-returns-4 : tie.Need-returns-4
-returns-4 c =
+returns-3 : tie.Need-returns-3
+returns-3 c =
     let k = c .before .before .before .before .before in
     let a = k .before .before .before .before .before .before .before .before .before .before .args in
-    c .no-route4 .ensures
-    ∙ found-none (upTo (maxOf (a .afi))) (a .form) (a .s .now) _ (c .before .if4 .taken)
+    c .no-route3 .ensures
+    ∙ found-none (upTo (maxOf (a .afi))) (a .form) (a .s .now) _ (c .before .if3 .taken)
     ∙ ap (found (upTo (maxOf (a .afi))) (a .form) (a .s .now)) (sym (c .before .before .before .at .given .1))
     ∙ reached k
 
@@ -107,25 +104,26 @@ try-parse-prefix-requires c κs = search needs
 enum-known-why : tie.Need-enum-known-why
 enum-known-why c = search needs
 
-no-route-requires-5 : tie.Need-no-route-requires-5
-no-route-requires-5 c κs = search needs
+no-route-requires-4 : tie.Need-no-route-requires-4
+no-route-requires-4 c κs = search needs
 
-returns-5 : tie.Need-returns-5
+returns-4 : tie.Need-returns-4
 unfolding routeOf
-returns-5 c =
+returns-4 c =
     let k = c .before .before .before .before .before .before in
     let a = k .before .before .before .before .before .before .before .before .before .before .args in
+    let at = c .before .before .before .before .at .given in
     c .try-parse-prefix .ensures
-    ∙ ap (λ (t : List ℕ). routeOf t (maxOf (a .afi)) (a .form)) (rest (a .s .now) (c .before .before .before .before .at .given .0 .0))
-    ∙ found-some (upTo (maxOf (a .afi))) (a .form) (a .s .now) (c .before .before .before .before .at .given .0 .0) (omega (arith, c .before .before .if4 .left))
-    ∙ ap (found (upTo (maxOf (a .afi))) (a .form) (a .s .now)) (sym (c .before .before .before .before .at .given .1))
+    ∙ ap (λ (t : List ℕ). routeOf t (maxOf (a .afi)) (a .form)) (rest (a .s .now) (at .0 .0))
+    ∙ found-some (upTo (maxOf (a .afi))) (a .form) (a .s .now) (at .0 .0) (omega (arith, c .before .before .if3 .left))
+    ∙ ap (found (upTo (maxOf (a .afi))) (a .form) (a .s .now)) (sym (at .1))
     ∙ reached k
 
-returns-6 : tie.Need-returns-6
-returns-6 c =
+returns-5 : tie.Need-returns-5
+returns-5 c =
     let k = c .before .before .before .before in
     let a = k .before .before .before .before .before .before .before .before .before .before .args in
-    c .no-route5 .ensures ∙ ap (found (upTo (maxOf (a .afi))) (a .form) (a .s .now)) (sym (c .before .before .why .given .1)) ∙ reached k
+    c .no-route4 .ensures ∙ ap (found (upTo (maxOf (a .afi))) (a .form) (a .s .now)) (sym (c .before .before .why .given .1)) ∙ reached k
 
 pub route-at-spec : {M : Type 1} → statement M
 route-at-spec =
@@ -134,23 +132,22 @@ route-at-spec =
     no-route-requires
     returns
     is-index-requires
+    index-fault-requires
     no-route-requires-2
     returns-2
-    no-route-requires-3
-    returns-3
     counts-requires
     mul-pass-items
     shared-slice-read-pass-items
     cast-pass-items
     pass-items-requires
     enum-known-at
-    no-route-requires-4
-    returns-4
+    no-route-requires-3
+    returns-3
     sub-try-parse-prefix
     part-try-parse-prefix-start
     part-try-parse-prefix-end
     try-parse-prefix-requires
     enum-known-why
-    no-route-requires-5
-    returns-5
-    returns-6)
+    no-route-requires-4
+    returns-4
+    returns-5)
