@@ -2,7 +2,7 @@
 -- index and by any other.
 -- Assumes nothing.
 use Prim.Native.Nat.{ℕ, _+_, _*_, _/_, _%_, _≤_, _<_}
-use mathlib.Core.Path.{_≡_, sym, ap, ap₂, _∙_}
+use mathlib.Core.Path.{_≡_, refl, sym, ap, ap₂, _∙_}
 use mathlib.Core.List.{List, [], map}
 use mathlib.Core.Bool.{Bool, true, false}
 use native.Mathlib.Omega.{arith}
@@ -150,5 +150,8 @@ module _ (κs : _) (asked : _) (route : _) (exit : _) (ask : route_at.Learnt κs
 
 module _ (κs : _) (asked : _) (route : _) (exit : _) (ask : route_at.Learnt κs asked route exit) where
   pub empty-list : bytes asked ≡ [] → index asked ≡ [] → route ≡ refusedRoute noSuchRoute
-  unfolding routeBy isIndex
-  empty-list none empty = ask ∙ ap₂ (λ (s l : List ℕ). routeBy (upTo (maxOf (familyOf asked))) (formOf asked) s l (number asked)) none empty
+  unfolding isIndex
+  empty-list none empty =
+      ask
+      ∙ ap₂ (λ (s l : List ℕ). routeBy (upTo (maxOf (familyOf asked))) (formOf asked) s l (number asked)) none empty
+      ∙ sym (Ask.ask-lacking (upTo (maxOf (familyOf asked))) (formOf asked) [] [] (number asked) (omega arith) refl (omega arith))

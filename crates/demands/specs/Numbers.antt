@@ -10,7 +10,7 @@ use lib.Dec.{eqb}
 use Rattle.wire.specs.Answer.{Answer, given, refusal, numberIn, valueIn, writeMeaning, limited}
 use Rattle.wire.specs.Number.{be, beAt, toBe}
 use Rattle.wire.specs.Refusal as refusals
-use Rattle.wire.specs.Walk.{readAll, walk, flat, tally, notes}
+use Rattle.wire.specs.Walk.{readAll, walk, flat, tally, notes, starts}
 use Rattle.families.specs.Family.{maxOf, idSize, markOf, guessed, guessMark, octets, modeOf}
 use Rattle.families.specs.Octets.{tableOf, entry}
 use Rattle.families.specs.declared.Afi.{Afi}
@@ -28,6 +28,8 @@ use Rattle.route_bytes.specs.Promises.{measured}
 use Rattle.route_marks.specs.Marks.{clearedFrom}
 use Rattle.route_marks.specs.Marks as marks
 use Rattle.route_marks.specs.Promises.{clearAnswer, clearAfter}
+use Rattle.route_index.specs.Index.{sixteenths, indexBy, isIndex, routeFrom, routeBy}
+use Rattle.route_index.specs.Promises.{indexMeaning, countIndex, buildIndex}
 use Rattle.route_writer.specs.Promises as routeWriter
 use Rattle.asns.specs.Asn.{widthOf, span}
 use Rattle.asns.specs.Aggregator.{aggregatorMeaning, aggregatorOf, aggregatorBytes, aggregatorWritten}
@@ -111,6 +113,8 @@ refusalNumbers =
     ∷ line refusals.emptySegment 16
     ∷ line refusals.otherFamily 17
     ∷ line refusals.nextHopLength 18
+    ∷ line refusals.notAnIndex 19
+    ∷ line refusals.noSuchRoute 20
     ∷ line refusals.listLimit 65535
     ∷ line refusals.bodyLimit 65516
     ∷ []
@@ -1173,12 +1177,85 @@ announcements =
     ∷ line (unreachWritten documentation 8) 0
     ∷ []
 
+-- ---- an index beside a list (document 02, K9)
+
+-- the index of a list of IPv4, and its place i; 1,000 times the refusal number and the places that building answers
+abbrev pub indexPlace : Form → List ℕ → ℕ → ℕ
+indexPlace form s i = getD (indexBy (upTo (maxOf Ipv4)) s form) i 0
+
+abbrev pub builtPlaces : List ℕ → ℕ → ℕ
+builtPlaces s places = let a = indexMeaning (buildIndex (upTo (maxOf Ipv4)) s Plain places) in valueIn 0 a + 1000 * numberIn a
+
+-- 1,000 times the refusal number and the first word of route n of a list, by an index
+abbrev pub routeAt : List ℕ → List ℕ → ℕ → ℕ
+routeAt s index n = let a = routeMeaning (routeBy (upTo (maxOf Ipv4)) Plain s index n) in valueIn 1 a + 1000 * numberIn a
+
+-- the same by the list's own index; a list of 17 default routes and one of /8
+abbrev pub ownRoute : List ℕ → ℕ → ℕ
+ownRoute s n = routeAt s (indexBy (upTo (maxOf Ipv4)) s Plain) n
+
+abbrev pub eighteen : List ℕ
+eighteen = zeros 17 ++ 8 ∷ 10 ∷ []
+
+abbrev pub indexes : List Line
+indexes =
+    -- a place for each sixteen items, from the first, where these start
+    line (builtPlaces [] 0) 0
+    ∷ line (builtPlaces (zeros 1) 9) 1
+    ∷ line (builtPlaces (zeros 16) 9) 1
+    ∷ line (builtPlaces (zeros 17) 9) 2
+    ∷ line (builtPlaces (zeros 32) 9) 2
+    ∷ line (builtPlaces (zeros 33) 9) 3
+    ∷ line (indexPlace Plain (zeros 33) 0) 0
+    ∷ line (indexPlace Plain (zeros 33) 1) 16
+    ∷ line (indexPlace Plain (zeros 33) 2) 32
+    ∷ line (indexPlace Plain (8 ∷ 10 ∷ zeros 16) 1) 17
+    ∷ line (indexPlace Tagged (zeros 85) 1) 80
+    -- the list's refusals, and no rule of one byte; then 11
+    ∷ line (builtPlaces (zeros 65536) 0) 1000
+    ∷ line (builtPlaces (8 ∷ []) 0) 2000
+    ∷ line (builtPlaces (zeros 17 ++ 33 ∷ []) 0) 7000
+    ∷ line (builtPlaces (zeros 17) 1) 11000
+    ∷ line (builtPlaces (zeros 17) 2) 2
+    -- each route by the list's own index, and none past the last
+    ∷ line (ownRoute eighteen 0) 0
+    ∷ line (ownRoute eighteen 15) 0
+    ∷ line (ownRoute eighteen 16) 0
+    ∷ line (ownRoute eighteen 17) 8
+    ∷ line (ownRoute eighteen 18) 20000
+    ∷ line (ownRoute eighteen 32) 20000
+    ∷ line (ownRoute eighteen 0xFFFFFFFF) 20000
+    ∷ line (ownRoute [] 0) 20000
+    -- 1; 19 where it does not rise from 0, or has a place at the end or past it
+    ∷ line (routeAt (zeros 65536) (1 ∷ []) 0) 1000
+    ∷ line (routeAt (zeros 9) (1 ∷ []) 0) 19000
+    ∷ line (routeAt (zeros 9) (0 ∷ 0 ∷ []) 0) 19000
+    ∷ line (routeAt (zeros 9) (0 ∷ 5 ∷ 4 ∷ []) 0) 19000
+    ∷ line (routeAt (zeros 9) (0 ∷ 9 ∷ []) 0) 19000
+    ∷ line (routeAt (zeros 9) (0 ∷ 8 ∷ []) 0) 0
+    ∷ line (routeAt [] (0 ∷ []) 0) 19000
+    -- then 20 where the start is lacking, and not before 19
+    ∷ line (routeAt (zeros 9) (1 ∷ []) 16) 19000
+    ∷ line (routeAt (zeros 9) (0 ∷ []) 16) 20000
+    ∷ line (routeAt (zeros 9) [] 0) 20000
+    -- then the items' refusals in byte order, and 20 where they run out
+    ∷ line (routeAt (0 ∷ 33 ∷ []) (0 ∷ []) 1) 7000
+    ∷ line (routeAt (0 ∷ 33 ∷ []) (0 ∷ []) 2) 7000
+    ∷ line (routeAt (0 ∷ 8 ∷ []) (0 ∷ []) 1) 2000
+    ∷ line (routeAt (zeros 9) (0 ∷ []) 8) 0
+    ∷ line (routeAt (zeros 9) (0 ∷ []) 9) 20000
+    -- from the place that is named, whatever stands there
+    ∷ line (routeAt eighteen (0 ∷ 17 ∷ []) 16) 8
+    ∷ line (routeAt eighteen (0 ∷ 18 ∷ []) 16) 2000
+    ∷ line (routeAt eighteen (0 ∷ 17 ∷ []) 17) 20000
+    ∷ []
+
 abbrev pub table : List Line
-table = refusalNumbers ++ (headers ++ (bodies ++ (lists ++ (pathsAndAggregators ++ (oldAndNew ++ (attributes ++ (emptySegments ++ (longMessages ++ (octetCounts ++ (hostRows ++ (announcements ++ (guessedIds ++ (limits ++ (settings ++ lister))))))))))))))
+table = refusalNumbers ++ (headers ++ (bodies ++ (lists ++ (pathsAndAggregators ++ (oldAndNew ++ (attributes ++ (emptySegments ++ (longMessages ++ (octetCounts ++ (hostRows ++ (announcements ++ (guessedIds ++ (indexes ++ (limits ++ (settings ++ lister)))))))))))))))
 
 -- every line of the table holds
 pub numbers : agree table ≡ true
-unfolding agree zeros clearedFrom clearAnswer clearAfter pairFault headOf countReach readReach countUnreach readUnreach reachHead reachBytes unreachBytes routeWriter.writeAfter writeReach tableOf beAt readAll walk notes flat modeOf wordAt rowOf itemRow prefixOf hostBits routeOf hostsBy inForm guessForm stepBy listBy sectionBy routes.countAnswer routes.readAnswer fourWords rowBytes allZero writable frontRow writeStep writing bytesOf measured routeWriter.writeAnswer limited span aggregatorOf aggregatorBytes aggregatorWritten typeFault numbersOf segmentAt segmentOf pathOf paths.countAnswer paths.readAnswer segmentBytes addsUp allFit writeFault lentOf lentPath pathBytes pathWriter.lentBytes pathWriter.encodeAnswer leastLength mostLength crateLimit isOutside isUnknown allFF messageOf strictWithin messageWriter.writeMessage isExtended lengthSize headSize attributeFront attributeOf attribute.sectionOf standing attributeAt firstOf countOf verdictOf judged findAnswer partsOf withdrawnOf announcedOf countUpdate bodySized bodyAnswer wordOf familyOf formOf asnLengthOf editionOf tally found slotOf digits fieldsText sectionText entryOf entryText lineOf stopText headingText linesOf endingText sizeFault as4.standing ignored Merge.kept Merge.leading Merge.joint faultOf bothOf builtOf
+unfolding agree zeros starts sixteenths indexBy isIndex routeFrom routeBy countIndex buildIndex clearedFrom clearAnswer clearAfter pairFault headOf countReach readReach countUnreach readUnreach reachHead reachBytes unreachBytes routeWriter.writeAfter writeReach tableOf beAt readAll walk notes flat modeOf wordAt rowOf itemRow prefixOf hostBits routeOf hostsBy inForm guessForm stepBy listBy sectionBy routes.countAnswer routes.readAnswer fourWords rowBytes allZero writable frontRow writeStep writing bytesOf measured routeWriter.writeAnswer limited span aggregatorOf aggregatorBytes aggregatorWritten typeFault numbersOf segmentAt segmentOf pathOf paths.countAnswer paths.readAnswer segmentBytes addsUp allFit writeFault lentOf lentPath pathBytes pathWriter.lentBytes pathWriter.encodeAnswer leastLength mostLength crateLimit isOutside isUnknown allFF messageOf strictWithin messageWriter.writeMessage isExtended lengthSize headSize attributeFront attributeOf attribute.sectionOf standing attributeAt firstOf countOf verdictOf judged findAnswer partsOf withdrawnOf announcedOf countUpdate bodySized bodyAnswer wordOf familyOf formOf asnLengthOf editionOf tally found slotOf digits fieldsText sectionText entryOf entryText lineOf stopText headingText linesOf endingText sizeFault as4.standing ignored Merge.kept Merge.leading Merge.joint faultOf bothOf builtOf
 numbers = refl
 
 -- the limit of a list and of a path to write is of their bytes, whatever they are

@@ -27,14 +27,14 @@ use Rattle.families.specs.Family.{maxOf, modeOf}
 use Rattle.families.specs.declared.Afi.the-variants.{Ipv4, Ipv6}
 use Rattle.families.specs.declared.AddPath.{AddPath}
 use Rattle.families.specs.declared.Form.{Form}
-use Rattle.routes.specs.List.{listOf, hostsOf, sectionOf}
+use Rattle.routes.specs.List.{Reader, upTo, listOf, hostsOf, sectionOf}
 use Rattle.routes.specs.Prefix.{words}
 use Rattle.routes.specs.Promises.{listMeaning, countAnswer, readAnswer, storeAfter, withHosts, readList, rowsMeaning, routesMeaning, rowsIn}
 use Rattle.routes.specs.declared.Row.{Row}
 use Rattle.routes.specs.declared.ListAnswer.{ListAnswer}
 use Rattle.routes.specs.declared.ListAnswer.the-variants as L
 use Rattle.routes.specs.declared.RoutesAnswer.{RoutesAnswer}
-use Rattle.routes.proofs.ListLaws.{counted-places, read-places, store-by, told-list}
+use Rattle.routes.proofs.ListLaws.{Fair, fair, counted-places, read-places, store-by, told-list}
 use Rattle.route_reader.specs.Pair.{firstMeaning, secondMeaning, readPair, readPairFirst, readPairSecond}
 use Rattle.route_reader.specs.declared.PairAnswer.{PairAnswer}
 use Rattle.route_reader.specs.declared.PairAnswer.the-variants as P
@@ -47,6 +47,12 @@ use Rattle.route_marks.specs.Marks.{cleared}
 use Rattle.route_marks.specs.Promises.{clearAnswer, clearAfter}
 use Rattle.route_marks.proofs.ClearLaws.{cleared-length, clear-whole, clear-part}
 use Rattle.route_marks.proofs.clear_guessed.Reads as clear_guessed
+use Rattle.route_index.specs.Index.{indexBy}
+use Rattle.route_index.specs.Promises.{indexMeaning, buildIndex, indexAfter}
+use Rattle.route_index.specs.declared.IndexAnswer.{IndexAnswer}
+use Rattle.route_index.specs.declared.IndexAnswer.the-variants as X
+use Rattle.route_index.proofs.OwnLaws.{built}
+use Rattle.route_index.proofs.build_index.Reads as build_index
 use Rattle.route_writer.specs.Pair.{listsMeaning, writePairEnd, writePairAfter}
 use Rattle.route_writer.specs.declared.ListsAnswer.{ListsAnswer}
 use Rattle.route_writer.specs.declared.ListsAnswer.the-variants as S
@@ -206,6 +212,23 @@ cleared-kept before after a e f =
 module _ (κs : _) (lent : _) (answer : _) (exit : _) where
   pub clear-guessed-kept : clear_guessed.Learnt κs lent answer exit → Kept (listMeaning answer) (6 * valueIn 0 (listMeaning answer)) (now (lent .0)) (now (exit .0))
   clear-guessed-kept call = cleared-kept _ _ answer (call .0) (call .1)
+
+-- ---- an index: a place each
+
+index-kept : (read : Reader) (s : List ℕ) (form : Form) (before after : List ℕ) (a : IndexAnswer) → Fair read → a ≡ buildIndex read s form (length before) → after ≡ indexAfter read s form before
+    → Kept (indexMeaning a) (valueIn 0 (indexMeaning a)) before after
+unfolding indexAfter
+index-kept read s form before after a fair e f =
+    kept (indexMeaning a) (valueIn 0) (indexBy read s form) before after (λ n. refl) (by a e) (f ∙ ap (λ (x : IndexAnswer). filled (indexMeaning x) (indexBy read s form) before) (sym e))
+  where
+    by : (x : IndexAnswer) → x ≡ buildIndex read s form (length before) → (fields : List ℕ) → indexMeaning x ≡ given fields → length (indexBy read s form) ≡ valueIn 0 (indexMeaning x)
+    by (X.Places n) g fields h = built read fair s form before n (sym g) .2
+    by (X.Refused n) g fields h = let z : _≡_ {A = ℕ} 0 1 = cc in absurd (omega arith)
+
+module _ (κs : _) (lent : _) (answer : _) (exit : _) where
+  pub build-index-kept : build_index.Learnt κs lent answer exit → Kept (indexMeaning answer) (valueIn 0 (indexMeaning answer)) (now (lent .1 .1 .1 .0)) (now (exit .1 .1 .1 .0))
+  build-index-kept call =
+      index-kept (upTo (maxOf (lent .1 .0))) (now (lent .0)) (lent .1 .1 .0) (now (lent .1 .1 .1 .0)) _ answer (fair (maxOf (lent .1 .0))) (call .0) (call .1)
 
 -- ---- writers: a place a byte
 
