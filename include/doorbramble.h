@@ -1,5 +1,6 @@
 /* Doorbramble for C: slot records and attribute sections read; BGP messages, UPDATE bodies, route lists, MP_REACH_NLRI, MP_UNREACH_NLRI,
- * AS_PATH and AGGREGATOR read and written; AS_PATH and AS4_PATH merged; the mark of guessed path ids taken off rows.
+ * AS_PATH and AGGREGATOR read and written; a route of a list found by its number; AS_PATH and AS4_PATH merged; the mark of guessed path ids
+ * taken off rows.
  *
  * The functions are those of the static library that `rt staticlib firmware` writes, target/staticlib/libfirmware.a. Each is proved to
  * give the answer that its contract in crates/firmware/src names, for every input, and to end. None keeps a pointer, allocates, or
@@ -59,7 +60,7 @@ extern "C" {
 /* of this header: the major number rises when a caller that was compiled before would break, the minor one when calls or fields are
  * added. doorbramble_version() is that of the library. */
 #define DOORBRAMBLE_VERSION_MAJOR 2
-#define DOORBRAMBLE_VERSION_MINOR 0
+#define DOORBRAMBLE_VERSION_MINOR 1
 
 /* ---- refusal numbers */
 
@@ -101,6 +102,10 @@ extern "C" {
 #define DOORBRAMBLE_OTHER_FAMILY 17
 /* a next hop, read or to write, is not 16 or 32 bytes */
 #define DOORBRAMBLE_NEXT_HOP_LENGTH 18
+/* an index is not strictly rising from 0, or has a place at or past the end of the list */
+#define DOORBRAMBLE_NOT_AN_INDEX 19
+/* a list has no route of the number that is asked for, or the index no place to read it from */
+#define DOORBRAMBLE_NO_SUCH_ROUTE 20
 
 /* ---- message types, settings, sizes */
 
@@ -143,6 +148,9 @@ extern "C" {
 #define DOORBRAMBLE_ROW_HAS_ID 256
 /* what is added beside it where the guess found the id, so that the peer may have sent none; such a row is not written: 14 */
 #define DOORBRAMBLE_ROW_GUESSED 512
+/* the items from one place of an index to the next, and the most places that the index of a list has */
+#define DOORBRAMBLE_INDEX_SPACING 16
+#define DOORBRAMBLE_INDEX_PLACES 4096
 /* the words of a segment in a store of pairs, its type and its count, and of an AGGREGATOR, its AS number and its identifier */
 #define DOORBRAMBLE_PAIR_WORDS 2
 #define DOORBRAMBLE_AGGREGATOR_WORDS 2
@@ -268,6 +276,43 @@ uint64_t doorbramble_encode_nlri_prefixes(const uint32_t *rows, size_t rows_len,
  * The store is its rows alone, so lend as many words as were filled. Answer: cleared_rows, all rows of the store, marked or not. Refusals: 14
  * where store_len is not a multiple of DOORBRAMBLE_ROW_WORDS. */
 uint64_t doorbramble_clear_guessed(uint32_t *store, size_t store_len);
+
+/* ---- a route of a list by its number */
+
+/* The index of a list has the places in its bytes where items 0, 16, 32 and so on start, each DOORBRAMBLE_INDEX_SPACING items after the one
+ * before. By it a route is read from the nearest such place, and not from the front of the list. A list of no items has an index of no places.
+ *
+ * An index is good for the very bytes, family and add_path that it was built from. With these, route n is row n, counted from 0, of
+ * doorbramble_parse_nlri_list with DOORBRAMBLE_ADD_PATH or 0 as `settings`. With another index that is not refused, it is what is read from the
+ * place that stands there. There is no index of a list read with DOORBRAMBLE_GUESS.
+ *
+ * A section of an UPDATE is a list here: one byte that is not 0 is refused with 2 or 7, and not with 8. Ten routes from a number on:
+ *
+ *     uint64_t built = doorbramble_build_index(list, size, 0, add_path, index, DOORBRAMBLE_INDEX_PLACES);
+ *     size_t n, places = doorbramble_places(built);
+ *     for (n = from; n < from + 10; n++) {
+ *         uint64_t found = doorbramble_route_at(list, size, index, places, n, 0, add_path, row, DOORBRAMBLE_ROW_WORDS);
+ *         if (doorbramble_refusal(found) != 0)
+ *             break;
+ *         use(row);
+ *     } */
+
+/* How many places the index of a list has. Answer: places. Refusals: 1, then 2 and 7 in byte order. */
+uint64_t doorbramble_count_index(const uint8_t *s, size_t s_len, uint8_t ipv6, uint8_t add_path);
+
+/* The same, with the index at the front of places. Refusals: as above, then 11. DOORBRAMBLE_INDEX_PLACES are enough for every list. */
+uint64_t doorbramble_build_index(const uint8_t *s, size_t s_len, uint8_t ipv6, uint8_t add_path, uint16_t *places, size_t places_len);
+
+/* Route n of a list, counted from 0, by an index: its row in the first six words of row. The index is its places alone, so lend as many as were
+ * built. Answer: route_bytes, which its item takes; route_host, where it has host bits. Refusals, in this order:
+ *    1 for the list
+ *   19 where the index does not start with 0, has a place that is not greater than the one before it, or has one at or past the end of the
+ *      list; an index of no places has none of these
+ *   20 where the index has no place n / DOORBRAMBLE_INDEX_SPACING
+ *   in byte order from that place on, 2 and 7 of the items up to route n, and 20 where the list ends before it
+ *   11 where row has under six words */
+uint64_t doorbramble_route_at(const uint8_t *s, size_t s_len, const uint16_t *index, size_t index_len, size_t n, uint8_t ipv6,
+                              uint8_t add_path, uint32_t *row, size_t row_len);
 
 /* ---- MP_REACH_NLRI and MP_UNREACH_NLRI, of IPv6 unicast routes (RFC 4760 sections 3 and 4, RFC 2545 section 3) */
 
@@ -425,6 +470,13 @@ static inline unsigned doorbramble_hosts(uint64_t answer) { return doorbramble_f
 
 /* of doorbramble_clear_guessed alone: the rows of the store, which may be more than a list has; 0 with a refusal */
 static inline uint64_t doorbramble_cleared_rows(uint64_t answer) { return answer & 0xFFFFFFFFFFFF; }
+
+/* of an index */
+static inline unsigned doorbramble_places(uint64_t answer) { return doorbramble_field_a(answer); }
+
+/* of a route by an index: the bytes that its item takes, and 0 with a refusal; whether it has host bits */
+static inline unsigned doorbramble_route_bytes(uint64_t answer) { return doorbramble_field_a(answer); }
+static inline int doorbramble_route_host(uint64_t answer) { return doorbramble_field_b(answer) != 0; }
 
 /* of an MP_REACH_NLRI alone: the bytes of its next hop, 16 or 32, and 0 with a refusal; whether its reserved byte is not 0 */
 static inline unsigned doorbramble_next_hop_length(uint64_t answer) { return doorbramble_field_c_low(answer); }

@@ -2,6 +2,7 @@ pub mod Bounds
 pub mod MessageBounds
 pub mod MpBounds
 pub mod ListBounds
+pub mod IndexBounds
 pub mod UpdateBounds
 pub mod PathBounds
 pub mod AttributeBounds

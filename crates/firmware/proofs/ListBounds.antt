@@ -45,7 +45,7 @@ pub record Modest (s : List ℕ) (r : Reading Row) : Type 0 where
   pub few : length (r .rows) ≤ length s
   pub low : r .verdict < 256
 
-list-modest : (s : List ℕ) (max : ℕ) (mode : AddPath) → Modest s (listOf s max mode)
+pub list-modest : (s : List ℕ) (max : ℕ) (mode : AddPath) → Modest s (listOf s max mode)
 unfolding listBy
 list-modest s max mode = record {
   few = omega (arith, tally-one (readAll (stepOf max mode) Plain s .rows), tally-few (stepOf max mode) (sound max mode) (λ _. 1) (light max mode) Plain s);

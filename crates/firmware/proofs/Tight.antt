@@ -18,6 +18,9 @@ use Rattle.firmware.proofs.list.doorbramble_count_nlri_list.Reads as co
 use Rattle.firmware.proofs.list.doorbramble_parse_nlri_list.Reads as parse_nlri_list
 use Rattle.firmware.proofs.list.doorbramble_encode_nlri_prefixes.Reads as encode_nlri_prefixes
 use Rattle.firmware.proofs.list.doorbramble_clear_guessed.Reads as clear_guessed
+use Rattle.firmware.proofs.index.doorbramble_count_index.Reads as count_index
+use Rattle.firmware.proofs.index.doorbramble_build_index.Reads as build_index
+use Rattle.firmware.proofs.index.doorbramble_route_at.Reads as route_at
 use Rattle.firmware.proofs.mp.doorbramble_count_mp_reach_nlri.Reads as count_mp_reach_nlri
 use Rattle.firmware.proofs.mp.doorbramble_parse_mp_reach_nlri.Reads as parse_mp_reach_nlri
 use Rattle.firmware.proofs.mp.doorbramble_encode_mp_reach_nlri.Reads as encode_mp_reach_nlri
@@ -88,6 +91,15 @@ tight-encode-nlri-prefixes κs a z z′ e e′ p q = (p .0 ∙ sym (q .0), p .1 
 
 pub tight-clear-guessed : (κs : _) (a : _) (z z′ : _) (e e′ : _) → clear_guessed.Learnt κs a z e → clear_guessed.Learnt κs a z′ e′ → (z ≡ z′) × (now (e .0) ≡ now (e′ .0))
 tight-clear-guessed κs a z z′ e e′ p q = (p .0 ∙ sym (q .0), p .1 ∙ sym (q .1))
+
+pub tight-count-index : (κs : _) (a : _) (z z′ : _) (e e′ : _) → count_index.Learnt κs a z e → count_index.Learnt κs a z′ e′ → z ≡ z′
+tight-count-index κs a z z′ e e′ p q = p ∙ sym q
+
+pub tight-build-index : (κs : _) (a : _) (z z′ : _) (e e′ : _) → build_index.Learnt κs a z e → build_index.Learnt κs a z′ e′ → (z ≡ z′) × (now (e .1 .1 .1 .0) ≡ now (e′ .1 .1 .1 .0))
+tight-build-index κs a z z′ e e′ p q = (p .0 ∙ sym (q .0), p .1 ∙ sym (q .1))
+
+pub tight-route-at : (κs : _) (a : _) (z z′ : _) (e e′ : _) → route_at.Learnt κs a z e → route_at.Learnt κs a z′ e′ → (z ≡ z′) × (now (e .1 .1 .1 .1 .1 .0) ≡ now (e′ .1 .1 .1 .1 .1 .0))
+tight-route-at κs a z z′ e e′ p q = (p .0 ∙ sym (q .0), p .1 ∙ sym (q .1))
 
 pub tight-count-mp-reach-nlri : (κs : _) (a : _) (z z′ : _) (e e′ : _) → count_mp_reach_nlri.Learnt κs a z e → count_mp_reach_nlri.Learnt κs a z′ e′ → z ≡ z′
 tight-count-mp-reach-nlri κs a z z′ e e′ p q = p ∙ sym q

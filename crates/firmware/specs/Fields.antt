@@ -1,9 +1,11 @@
 -- The fields of the answers whose fields are not their values in order. The others go by `inFields` of words: a list has its rows and its host rows, an
--- AS_PATH its segments and numbers, a writer its bytes.
+-- index its places, an AS_PATH its segments and numbers, a writer its bytes.
 use Prim.Native.Nat.{ℕ, _+_, _*_, _/_, _%_}
+use mathlib.Core.Bool.{Bool}
 use mathlib.Core.List.{List, [], _∷_}
-use lib.Dec.{ltb}
-use Rattle.wire.specs.Answer.{Answer, given, refusal, numberIn, valueIn, handed}
+use lib.ListN.{length}
+use lib.Dec.{leb, ltb}
+use Rattle.wire.specs.Answer.{Answer, given, refusal, numberIn, valueIn, flag, filled, handed}
 use Rattle.wire.specs.Choice.{pick}
 use Rattle.wire.specs.Extent.{Extent, extent}
 use Rattle.wire.specs.Refusal.{noRoom}
@@ -15,8 +17,12 @@ use Rattle.attributes.specs.Promises.{attributeMeaning}
 use Rattle.attributes.specs.declared.AttributeAnswer.{AttributeAnswer}
 use Rattle.mp_nlri.specs.Read.{reachMeaning}
 use Rattle.mp_nlri.specs.declared.ReachAnswer.{ReachAnswer}
+use Rattle.routes.specs.Prefix.{words}
 use Rattle.routes.specs.declared.ListAnswer.{ListAnswer}
 use Rattle.routes.specs.declared.ListAnswer.the-variants.{Rows, Refused}
+use Rattle.routes.specs.declared.PrefixAnswer.{PrefixAnswer}
+use Rattle.routes.specs.declared.PrefixAnswer.the-variants as P
+use Rattle.routes.specs.declared.RouteAnswer.{RouteAnswer}
 use Rattle.updates.specs.Body.{partsMeaning}
 use Rattle.updates.specs.Update.{updateMeaning}
 use Rattle.updates.specs.declared.PartsAnswer.{PartsAnswer}
@@ -65,6 +71,28 @@ attributeFields a =
 abbrev pub clearedFields : ListAnswer → Fields
 clearedFields (Rows n) = fields (n % 65536) (n / 65536 % 65536) (n / 4294967296 % 65536) 0
 clearedFields (Refused n) = fields 0 0 0 n
+
+-- ---- a route by an index
+
+-- the words of a row in a store
+abbrev pub rowWords : ℕ
+rowWords = 6
+
+-- in a store of so many places, 11 last: the bytes that the item takes, and whether it has a host bit
+abbrev pub prefixStored : PrefixAnswer → Bool → ℕ → Answer
+prefixStored (P.Prefix used row) host places = pick (leb rowWords places) (given (used ∷ flag host ∷ [])) (refusal noRoom)
+prefixStored (P.Refused n) host places = refusal n
+
+abbrev pub routeStored : RouteAnswer → ℕ → Answer
+routeStored a places = prefixStored (a .prefix) (a .host) places
+
+abbrev pub prefixWords : PrefixAnswer → List ℕ
+prefixWords (P.Prefix used row) = words row
+prefixWords (P.Refused n) = []
+
+-- the store afterwards: the row from its front where it was put, and else as it was
+abbrev pub routeAfter : RouteAnswer → List ℕ → List ℕ
+routeAfter a store = filled (routeStored a (length store)) (prefixWords (a .prefix)) store
 
 -- ---- MP_REACH_NLRI
 
@@ -118,11 +146,14 @@ slotFields More = fields 0 0 slotMore 0
 slotFields Stop = fields 0 0 slotStop 0
 slotFields End = fields 0 0 slotEnd 0
 
--- ---- sizes that a caller needs: the words of a row and of a segment's pair; the most bytes that a record keeps; the most rows of an UPDATE body,
--- of both sections together
+-- ---- sizes that a caller needs: the items from one place of an index to the next, and the most places of an index; the words of a segment's pair;
+-- the most bytes that a record keeps; the most rows of an UPDATE body, of both sections together
 
-abbrev pub rowWords : ℕ
-rowWords = 6
+abbrev pub indexSpacing : ℕ
+indexSpacing = 16
+
+abbrev pub indexPlaces : ℕ
+indexPlaces = 4096
 
 abbrev pub pairWords : ℕ
 pairWords = 2
@@ -139,7 +170,7 @@ abbrev pub versionMajor : ℕ
 versionMajor = 2
 
 abbrev pub versionMinor : ℕ
-versionMinor = 0
+versionMinor = 1
 
 abbrev pub versionFields : Fields
 versionFields = fields versionMajor versionMinor 0 0

@@ -8,6 +8,7 @@ use words::word;
 
 pub mod aggregator;
 pub mod attribute;
+pub mod index;
 pub mod list;
 pub mod merge;
 pub mod message;

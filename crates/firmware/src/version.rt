@@ -8,7 +8,7 @@ use words::word;
 pub const MAJOR: u16 = 2;
 
 // Rises when calls are added.
-pub const MINOR: u16 = 0;
+pub const MINOR: u16 = 1;
 
 // The version of the library.
 #[no_mangle]
