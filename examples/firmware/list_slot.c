@@ -20,19 +20,15 @@ static const char *section_reason(unsigned verdict) {
     }
 }
 
-static void print_route(const char *what, const uint32_t *row) {
-    uint32_t a = row[2];
-    printf("%s %u.%u.%u.%u", what, (unsigned)(a >> 24), (unsigned)(a >> 16 & 0xFF), (unsigned)(a >> 8 & 0xFF), (unsigned)(a & 0xFF));
-    print_rest(row);
-}
-
 /* The routes of a section, or why it has none. Answers whether it is good. */
 static int print_section(const char *what, unsigned rows, unsigned verdict, const uint32_t *store) {
     unsigned i;
     if (verdict != 0)
         printf("%s refused %u: %s\n", what, verdict, section_reason(verdict));
-    for (i = 0; i < rows; i++)
-        print_route(what, store + i * DOORBRAMBLE_ROW_WORDS);
+    for (i = 0; i < rows; i++) {
+        printf("%s ", what);
+        print_ipv4(store + i * DOORBRAMBLE_ROW_WORDS);
+    }
     return verdict == 0;
 }
 

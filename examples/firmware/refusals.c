@@ -8,6 +8,7 @@
 
 /* what a store or an output has before each call */
 #define FILL_BYTE 0xA5
+#define FILL_PLACE 0xA5A5u
 #define FILL_WORD 0xA5A5A5A5u
 
 enum { PLACES = 64 };
@@ -15,6 +16,7 @@ enum { PLACES = 64 };
 static uint8_t out[PLACES];
 static uint32_t one[PLACES];
 static uint32_t two[PLACES];
+static uint16_t places[PLACES];
 static unsigned checks;
 static unsigned failures;
 
@@ -22,6 +24,7 @@ static void clear(void) {
     memset(out, FILL_BYTE, sizeof out);
     memset(one, FILL_BYTE, sizeof one);
     memset(two, FILL_BYTE, sizeof two);
+    memset(places, FILL_BYTE, sizeof places);
 }
 
 static uint64_t accepted(uint64_t a, uint64_t b, uint64_t c) { return a | b << 16 | c << 32; }
@@ -53,6 +56,14 @@ static int has_bytes(const uint8_t *bytes, size_t count) {
     return 1;
 }
 
+static int has_places(const uint16_t *wanted, size_t count) {
+    size_t i;
+    for (i = 0; i < PLACES; i++)
+        if (places[i] != (i < count ? wanted[i] : FILL_PLACE))
+            return 0;
+    return 1;
+}
+
 /* an answer; the words that each store has, and the bytes that the output has */
 static void check(const char *what, uint64_t answer, uint64_t wanted, const uint32_t *first, size_t first_count, const uint32_t *second,
                   size_t second_count, const uint8_t *bytes, size_t byte_count) {
@@ -69,6 +80,11 @@ static void check_store(const char *what, uint64_t answer, uint64_t wanted, cons
 
 static void check_out(const char *what, uint64_t answer, uint64_t wanted, const uint8_t *bytes, size_t count) {
     check(what, answer, wanted, NULL, 0, NULL, 0, bytes, count);
+}
+
+static void check_places(const char *what, uint64_t answer, uint64_t wanted, const uint16_t *index, size_t count) {
+    expect(what, answer == wanted && has_places(index, count));
+    clear();
 }
 
 /* the first word of a row with an id, where the guess found it */
@@ -956,6 +972,175 @@ static void cleared_stores(void) {
     expect("clear_guessed: all of them", wrong == 0);
 }
 
+/* a list of so many items, with ids or without, whose lengths up to the most come again and again; answers its size */
+static size_t list_of(unsigned items, unsigned most, size_t id_size, uint8_t *list) {
+    size_t size = 0;
+    unsigned i;
+    for (i = 0; i < items; i++)
+        size += item_of(i * 7 % (most + 1), (uint8_t)(i % 3 == 0 ? 0xFF : 0), id_size, list + size);
+    return size;
+}
+
+static void indexes(void) {
+    /* sixteen default routes, then 10.0.0.0/8, 11.0.0.0/8 and a length of 33 */
+    static const uint8_t list[] = {0, 0, 0, 0, 0, 0, 0, 0, 0, 0, 0, 0, 0, 0, 0, 0, 8, 10, 8, 11, 33};
+    static const uint8_t tagged[] = {0, 0, 0, 7, 8, 10}, wide[] = {0x40, 0x20, 0x01, 0x0D, 0xB8, 0, 0, 0, 1};
+    static const uint16_t index[] = {0, 16};
+    uint64_t answer = doorbramble_count_index(list, 20, 0, 0);
+
+    check_answer("count_index: 18 items", answer, accepted(2, 0, 0));
+    expect("the field of an index", doorbramble_places(answer) == 2);
+    check_answer("count_index: 17 items", doorbramble_count_index(list, 18, 0, 0), accepted(2, 0, 0));
+    check_answer("count_index: 16 items", doorbramble_count_index(list, 16, 0, 0), accepted(1, 0, 0));
+    check_answer("count_index: 1 item", doorbramble_count_index(list, 1, 0, 0), accepted(1, 0, 0));
+    check_answer("count_index: an empty list", doorbramble_count_index(NULL, 0, 0, 0), accepted(0, 0, 0));
+    check_answer("count_index: Add-Path, by any flag", doorbramble_count_index(tagged, 6, 0, 200), accepted(1, 0, 0));
+    check_answer("count_index: IPv6, by any flag", doorbramble_count_index(wide, 9, 200, 0), accepted(1, 0, 0));
+    check_answer("count_index: 2, the guess is off", doorbramble_count_index(tagged, 6, 0, 0), refused(DOORBRAMBLE_TRUNCATED));
+    check_answer("count_index: 7 for IPv4", doorbramble_count_index(wide, 9, 0, 0), refused(DOORBRAMBLE_PREFIX_LENGTH));
+    check_answer("count_index: 2, a byte of a section", doorbramble_count_index(list + 16, 1, 0, 0), refused(DOORBRAMBLE_TRUNCATED));
+    check_answer("count_index: 7, a byte of a section", doorbramble_count_index(list + 20, 1, 0, 0), refused(DOORBRAMBLE_PREFIX_LENGTH));
+
+    check_places("build_index", doorbramble_build_index(list, 20, 0, 0, places, PLACES), accepted(2, 0, 0), index, 2);
+    check_places("build_index: no room to spare", doorbramble_build_index(list, 20, 0, 0, places, 2), accepted(2, 0, 0), index, 2);
+    check_places("build_index: Add-Path", doorbramble_build_index(tagged, 6, 0, 1, places, 1), accepted(1, 0, 0), index, 1);
+    check_places("build_index: IPv6", doorbramble_build_index(wide, 9, 1, 0, places, 1), accepted(1, 0, 0), index, 1);
+    check_places("build_index: an empty list", doorbramble_build_index(NULL, 0, 0, 0, NULL, 0), accepted(0, 0, 0), NULL, 0);
+    check_places("build_index: 11", doorbramble_build_index(list, 20, 0, 0, places, 1), refused(DOORBRAMBLE_NO_ROOM), NULL, 0);
+    check_places("build_index: 11, no store", doorbramble_build_index(list, 1, 0, 0, NULL, 0), refused(DOORBRAMBLE_NO_ROOM), NULL, 0);
+    check_places("build_index: 7 before 11", doorbramble_build_index(list, 21, 0, 0, places, 0), refused(DOORBRAMBLE_PREFIX_LENGTH), NULL,
+                 0);
+    check_places("build_index: 2", doorbramble_build_index(list, 19, 0, 0, places, PLACES), refused(DOORBRAMBLE_TRUNCATED), NULL, 0);
+}
+
+/* how many routes of a list of 800 are not, by its index, the row that reading all of it gives, and the refusal past the last */
+static unsigned wrong_routes(unsigned most, uint8_t ipv6, uint8_t add_path) {
+    static uint8_t list[800 * 21];
+    static uint32_t rows[800 * DOORBRAMBLE_ROW_WORDS];
+    uint32_t row[DOORBRAMBLE_ROW_WORDS];
+    size_t size = list_of(800, most, add_path ? 4 : 0, list), sum = 0;
+    unsigned wrong = doorbramble_rows(doorbramble_parse_nlri_list(list, size, ipv6, add_path, rows, 800 * DOORBRAMBLE_ROW_WORDS)) != 800;
+    unsigned count = doorbramble_places(doorbramble_build_index(list, size, ipv6, add_path, places, PLACES)), n;
+    for (n = 0; n < 800; n++) {
+        uint64_t answer = doorbramble_route_at(list, size, places, count, n, ipv6, add_path, row, DOORBRAMBLE_ROW_WORDS);
+        uint64_t host = doorbramble_hosts(doorbramble_count_nlri_list(list + sum, doorbramble_route_bytes(answer), ipv6, add_path));
+        wrong += doorbramble_refusal(answer) != 0 || memcmp(row, rows + n * DOORBRAMBLE_ROW_WORDS, sizeof row) != 0;
+        wrong += (uint64_t)doorbramble_route_host(answer) != host || (n % 16 == 0 && places[n / 16] != sum);
+        sum += doorbramble_route_bytes(answer);
+    }
+    wrong += doorbramble_route_at(list, size, places, count, 800, ipv6, add_path, row, 6) != refused(DOORBRAMBLE_NO_SUCH_ROUTE);
+    clear();
+    return wrong + (count != 50) + (sum != size);
+}
+
+static void routes_by_index(void) {
+    static const uint8_t list[] = {8, 10, 9, 10, 0xFF}, tagged[] = {0, 0, 0, 7, 8, 10};
+    static const uint32_t ten[] = {8, 0, 0x0A000000, 0, 0, 0}, nine[] = {9, 0, 0x0AFF0000, 0, 0, 0};
+    static const uint32_t seven[] = {8 + DOORBRAMBLE_ROW_HAS_ID, 7, 0x0A000000, 0, 0, 0};
+    static const uint16_t index[] = {0};
+    uint64_t answer = doorbramble_route_at(list, 5, index, 1, 1, 0, 0, one, PLACES);
+
+    expect("the fields of a route", doorbramble_route_bytes(answer) == 3 && doorbramble_route_host(answer));
+    check_store("route_at: the last of two, with host bits", answer, accepted(3, 1, 0), nine, 6);
+    check_store("route_at: the first of two", doorbramble_route_at(list, 5, index, 1, 0, 0, 0, one, 6), accepted(2, 0, 0), ten, 6);
+    check_store("route_at: Add-Path, by any flag", doorbramble_route_at(tagged, 6, index, 1, 0, 0, 200, one, 6), accepted(6, 0, 0), seven,
+                6);
+    expect("route_at: each of 800 of IPv4", wrong_routes(32, 0, 0) == 0);
+    expect("route_at: each of 800 of IPv4 with ids", wrong_routes(32, 0, 1) == 0);
+    expect("route_at: each of 800 of IPv6", wrong_routes(128, 1, 0) == 0);
+    expect("route_at: each of 800 of IPv6 with ids", wrong_routes(128, 1, 1) == 0);
+}
+
+/* a route that is asked of a list of IPv4 without ids, with room for it */
+static uint64_t route(const uint8_t *list, size_t size, const uint16_t *index, size_t count, size_t number) {
+    return doorbramble_route_at(list, size, index, count, number, 0, 0, one, PLACES);
+}
+
+/* 19, and what comes before and after it */
+static void refused_indexes(void) {
+    static const uint8_t list[] = {8, 10, 8, 11, 33};
+    static const uint16_t late[] = {1, 2}, equal[] = {0, 2, 2}, falls[] = {0, 3, 2}, end[] = {0, 4}, past[] = {0, 65535};
+    const uint64_t wrong = refused(DOORBRAMBLE_NOT_AN_INDEX), none = refused(DOORBRAMBLE_NO_SUCH_ROUTE);
+
+    check_answer("route_at: 19, not from 0", route(list, 4, late, 2, 0), wrong);
+    check_answer("route_at: 19, one place that is not 0", route(list, 4, late, 1, 0), wrong);
+    check_answer("route_at: 19, the same place again", route(list, 4, equal, 3, 0), wrong);
+    check_answer("route_at: 19, a lower place", route(list, 4, falls, 3, 0), wrong);
+    check_answer("route_at: 19, a place at the end", route(list, 4, end, 2, 0), wrong);
+    check_answer("route_at: 19, a place past the end", route(list, 4, past, 2, 0), wrong);
+    check_answer("route_at: 19, a place of an empty list", route(NULL, 0, end, 1, 0), wrong);
+    check_answer("route_at: 19 before 20", route(list, 4, late, 1, 1000), wrong);
+    check_answer("route_at: 19 before 7", route(list + 4, 1, late, 1, 0), wrong);
+    check_answer("route_at: 19 before 11", doorbramble_route_at(list, 4, late, 1, 0, 0, 0, NULL, 0), wrong);
+    check_answer("route_at: 20, no places and an empty list", route(NULL, 0, NULL, 0, 0), none);
+    check_answer("route_at: 20, no places", route(list, 4, NULL, 0, 0), none);
+    check_answer("route_at: 20, no place for it", route(list, 4, end, 1, 16), none);
+    check_answer("route_at: 20, the greatest number", route(list, 4, end, 1, SIZE_MAX), none);
+    check_answer("route_at: 20, no place for it, before 7", route(list, 5, end, 1, 16), none);
+}
+
+/* what is refused once the index is good */
+static void refused_routes(void) {
+    static const uint8_t list[] = {8, 10, 8, 11, 33}, cut[] = {8, 10, 24, 11, 12}, tagged[] = {0, 0, 0, 7, 8, 10, 0, 0, 0, 8};
+    static const uint16_t index[] = {0};
+    const uint64_t length = refused(DOORBRAMBLE_PREFIX_LENGTH), truncated = refused(DOORBRAMBLE_TRUNCATED);
+    const uint64_t none = refused(DOORBRAMBLE_NO_SUCH_ROUTE), room = refused(DOORBRAMBLE_NO_ROOM);
+    static const uint32_t eleven[] = {8, 0, 0x0B000000, 0, 0, 0};
+
+    check_store("route_at: what follows the route is not looked at", route(list, 5, index, 1, 1), accepted(2, 0, 0), eleven, 6);
+    check_answer("route_at: 7, the route itself", route(list, 5, index, 1, 2), length);
+    check_answer("route_at: 7, a route before it", route(list, 5, index, 1, 15), length);
+    check_answer("route_at: 2, the route itself", route(cut, 5, index, 1, 1), truncated);
+    check_answer("route_at: 2, a route before it", route(cut, 5, index, 1, 2), truncated);
+    check_answer("route_at: 20, right past the last", route(list, 4, index, 1, 2), none);
+    check_answer("route_at: 20, further past the last", route(list, 4, index, 1, 15), none);
+    check_answer("route_at: 2, an id alone", doorbramble_route_at(tagged, 10, index, 1, 1, 0, 1, one, PLACES), truncated);
+    check_answer("route_at: 20 with ids", doorbramble_route_at(tagged, 6, index, 1, 1, 0, 1, one, PLACES), none);
+    check_answer("route_at: 11", doorbramble_route_at(list, 5, index, 1, 1, 0, 0, one, 5), room);
+    check_answer("route_at: 11, no store", doorbramble_route_at(list, 5, index, 1, 1, 0, 0, NULL, 0), room);
+    check_answer("route_at: 7 before 11", doorbramble_route_at(list, 5, index, 1, 2, 0, 0, NULL, 0), length);
+    check_answer("route_at: 2 before 11", doorbramble_route_at(cut, 5, index, 1, 1, 0, 0, NULL, 0), truncated);
+    check_answer("route_at: 20 before 11", doorbramble_route_at(list, 4, index, 1, 2, 0, 0, NULL, 0), none);
+}
+
+/* an index of other bytes: what is read from the places that it has */
+static void other_indexes(void) {
+    static const uint8_t list[] = {8, 10, 16, 8, 11, 33};
+    static const uint16_t index[] = {0, 3, 4};
+    static const uint32_t eleven[] = {8, 0, 0x0B000000, 0, 0, 0}, ten[] = {8, 0, 0x0A000000, 0, 0, 0};
+
+    check_store("route_at: from a place within an item", route(list, 5, index, 2, 16), accepted(2, 0, 0), eleven, 6);
+    check_store("route_at: from the front, by the same index", route(list, 5, index, 2, 0), accepted(2, 0, 0), ten, 6);
+    check_answer("route_at: 20 after a place within an item", route(list, 5, index, 2, 17), refused(DOORBRAMBLE_NO_SUCH_ROUTE));
+    check_answer("route_at: 2 from a place within an item", route(list, 5, index, 3, 32), refused(DOORBRAMBLE_TRUNCATED));
+    check_answer("route_at: 7 after a place within an item", route(list, 6, index, 2, 17), refused(DOORBRAMBLE_PREFIX_LENGTH));
+}
+
+/* a list of the most items, and one byte more; and the longest items */
+static void index_limits(void) {
+    static uint8_t zeros[65536];
+    static uint16_t most[DOORBRAMBLE_INDEX_PLACES];
+    static const uint16_t wrong[] = {1};
+    static const uint32_t none[6];
+    const uint64_t too_long = refused(DOORBRAMBLE_TOO_LONG), whole = accepted(DOORBRAMBLE_INDEX_PLACES, 0, 0);
+    unsigned differ = 0, i;
+
+    check_answer("count_index: the most places", doorbramble_count_index(zeros, 65535, 0, 0), whole);
+    check_answer("build_index: 11, a place less", doorbramble_build_index(zeros, 65535, 0, 0, most, DOORBRAMBLE_INDEX_PLACES - 1),
+                 refused(DOORBRAMBLE_NO_ROOM));
+    check_answer("build_index: the most places", doorbramble_build_index(zeros, 65535, 0, 0, most, DOORBRAMBLE_INDEX_PLACES), whole);
+    for (i = 0; i < DOORBRAMBLE_INDEX_PLACES; i++)
+        differ += most[i] != DOORBRAMBLE_INDEX_SPACING * i;
+    expect("build_index: each of the most places", differ == 0);
+    check_store("route_at: the last of the most", route(zeros, 65535, most, DOORBRAMBLE_INDEX_PLACES, 65534), accepted(1, 0, 0), none, 6);
+    check_answer("route_at: 20 past the most", route(zeros, 65535, most, DOORBRAMBLE_INDEX_PLACES, 65535),
+                 refused(DOORBRAMBLE_NO_SUCH_ROUTE));
+    check_answer("count_index: 1", doorbramble_count_index(zeros, 65536, 0, 0), too_long);
+    check_answer("build_index: 1 before 11", doorbramble_build_index(zeros, 65536, 0, 0, NULL, 0), too_long);
+    check_answer("route_at: 1 before 19", route(zeros, 65536, wrong, 1, 0), too_long);
+    check_answer("route_at: 1 before 20", route(zeros, 65536, NULL, 0, 0), too_long);
+}
+
 #define GLOBAL 0x20, 0x01, 0x0D, 0xB8, 0, 0, 0, 0, 0, 0, 0, 0, 0, 0, 0, 1
 #define LINK_LOCAL 0xFE, 0x80, 0, 0, 0, 0, 0, 0, 0, 0, 0, 0, 0, 0, 0, 2
 #define ROUTE 64, 0x20, 0x01, 0x0D, 0xB8, 0, 0, 0, 1
@@ -1230,7 +1415,7 @@ static void slots(void) {
 
 static void version(void) {
     uint64_t answer = doorbramble_version();
-    check_answer("version", answer, accepted(2, 0, 0));
+    check_answer("version", answer, accepted(2, 1, 0));
     expect("the version of the header", doorbramble_version_major(answer) == DOORBRAMBLE_VERSION_MAJOR &&
                                             doorbramble_version_minor(answer) == DOORBRAMBLE_VERSION_MINOR);
 }
@@ -1305,6 +1490,12 @@ int main(void) {
     rows();
     marks();
     cleared_stores();
+    indexes();
+    refused_indexes();
+    routes_by_index();
+    refused_routes();
+    other_indexes();
+    index_limits();
     mp_values();
     paths();
     strict_paths();

@@ -61,6 +61,13 @@ static void print_rest(const uint32_t *row) {
     printf("%s\n", has_host_bits(row) ? " host bits" : "");
 }
 
+/* A route of IPv4. */
+static inline void print_ipv4(const uint32_t *row) {
+    uint32_t a = row[2];
+    printf("%u.%u.%u.%u", (unsigned)(a >> 24), (unsigned)(a >> 16 & 0xFF), (unsigned)(a >> 8 & 0xFF), (unsigned)(a & 0xFF));
+    print_rest(row);
+}
+
 /* What a slot keeps. Answers whether all of it could be read. */
 static int print_slot(unsigned long number, const uint8_t *s, size_t size, uint8_t settings, update_printer *print_update) {
     uint64_t found = doorbramble_parse_bgp_message(s, size);
