@@ -27,6 +27,8 @@ enum {
     EMPTY_SEGMENT = 16,
     OTHER_FAMILY = 17,
     BAD_NEXT_HOP = 18,
+    NOT_AN_INDEX = 19,
+    NO_SUCH_ROUTE = 20,
 };
 
 enum { MOST_BYTES = 65535, MOST_BODY = 65516, HEADER = 19, ROW = 6, HAS_ID = 256, GUESSED = 512 };
@@ -323,6 +325,121 @@ uint64_t plain_clear_guessed(uint32_t *store, size_t places) {
     if (places % ROW) return refused(NOT_WRITABLE);
     for (size_t at = 0; at < places; at += ROW) store[at] &= ~(uint32_t)GUESSED;
     return places / ROW;
+}
+
+// ---- An index of a list, and a route by it ----
+
+// The items from one place of an index to the next.
+enum { SPACING = 16 };
+
+// The bytes of the item at `at`, or the refusal.
+INLINE uint64_t item_size(const uint8_t *s, size_t n, size_t at, family of, uint32_t head) {
+    if (n - at <= head) return refused(TOO_SHORT);
+    uint32_t octets = octets_after(s[at + head], of);
+    if (octets == REFUSED_LENGTH) return refused(BAD_PREFIX_LENGTH);
+    size_t size = head + 1 + octets;
+    return size > n - at ? refused(TOO_SHORT) : size;
+}
+
+// The place after so many items from `at` on, or the end where there are fewer; or the refusal. While an item is as long
+// as the one before, the next place waits for no byte of the list.
+INLINE uint64_t pass_items(const uint8_t *s, size_t n, size_t at, size_t left, family of, uint32_t head) {
+    while (left && at < n) {
+        uint64_t size = item_size(s, n, at, of, head);
+        if (refusal_of(size)) return size;
+        do {
+            at += size;
+            left--;
+        } while (left && n - at >= size && octets_after(s[at + head], of) == size - head - 1);
+    }
+    return at;
+}
+
+// How many places the index of a list has, or the refusal.
+INLINE uint64_t count_places(const uint8_t *s, size_t n, family of, uint32_t head) {
+    uint64_t at = 0, places = 0;
+    for (; at < n; places++) {
+        at = pass_items(s, n, at, SPACING, of, head);
+        if (refusal_of(at)) return at;
+    }
+    return places;
+}
+
+// Puts the places of a counted list, whose items are not checked again: all but the last place have so many after them.
+INLINE void fill_places(const uint8_t *s, size_t count, family of, uint32_t head, uint16_t *places) {
+    size_t at = 0;
+    for (size_t i = 0; i < count; i++) {
+        places[i] = (uint16_t)at;
+        if (i + 1 == count) return;
+        for (size_t left = SPACING; left;) {
+            uint32_t octets = octets_after(s[at + head], of);
+            do {
+                at += head + 1 + octets;
+                left--;
+            } while (left && octets_after(s[at + head], of) == octets);
+        }
+    }
+}
+
+// One instance for each family and form.
+static uint64_t places_in_form(const uint8_t *s, size_t n, family of, bool id) {
+    family ipv4 = instance(of, false), ipv6 = instance(of, true);
+    if (of.ipv6) return id ? count_places(s, n, ipv6, 4) : count_places(s, n, ipv6, 0);
+    return id ? count_places(s, n, ipv4, 4) : count_places(s, n, ipv4, 0);
+}
+
+static void fill_places_in_form(const uint8_t *s, size_t count, family of, bool id, uint16_t *places) {
+    family ipv4 = instance(of, false), ipv6 = instance(of, true);
+    if (of.ipv6) return id ? fill_places(s, count, ipv6, 4, places) : fill_places(s, count, ipv6, 0, places);
+    return id ? fill_places(s, count, ipv4, 4, places) : fill_places(s, count, ipv4, 0, places);
+}
+
+uint64_t plain_count_index(const uint8_t *s, size_t n, uint8_t ipv6, uint8_t add_path) {
+    if (n > MOST_BYTES) return refused(OVER_LONG);
+    FAMILY(of, ipv6);
+    return places_in_form(s, n, of, add_path);
+}
+
+uint64_t plain_build_index(const uint8_t *s, size_t n, uint8_t ipv6, uint8_t add_path, uint16_t *places, size_t room) {
+    if (n > MOST_BYTES) return refused(OVER_LONG);
+    FAMILY(of, ipv6);
+    uint64_t counted = places_in_form(s, n, of, add_path);
+    if (refusal_of(counted)) return counted;
+    if (counted > room) return refused(NO_ROOM);
+    fill_places_in_form(s, counted, of, add_path, places);
+    return counted;
+}
+
+// Whether places are strictly rising from 0 and lie before the end. None decides where to go on, so that many are
+// compared at once.
+INLINE bool is_index(const uint16_t *index, size_t count, size_t end) {
+    if (!count) return true;
+    uint16_t falls = index[0];
+    for (size_t i = 1; i < count; i++) falls |= index[i - 1] >= index[i];
+    return !falls && index[count - 1] < end;
+}
+
+// The route that comes so many items after `at`.
+INLINE uint64_t route_from(const uint8_t *s, size_t n, size_t at, size_t items, family of, bool id, uint32_t *row,
+                           size_t room) {
+    uint64_t start = pass_items(s, n, at, items, of, head_of(id));
+    if (refusal_of(start)) return start;
+    if (start == n) return refused(NO_SUCH_ROUTE);
+    uint64_t size = item_size(s, n, start, of, head_of(id));
+    if (refusal_of(size)) return size;
+    if (room < ROW) return refused(NO_ROOM);
+    fill_item(s, start, of, id ? HAS_ID : 0, n - start < longest(of.ipv6, id), row);
+    const uint8_t *octets = s + start + head_of(id) + 1;
+    return answer(size, has_host(octets, size - head_of(id) - 1, octets[-1]), 0);
+}
+
+uint64_t plain_route_at(const uint8_t *s, size_t n, const uint16_t *index, size_t count, size_t number, uint8_t ipv6,
+                        uint8_t add_path, uint32_t *row, size_t room) {
+    if (n > MOST_BYTES) return refused(OVER_LONG);
+    if (!is_index(index, count, n)) return refused(NOT_AN_INDEX);
+    if (number / SPACING >= count) return refused(NO_SUCH_ROUTE);
+    FAMILY(of, ipv6);
+    return route_from(s, n, index[number / SPACING], number % SPACING, instance(of, ipv6), add_path, row, room);
 }
 
 // ---- MP_REACH_NLRI and MP_UNREACH_NLRI of IPv6 unicast ----

@@ -17,7 +17,7 @@ pub fn fields(word: u64) -> [u64; 4] {
 
 /// Whether the C boundary has a call for this op.
 pub fn has_call(op: u8) -> bool {
-    matches!(op, 2 | 3 | 6..=28)
+    matches!(op, 2 | 3 | 6..=30)
 }
 
 pub fn four_bytes(request: &Request) -> u8 {
@@ -55,6 +55,8 @@ pub fn answer<L: Library>(request: &Request) -> Answer {
         21 => merged::<L>(request, &mut lent),
         22..=25 => mp_value::<L>(request, &mut lent),
         28 => cleared::<L>(&mut lent),
+        29 => indexed::<L>(request, store(&mut lent[0])),
+        30 => route::<L>(request),
         _ => read::<L>(request, &mut lent),
     };
     let refusal = fields(word)[3] as u32;
@@ -226,6 +228,33 @@ fn mp_value<L: Library>(request: &Request, lent: &mut [Lent]) -> (u64, Vec<u64>)
 fn cleared<L: Library>(lent: &mut [Lent]) -> (u64, Vec<u64>) {
     let word = L::clear_guessed(store(&mut lent[0]));
     (word, vec![word & 0xFFFF_FFFF_FFFF])
+}
+
+/// Counting is held to the same request: it answers alike but for the room. The store's numbers are places here.
+fn indexed<L: Library>(request: &Request, store: &mut [u32]) -> (u64, Vec<u64>) {
+    let (s, v6, with_id) = (request.parts[0].as_slice(), ipv6(request), add_path(request));
+    let mut places: Vec<u16> = store.iter().map(|place| *place as u16).collect();
+    let counted = L::count_index(s, v6, with_id);
+    let word = L::build_index(s, v6, with_id, &mut places);
+    store.iter_mut().zip(places).for_each(|(number, place)| *number = u32::from(place));
+    let [count, _, _, refusal] = fields(counted);
+    let wanted = if refusal != 0 || count as usize <= request.room_a { counted } else { NO_ROOM << 48 };
+    assert_eq!(word, wanted, "an index is built as it is counted");
+    (word, vec![count])
+}
+
+/// The number of the route that is asked for.
+pub fn number(request: &Request) -> usize {
+    request.numbers(2)[0] as usize
+}
+
+/// The row is lent here: a request has no store for it.
+fn route<L: Library>(request: &Request) -> (u64, Vec<u64>) {
+    let (list, index) = (request.parts[0].as_slice(), request.places(1));
+    let mut row = [0; 6];
+    let word = L::route_at(list, &index, number(request), ipv6(request), add_path(request), &mut row);
+    let [bytes, host, ..] = fields(word);
+    (word, [vec![bytes], row.map(u64::from).to_vec(), vec![host]].concat())
 }
 
 fn written<L: Library>(request: &Request, lent: &mut [Lent]) -> (u64, Vec<u64>) {

@@ -17,6 +17,13 @@ const SMALL_LISTS: usize = 256;
 /// Paths of 64 KB in a batch, for the same reason: the counts of their segments are guessed by a processor.
 const LARGE_PATHS: usize = 4;
 
+/// Lists of 64 KB in a batch of which each is asked for one route, for the same reason.
+const ASKED_LISTS: usize = 64;
+
+/// What building an index, and asking for the last route, may take of counting the same list, of /24s and 64 KB.
+const BUILD_OF_COUNT: f64 = 1.15;
+const ASK_OF_COUNT: f64 = 0.03;
+
 /// Calls in a batch of those that take a few nanoseconds, so that reading the clock does not count.
 const TINY_CALLS: usize = 2_048;
 
@@ -64,11 +71,20 @@ pub struct Growth {
     pub small: Calls,
 }
 
+/// What calls on some lists may take of others on the same lists.
+pub struct Share {
+    pub name: String,
+    pub part: Calls,
+    pub whole: Calls,
+    pub most: f64,
+}
+
 pub struct Cases<'a> {
     wanted: &'a [&'a str],
     captures: &'a [Capture],
     pub cases: Vec<Case>,
     pub growths: Vec<Growth>,
+    pub shares: Vec<Share>,
 }
 
 /// Compares the answers of all sides to a request; a difference is trouble, and ends the run. The crate is asked by a request of
@@ -110,12 +126,15 @@ fn compare_timed(name: &str, asked: &Request) -> io::Result<bool> {
 
 impl<'a> Cases<'a> {
     pub fn new(wanted: &'a [&'a str], captures: &'a [Capture]) -> io::Result<Cases<'a>> {
-        let mut made = Cases { wanted, captures, cases: vec![], growths: vec![] };
+        let mut made = Cases { wanted, captures, cases: vec![], growths: vec![], shares: vec![] };
         made.lists()?;
         made.ten()?;
         made.host_lists()?;
         made.captured_lists()?;
         made.marks()?;
+        made.indexes()?;
+        made.asked_routes()?;
+        made.index_shares()?;
         made.mp_values("MP_REACH_NLRI", 22)?;
         made.mp_values("MP_UNREACH_NLRI", 24)?;
         made.updates()?;
@@ -131,7 +150,7 @@ impl<'a> Cases<'a> {
     }
 
     pub fn count(&self) -> usize {
-        self.cases.len() + self.growths.len()
+        self.cases.len() + self.growths.len() + self.shares.len()
     }
 
     fn wants(&self, name: &str) -> bool {
@@ -174,6 +193,18 @@ impl<'a> Cases<'a> {
             }
             let [large, small] = [large, small].map(|requests| Calls::new(requests, Lending::Apart));
             self.growths.push(Growth { name, large, small });
+        }
+        Ok(())
+    }
+
+    fn add_share(&mut self, name: &str, part: &[Request], whole: &[Request], most: f64) -> io::Result<()> {
+        let name = format!("share: {name}");
+        if self.wants(&name) {
+            for asked in part.iter().chain(whole) {
+                compare_timed(&name, asked)?;
+            }
+            let part = Calls::new(part, Lending::Same).in_turns(turns(Kind::WithoutCrate, part));
+            self.shares.push(Share { name, part, whole: Calls::new(whole, Lending::Same), most });
         }
         Ok(())
     }
@@ -267,6 +298,57 @@ impl<'a> Cases<'a> {
         self.add("clear marks: guess, /24s with ids, 64 KB", Kind::WithoutCrate, &large)?;
         let ten: Vec<Request> = ten_lists(&mut rng, Lengths::All24, true).iter().map(|list| clearing(list)).collect();
         self.add("clear marks: guess, ten /24s with ids", Kind::WithoutCrate, &ten)
+    }
+
+    /// The index of a list, for which the crate has no call.
+    fn indexes(&mut self) -> io::Result<()> {
+        let kinds: [ListKind; 5] = [
+            ("/24s", Lengths::All24, false, 0),
+            ("mixed lengths", Lengths::Table4, false, 0),
+            ("lengths 1 to 32 alike", Lengths::Alike4, false, 0),
+            ("IPv6", Lengths::Table6, false, 0),
+            ("Add-Path /24s", Lengths::All24, true, ADD_PATH),
+        ];
+        for (seed, (what, lengths, with_id, list_settings)) in kinds.into_iter().enumerate() {
+            let mut rng = Rng::new(800 + seed as u64);
+            let settings = inputs::settings(lengths, list_settings);
+            let tenths: Vec<Vec<u8>> = (0..10).map(|_| lengths.tenth(&mut rng, with_id)).collect();
+            let [large, small] = both_sizes(&tenths, |list| inputs::indexing(list, settings));
+            self.add(&format!("build index: {what}, 64 KB"), Kind::WithoutCrate, &large)?;
+            if seed == 0 {
+                self.add(&format!("build index: {what}, 6.4 KB"), Kind::WithoutCrate, &small)?;
+            }
+        }
+        let ten = ten_lists(&mut Rng::new(810), Lengths::All24, false);
+        let built: Vec<Request> = ten.iter().map(|list| inputs::indexing(list, 0)).collect();
+        self.add("build index: ten /24s", Kind::WithoutCrate, &built)
+    }
+
+    /// A route by the index of its list: the last one of long lists, and any of short ones.
+    fn asked_routes(&mut self) -> io::Result<()> {
+        for (seed, what, lengths) in [(820, "/24s", Lengths::All24), (821, "mixed lengths", Lengths::Table4)] {
+            let name = format!("route by index: the last of {what}, 64 KB");
+            if self.wants(&name) {
+                let mut rng = Rng::new(seed);
+                let lists = (0..ASKED_LISTS).map(|_| lengths.whole(&mut rng));
+                let asked: Vec<Request> = lists.map(|list| inputs::asking_last(&list, 0)).collect();
+                self.add(&name, Kind::WithoutCrate, &asked)?;
+            }
+        }
+        let mut rng = Rng::new(830);
+        let ten = ten_lists(&mut rng, Lengths::All24, false);
+        let asked: Vec<Request> =
+            ten.iter().map(|list| inputs::asking(&inputs::indexing(list, 0), rng.under(10))).collect();
+        self.add("route by index: one of ten /24s", Kind::WithoutCrate, &asked)
+    }
+
+    /// Building an index and asking for the last route, against counting the same lists.
+    fn index_shares(&mut self) -> io::Result<()> {
+        let list = Lengths::All24.whole(&mut Rng::new(840));
+        let count = [on_bytes(3, 0, (0, 0), &list)];
+        let (build, ask) = (inputs::indexing(&list, 0), inputs::asking_last(&list, 0));
+        self.add_share("build index of counting: /24s, 64 KB", &[build], &count, BUILD_OF_COUNT)?;
+        self.add_share("last route by index of counting: /24s, 64 KB", &[ask], &count, ASK_OF_COUNT)
     }
 
     /// The values of an attribute, captured ones and some of the greatest size.
@@ -433,16 +515,17 @@ fn crate_must_answer(kind: Kind, asked: &Request) -> bool {
 /// Requests of tiny calls again and again.
 fn often_enough(requests: &[Request]) -> Vec<Request> {
     let bytes: usize = requests.iter().flat_map(|asked| &asked.parts).map(Vec::len).sum();
-    let tiny_op = matches!(requests[0].op, 7..=9 | 15 | 16 | 18..=27 | inputs::COUNT_MERGED);
+    let tiny_op = matches!(requests[0].op, 7..=9 | 15 | 16 | 18..=27 | 30 | inputs::COUNT_MERGED);
     let is_tiny = tiny_op && bytes / requests.len() < 1_000;
     let times = if is_tiny { TINY_CALLS.div_ceil(requests.len()) } else { 1 };
     requests.iter().cycle().take(times * requests.len()).cloned().collect()
 }
 
-/// How often a batch goes through its calls. A header's call is tiny however long the message is, and long ones are not copied.
+/// How often a batch goes through its calls. A header's call is tiny however long the message is, and so is one for a route by
+/// an index; long ones are not copied.
 fn turns(kind: Kind, requests: &[Request]) -> usize {
     match (requests[0].op, kind) {
-        (9, Kind::WithoutCrate) => TINY_CALLS.div_ceil(requests.len()),
+        (9 | 30, Kind::WithoutCrate) => TINY_CALLS.div_ceil(requests.len()),
         _ => 1,
     }
 }

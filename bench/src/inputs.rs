@@ -26,6 +26,9 @@ const MOST_BYTES: usize = 65_535;
 const MOST_PAIRS: usize = 2 * 65_534;
 const MOST_NUMBERS: usize = 48_990;
 
+/// The most places of an index.
+const MOST_PLACES: usize = 4_096;
+
 /// How the lengths of a list's prefixes are chosen.
 #[derive(Clone, Copy)]
 pub enum Lengths {
@@ -114,6 +117,11 @@ impl Lengths {
     /// A tenth of the greatest list.
     pub fn tenth(self, rng: &mut Rng, with_id: bool) -> Vec<u8> {
         self.list(rng, with_id, TENTH)
+    }
+
+    /// The greatest list, without ids.
+    pub fn whole(self, rng: &mut Rng) -> Vec<u8> {
+        self.list(rng, false, MOST_BYTES)
     }
 
     /// As many items as so many bytes have room for.
@@ -357,6 +365,27 @@ pub fn long_messages() -> Vec<Request> {
 pub fn clearing(read: &Request) -> Request {
     let rows = stored(read).remove(0);
     on_bytes(28, 0, (rows.len() / 4, 0), &rows)
+}
+
+/// A request to build the index of a list, with room for its places and no more.
+pub fn indexing(list: &[u8], settings: u8) -> Request {
+    let built = model::answer(&on_bytes(29, settings, (MOST_PLACES, 0), list));
+    assert_eq!(built.refusal, 0, "a made list is good");
+    on_bytes(29, settings, (built.numbers[0] as usize, 0), list)
+}
+
+/// A request for the route of a number, by the index that this one builds.
+pub fn asking(building: &Request, number: usize) -> Request {
+    let Lent::Numbers(places) = model::answer(building).lent.remove(0) else { panic!("an index is of numbers") };
+    let index = places.iter().flat_map(|place| (*place as u16).to_be_bytes()).collect();
+    let parts = [building.parts[0].clone(), index, words(&[number as u32])];
+    request(30, building.settings, (6, 0), parts, 0)
+}
+
+/// A request for the last route of a list, by its index.
+pub fn asking_last(list: &[u8], settings: u8) -> Request {
+    let rows = model::answer(&on_bytes(3, settings, (0, 0), list)).numbers[0];
+    asking(&indexing(list, settings), rows as usize - 1)
 }
 
 /// The same request by the strict rule.

@@ -31,8 +31,10 @@ macro_rules! libraries {
 
 type Bytes = *const u8;
 type Words = *const u32;
+type Index = *const u16;
 type Output = *mut u8;
 type Store = *mut u32;
+type Places = *mut u16;
 
 libraries! {
     fn parse_bgp_message(s: &[u8]) passes (s.as_ptr() => Bytes, s.len() => usize);
@@ -66,6 +68,17 @@ libraries! {
     fn parse_nlri_list(s: &[u8], ipv6: u8, settings: u8, store: &mut [u32]) passes (
         s.as_ptr() => Bytes, s.len() => usize, ipv6 => u8, settings => u8,
         store.as_mut_ptr() => Store, store.len() => usize
+    );
+    fn count_index(s: &[u8], ipv6: u8, add_path: u8) passes (
+        s.as_ptr() => Bytes, s.len() => usize, ipv6 => u8, add_path => u8
+    );
+    fn build_index(s: &[u8], ipv6: u8, add_path: u8, places: &mut [u16]) passes (
+        s.as_ptr() => Bytes, s.len() => usize, ipv6 => u8, add_path => u8,
+        places.as_mut_ptr() => Places, places.len() => usize
+    );
+    fn route_at(s: &[u8], index: &[u16], n: usize, ipv6: u8, add_path: u8, row: &mut [u32]) passes (
+        s.as_ptr() => Bytes, s.len() => usize, index.as_ptr() => Index, index.len() => usize, n => usize,
+        ipv6 => u8, add_path => u8, row.as_mut_ptr() => Store, row.len() => usize
     );
     fn clear_guessed(store: &mut [u32]) passes (store.as_mut_ptr() => Store, store.len() => usize);
     fn count_mp_reach_nlri(value: &[u8], settings: u8) passes (

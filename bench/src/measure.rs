@@ -34,6 +34,13 @@ pub struct Spread {
     pub high: f64,
 }
 
+impl Spread {
+    /// All of it so many times.
+    pub fn times(self, factor: f64) -> Spread {
+        Spread { low: self.low * factor, median: self.median * factor, high: self.high * factor }
+    }
+}
+
 fn spread(mut values: Vec<f64>) -> Spread {
     values.sort_by(f64::total_cmp);
     let at = |quarter: usize| values[(values.len() - 1) * quarter / 4];

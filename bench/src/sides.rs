@@ -2,7 +2,7 @@
 //! Not timed: making the requests, and the handles (`Bytes`) that the crate's readers take and drop. Timed: the calls,
 //! and giving back what the crate's calls hand out.
 
-use crate::answers::{add_path, aggregators, edition, fields, four_bytes, ipv6, list_settings};
+use crate::answers::{add_path, aggregators, edition, fields, four_bytes, ipv6, list_settings, number};
 use crate::inputs::{COUNT_HOSTS, COUNT_MERGED};
 use crate::library::Library;
 use crate::measure::{timed, Side};
@@ -31,6 +31,8 @@ pub struct Call {
     four_bytes: u8,
     edition: u8,
     aggregators: [Vec<u8>; 2],
+    index: Vec<u16>,
+    number: usize,
     first: Range<usize>,
     second: Range<usize>,
 }
@@ -45,6 +47,8 @@ impl Call {
             four_bytes: four_bytes(request),
             edition: edition(request),
             aggregators: if merges(request.op) { aggregators(request).map(<[u8]>::to_vec) } else { Default::default() },
+            index: if request.op == 30 { request.places(1) } else { vec![] },
+            number: if request.op == 30 { number(request) } else { 0 },
             first: first..first + request.room_a,
             second: second..second + request.room_b,
             request: request.clone(),
@@ -65,6 +69,7 @@ struct Stores {
     first: Vec<u32>,
     second: Vec<u32>,
     output: Vec<u8>,
+    places: Vec<u16>,
 }
 
 impl Stores {
@@ -74,6 +79,10 @@ impl Stores {
 
     fn output(&mut self, call: &Call) -> &mut [u8] {
         &mut self.output[call.first.clone()]
+    }
+
+    fn places(&mut self, call: &Call) -> &mut [u16] {
+        &mut self.places[call.first.clone()]
     }
 }
 
@@ -105,7 +114,8 @@ impl Calls {
         }
         let end = |range: fn(&Call) -> usize| calls.iter().map(range).max().expect("a call");
         let (first, second) = (end(|call| call.first.end), end(|call| call.second.end));
-        let stores = Stores { first: vec![1; first], second: vec![1; second], output: vec![1; first] };
+        let (output, places) = (vec![1; first], vec![1; first]);
+        let stores = Stores { first: vec![1; first], second: vec![1; second], output, places };
         Calls { calls: Rc::new(calls), stores: Rc::new(RefCell::new(stores)), turns: 1 }
     }
 
@@ -149,6 +159,7 @@ impl Calls {
             20 | 21 | COUNT_MERGED => self.side_by_side::<L>(),
             22..=25 => self.mp_values::<L>(),
             28 => self.clearing::<L>(),
+            29 | 30 => self.indexes::<L>(),
             _ => self.writers::<L>(),
         }
     }
@@ -227,6 +238,17 @@ impl Calls {
             23 => self.batch(|call, _| L::count_mp_reach_nlri(call.s(), call.settings)),
             24 => self.batch(|call, to| L::parse_mp_unreach_nlri(call.s(), call.settings, to.two(call).0)),
             _ => self.batch(|call, _| L::count_mp_unreach_nlri(call.s(), call.settings)),
+        }
+    }
+
+    /// Indexes built, and routes by them.
+    fn indexes<L: Library>(&self) -> Side {
+        if self.op() == 29 {
+            self.batch(|call, to| L::build_index(call.s(), call.ipv6, call.add_path, to.places(call)))
+        } else {
+            self.batch(|call, to| {
+                L::route_at(call.s(), &call.index, call.number, call.ipv6, call.add_path, to.two(call).0)
+            })
         }
     }
 

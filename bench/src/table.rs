@@ -1,6 +1,6 @@
 //! Measures the cases and prints a line for each.
 
-use crate::cases::{Case, Cases, Growth, Kind};
+use crate::cases::{Case, Cases, Growth, Kind, Share};
 use crate::library::{Ours, Plain};
 use crate::measure::{alternate, Effort, Spread};
 use compare::progress::Progress;
@@ -41,6 +41,13 @@ pub fn measure(made: Cases, effort: Effort, out: &mut impl Write) -> io::Result<
     }
     for growth in made.growths {
         tell(growth_line(growth, effort, out)?);
+    }
+    if !made.shares.is_empty() {
+        writeln!(out, "\n| a call to counting the same list | ours | C | ours at most | |")?;
+        writeln!(out, "|---|--:|--:|--:|---|")?;
+    }
+    for share in made.shares {
+        tell(share_line(share, effort, out)?);
     }
     writeln!(out, "\n{over} of {count} over")?;
     Ok(over == 0)
@@ -95,11 +102,7 @@ fn growth_line(growth: Growth, effort: Effort, out: &mut impl Write) -> io::Resu
         [large.library::<Ours>(), small.library::<Ours>(), large.library::<Plain>(), small.library::<Plain>()];
     let times = alternate(&mut sides, effort);
     let tenths = small.count() as f64 / large.count() as f64;
-    let grown = |large, small| {
-        let ratio = times.ratio(large, small);
-        Spread { low: ratio.low * tenths, median: ratio.median * tenths, high: ratio.high * tenths }
-    };
-    let (ours, plain) = (grown(0, 1), grown(2, 3));
+    let (ours, plain) = (times.ratio(0, 1).times(tenths), times.ratio(2, 3).times(tenths));
     let good = TENFOLD.contains(&ours.median);
     writeln!(
         out,
@@ -110,5 +113,18 @@ fn growth_line(growth: Growth, effort: Effort, out: &mut impl Write) -> io::Resu
         TENFOLD.end(),
         verdict(good)
     )?;
+    Ok(good)
+}
+
+/// Measures what share of one call's time another takes, and prints its line; whether it is no more than it may be.
+fn share_line(share: Share, effort: Effort, out: &mut impl Write) -> io::Result<bool> {
+    let Share { name, part, whole, most } = share;
+    let mut sides =
+        [part.library::<Ours>(), whole.library::<Ours>(), part.library::<Plain>(), whole.library::<Plain>()];
+    let times = alternate(&mut sides, effort);
+    let a_call = whole.count() as f64 / part.count() as f64;
+    let (ours, plain) = (times.ratio(0, 1).times(a_call), times.ratio(2, 3).times(a_call));
+    let good = ours.median <= most;
+    writeln!(out, "| {name} | {} | {} | {most:.2} | {} |", shown(ours), shown(plain), verdict(good))?;
     Ok(good)
 }
