@@ -913,7 +913,7 @@ settings =
     ∷ line keptLimit 65535
     ∷ line bodyRows 65512
     -- the version of the calls for C
-    ∷ line (wordOf versionFields) 2
+    ∷ line (wordOf versionFields) 0x10002
     -- an attribute: where its value starts, its length, its type and its flags
     ∷ line (wordOf (attributeFields (A.Attribute 0x50 2 8 3 11))) 0x500200030008
     ∷ line (wordOf (attributeFields A.Absent)) 0

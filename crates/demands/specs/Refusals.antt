@@ -4,7 +4,7 @@
 use Prim.Native.Nat.{ℕ, _+_, _*_, _/_, _%_, _≤_, _<_}
 use mathlib.Core.Path.{_≡_, refl, sym, ap, subst, _∙_}
 use mathlib.Core.List.{List, [], _∷_}
-use mathlib.Core.Bool.{false}
+use mathlib.Core.Bool.{Bool, false}
 use native.Mathlib.Decide.{decLe}
 use native.Mathlib.Omega.{arith}
 use denote.Ref.{now}
@@ -34,6 +34,9 @@ use Rattle.routes.specs.declared.Row.{Row}
 use Rattle.routes.specs.declared.ListAnswer.{ListAnswer}
 use Rattle.routes.specs.declared.ListAnswer.the-variants as L
 use Rattle.routes.specs.declared.RoutesAnswer.{RoutesAnswer}
+use Rattle.routes.specs.declared.PrefixAnswer.{PrefixAnswer}
+use Rattle.routes.specs.declared.PrefixAnswer.the-variants as Q
+use Rattle.routes.specs.declared.RouteAnswer.{RouteAnswer}
 use Rattle.routes.proofs.ListLaws.{Fair, fair, counted-places, read-places, store-by, told-list}
 use Rattle.route_reader.specs.Pair.{firstMeaning, secondMeaning, readPair, readPairFirst, readPairSecond}
 use Rattle.route_reader.specs.declared.PairAnswer.{PairAnswer}
@@ -47,7 +50,7 @@ use Rattle.route_marks.specs.Marks.{cleared}
 use Rattle.route_marks.specs.Promises.{clearAnswer, clearAfter}
 use Rattle.route_marks.proofs.ClearLaws.{cleared-length, clear-whole, clear-part}
 use Rattle.route_marks.proofs.clear_guessed.Reads as clear_guessed
-use Rattle.route_index.specs.Index.{indexBy}
+use Rattle.route_index.specs.Index.{indexBy, routeBy}
 use Rattle.route_index.specs.Promises.{indexMeaning, buildIndex, indexAfter}
 use Rattle.route_index.specs.declared.IndexAnswer.{IndexAnswer}
 use Rattle.route_index.specs.declared.IndexAnswer.the-variants as X
@@ -109,12 +112,14 @@ use Rattle.updates.proofs.parse_bgp_update_message.Reads as parse_bgp_update_me
 use Rattle.update_writer.specs.Body.{bodyBytes, bodyAnswer}
 use Rattle.update_writer.proofs.RoundTrip as Bodies
 use Rattle.update_writer.proofs.encode_bgp_update_message.Reads as encode_bgp_update_message
-use Rattle.words.specs.Settings.{asnLengthOf}
+use Rattle.words.specs.Settings.{familyOf, formOf, asnLengthOf}
 use Rattle.words.specs.Word.{inFields, wordOf}
-use Rattle.firmware.specs.Fields.{updateFields, reachFields, clearedFields, aggregatorSize, aggregatorStored, aggregatorWords}
+use Rattle.firmware.specs.Fields.{updateFields, reachFields, clearedFields, rowWords, prefixStored, prefixWords, aggregatorSize, aggregatorStored, aggregatorWords}
 use Rattle.firmware.proofs.list.doorbramble_parse_nlri_list.Reads as c_parse_nlri_list
 use Rattle.firmware.proofs.list.doorbramble_encode_nlri_prefixes.Reads as c_encode_nlri_prefixes
 use Rattle.firmware.proofs.list.doorbramble_clear_guessed.Reads as c_clear_guessed
+use Rattle.firmware.proofs.index.doorbramble_build_index.Reads as c_build_index
+use Rattle.firmware.proofs.index.doorbramble_route_at.Reads as c_route_at
 use Rattle.firmware.proofs.mp.doorbramble_parse_mp_reach_nlri.Reads as c_parse_mp_reach_nlri
 use Rattle.firmware.proofs.mp.doorbramble_parse_mp_unreach_nlri.Reads as c_parse_mp_unreach_nlri
 use Rattle.firmware.proofs.mp.doorbramble_encode_mp_reach_nlri.Reads as c_encode_mp_reach_nlri
@@ -608,6 +613,32 @@ module _ (κs : _) (lent : _) (word : _) (exit : _) where
 module _ (κs : _) (lent : _) (word : _) (exit : _) where
   pub c-encode-mp-unreach-nlri-kept : c_encode_mp_unreach_nlri.Learnt κs lent word exit → WordKept word (valueIn 0) (now (lent .1 .1 .0)) (now (exit .1 .1 .0))
   c-encode-mp-unreach-nlri-kept call = word-kept word _ (valueIn 0) _ _ (call .0) (unreach-written _ _ _ _ _ refl (call .1))
+
+-- an index, and the row of a route found by one: six places
+module _ (κs : _) (lent : _) (word : _) (exit : _) where
+  pub c-build-index-kept : c_build_index.Learnt κs lent word exit → WordKept word (valueIn 0) (now (lent .1 .1 .1 .0)) (now (exit .1 .1 .1 .0))
+  c-build-index-kept call =
+      let read : Reader = upTo (maxOf (familyOf (lent .1 .0))) in
+      word-kept word _ (valueIn 0) _ _ (call .0) (index-kept read (now (lent .0)) (formOf (lent .1 .1 .0)) (now (lent .1 .1 .1 .0)) _ _ (fair (maxOf (familyOf (lent .1 .0)))) refl (call .1))
+
+-- the places of a row
+abbrev pub rowPlaces : Answer → ℕ
+rowPlaces (given values) = rowWords
+rowPlaces (refusal n) = 0
+
+route-stored : (a : PrefixAnswer) (host : Bool) (before after : List ℕ) → after ≡ filled (prefixStored a host (length before)) (prefixWords a) before
+    → Kept (prefixStored a host (length before)) (rowPlaces (prefixStored a host (length before))) before after
+route-stored a host before after e = kept (prefixStored a host (length before)) rowPlaces (prefixWords a) before after (λ n. refl) (by a) e
+  where
+    by : (x : PrefixAnswer) (fields : List ℕ) → prefixStored x host (length before) ≡ given fields → length (prefixWords x) ≡ rowPlaces (prefixStored x host (length before))
+    by (Q.Prefix used row) fields f = sym (ap rowPlaces f)
+    by (Q.Refused n) fields f = let z : _≡_ {A = ℕ} 0 1 = cc in absurd (omega arith)
+
+module _ (κs : _) (lent : _) (word : _) (exit : _) where
+  pub c-route-at-kept : c_route_at.Learnt κs lent word exit → WordKept word rowPlaces (now (lent .1 .1 .1 .1 .1 .0)) (now (exit .1 .1 .1 .1 .1 .0))
+  c-route-at-kept call =
+      let a : RouteAnswer = routeBy (upTo (maxOf (familyOf (lent .1 .1 .1 .0)))) (formOf (lent .1 .1 .1 .1 .0)) (now (lent .0)) (now (lent .1 .0)) (lent .1 .1 .0) in
+      word-kept word _ rowPlaces _ _ (call .0) (route-stored (a .prefix) (a .host) (now (lent .1 .1 .1 .1 .1 .0)) _ (call .1))
 
 -- so is that of taking marks off, with its rows in 48 bits
 module _ (κs : _) (lent : _) (word : _) (exit : _) (call : c_clear_guessed.Learnt κs lent word exit) where
