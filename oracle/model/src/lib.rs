@@ -4,6 +4,7 @@
 mod as4;
 mod attributes;
 mod headers;
+mod index;
 mod mp_nlri;
 mod paths;
 mod routes;
@@ -84,6 +85,8 @@ fn call(request: &Request) -> Done {
         26 => written(request, mp_nlri::write_reach(bytes, &request.numbers(1), request.has(ADD_PATH))?, true),
         27 => written(request, mp_nlri::write_unreach(&request.numbers(0), request.has(ADD_PATH))?, true),
         28 => cleared(request),
+        29 => built_index(request),
+        30 => route_by_index(request),
         _ => unreachable!("records gives the ops up to LAST_OP"),
     }
 }
@@ -130,10 +133,15 @@ fn edition(request: &Request) -> headers::Edition {
 
 fn one_route(request: &Request, bytes: &[u8]) -> Done {
     let (used, row) = routes::item(bytes, request.has(ADD_PATH), family(request))?;
+    Ok((route_numbers(used, row), vec![]))
+}
+
+/// How many bytes an item used, its row, and 1 where it has a host bit.
+fn route_numbers(used: usize, row: routes::ReadRow) -> Vec<u64> {
     let mut numbers = vec![used as u64];
     numbers.extend(row.words.map(u64::from));
     numbers.push(u64::from(row.has_host_bit));
-    Ok((numbers, vec![]))
+    numbers
 }
 
 /// How many rows, and how many of them have a host bit.
@@ -276,6 +284,28 @@ fn announcement(request: &Request, value: &[u8]) -> Done {
 fn cleared(request: &Request) -> Done {
     let words = routes::without_marks(&request.numbers(0))?;
     Ok((vec![words.len() as u64 / 6], vec![Lent::Numbers(words)]))
+}
+
+/// Part 1 as a list that an index is of; the guess is off whatever the settings say.
+fn indexed_list(request: &Request) -> index::List<'_> {
+    index::List { bytes: &request.parts[0], with_id: request.has(ADD_PATH), family: family(request) }
+}
+
+/// The index of a list into the store.
+fn built_index(request: &Request) -> Done {
+    let places = index::build(indexed_list(request))?;
+    if request.room_a < places.len() {
+        return Err(11);
+    }
+    let mut lent = lent_of(request);
+    lent[0].put_numbers(&places);
+    Ok((vec![places.len() as u64], lent))
+}
+
+/// The route of a number, by the index that part 2 is.
+fn route_by_index(request: &Request) -> Done {
+    let (used, row) = index::route(indexed_list(request), &request.places(1), request.numbers(2)[0])?;
+    Ok((route_numbers(used, row), vec![]))
 }
 
 /// An UPDATE body into the output; its limits are its own.

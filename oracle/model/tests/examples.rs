@@ -252,6 +252,137 @@ fn marks_taken_off() {
     }
 }
 
+/// Refusal and places of the index of a list, with room for seven.
+fn index_of(settings: u8, list: &[u8]) -> (u32, Vec<u16>) {
+    let asked = Request { op: 29, settings, room_a: 7, parts: [list.to_vec(), vec![], vec![]], ..Request::default() };
+    let answer = model::answer(&asked);
+    let [records::Lent::Numbers(places)] = &answer.lent[..] else { panic!("a store of places") };
+    let count = answer.numbers[0] as usize;
+    assert!((count..7).all(|at| places[at] == at as u32), "the other places are as they were");
+    (answer.refusal, places[..count].iter().map(|place| *place as u16).collect())
+}
+
+/// What the route of a number comes to, by an index.
+fn asked(settings: u8, list: &[u8], index: &[u16], number: u32) -> String {
+    let index = index.iter().flat_map(|place| place.to_be_bytes()).collect();
+    told_of(Request { op: 30, settings, parts: [list.to_vec(), index, words(&[number])], ..Request::default() })
+}
+
+/// What a question is refused with.
+fn asked_refusal(settings: u8, list: &[u8], index: &[u16], number: u32) -> u32 {
+    let line = asked(settings, list, index, number);
+    let (refusal, numbers) = line.split_once(' ').expect("numbers");
+    assert!(refusal == "0" || numbers == "0 0 0 0 0 0 0 0");
+    refusal.parse().expect("a refusal")
+}
+
+/// This many items without ids, whose lengths change: the first has 1, the second 2 bytes, and so on up to 5.
+fn items(count: usize) -> Vec<u8> {
+    (0..count).flat_map(|at| [vec![8 * (at % 5) as u8], vec![at as u8 + 1; at % 5]].concat()).collect()
+}
+
+#[test]
+fn indexes() {
+    assert_eq!(index_of(0, &[]), (0, vec![]));
+    for count in 1..=100 {
+        let starts: Vec<u16> = (0..count as u16).step_by(16).collect();
+        assert_eq!(index_of(0, &vec![0; count]), (0, starts.clone()), "default routes");
+        assert_eq!(index_of(IPV6, &vec![0; count]), (0, starts.clone()));
+        let tagged: Vec<u16> = starts.iter().map(|start| 5 * start).collect();
+        assert_eq!(index_of(ADD_PATH | IPV6, &vec![0; 5 * count]), (0, tagged));
+    }
+    // every five items have 15 bytes
+    assert_eq!(index_of(0, &items(49)), (0, vec![0, 46, 93, 141]));
+    for settings in [GUESS, FOUR_BYTE_AS, STRICT, EXTENDED, 63 & !ADD_PATH & !IPV6] {
+        assert_eq!(index_of(settings, &items(49)), index_of(0, &items(49)), "these are ignored");
+    }
+    assert_eq!(index_of(GUESS, &hex("00 18 0A 01 08 18 C8 02 00")), (0, vec![0]), "the guess is off");
+    assert_eq!(index_of(0, &[8]), (2, vec![]), "a list, and no section");
+    assert_eq!(index_of(0, &[33]), (7, vec![]));
+    assert_eq!(index_of(0, &[&[0; 16][..], &[33]].concat()), (7, vec![]));
+    assert_eq!(index_of(IPV6, &[&[0; 16][..], &[33]].concat()), (2, vec![]));
+    let room = |room_a, list: Vec<u8>| {
+        told_of(Request { op: 29, room_a, parts: [list, vec![], vec![]], ..Request::default() })
+    };
+    assert_eq!(room(3, vec![0; 17]), "0 2 | 9376696 0 16 2");
+    assert_eq!(room(1, vec![0; 17]), "11 0 | 1 0");
+    assert_eq!(room(0, vec![0; 17]), "11 0 | 0");
+    assert_eq!(room(0, [vec![0; 16], vec![8]].concat()), "2 0 | 0", "the list's refusal comes first");
+    assert_eq!(room(0, vec![]), "0 0 | 0");
+    assert_eq!(room(0, vec![33; 65_536]), "1 0 | 0");
+    let longest = Request { op: 29, room_a: 4_096, parts: [vec![0; 65_535], vec![], vec![]], ..Request::default() };
+    let answer = model::answer(&longest);
+    assert_eq!((answer.refusal, &answer.numbers), (0, &vec![4_096]));
+    assert_eq!(model::answer(&Request { room_a: 4_095, ..longest }).refusal, 11);
+}
+
+#[test]
+fn routes_by_their_own_index() {
+    for (settings, list) in [(0, items(49)), (ADD_PATH, vec![0, 0, 0, 7, 8, 10].repeat(20)), (IPV6, items(16))] {
+        let (_, index) = index_of(settings, &list);
+        let mut place = 0;
+        let mut number = 0;
+        while place < list.len() {
+            let line = asked(settings, &list, &index, number);
+            assert_eq!(line, told(1, settings, list[place..].to_vec()), "as the item read alone");
+            place += line.split(' ').nth(1).and_then(|used| used.parse::<usize>().ok()).expect("used");
+            number += 1;
+        }
+        for past in (number..number + 40).chain([65_535, 65_536, u32::MAX]) {
+            assert_eq!(asked_refusal(settings, &list, &index, past), 20);
+        }
+    }
+    assert_eq!(asked(0, &hex("08 0A 09 0A FF"), &[0], 1), "0 3 9 0 184483840 0 0 0 1");
+    assert_eq!(asked(ADD_PATH | GUESS, &hex("00 00 00 07 08 0A"), &[0], 0), "0 6 264 7 167772160 0 0 0 0");
+    assert_eq!(asked(GUESS, &hex("00 18 0A 01 08 18 C8 02 00"), &[0], 1), "0 4 24 0 167839744 0 0 0 0");
+}
+
+#[test]
+fn other_indexes() {
+    let list = items(33);
+    for number in [0, 1, 16, 40, u32::MAX] {
+        assert_eq!(asked_refusal(0, &[], &[], number), 20, "an empty list");
+        assert_eq!(asked_refusal(0, &[], &[0], number), 19, "0 is its end");
+        assert_eq!(asked_refusal(0, &list, &[], number), 20, "an empty index has no start");
+        let end = list.len() as u16;
+        let out_of_order: [&[u16]; 8] =
+            [&[1], &[46, 93], &[0, 0], &[0, 46, 46], &[0, 93, 46], &[0, end], &[0, 46, 65_535], &[256]];
+        for index in out_of_order {
+            assert_eq!(asked_refusal(0, &list, index, number), 19, "{index:?}");
+        }
+    }
+    assert_eq!(asked_refusal(0, &list, &[0, 46], 31), 0);
+    assert_eq!(asked_refusal(0, &list, &[0, 46], 32), 20, "it lacks the start");
+    let at = |place: usize, further: usize| told(1, 0, list[place + further..].to_vec());
+    assert_eq!(asked(0, &list, &[0, 1], 16), at(1, 0), "item 1");
+    assert_eq!(asked(0, &list, &[0, 1], 17), at(1, 2), "item 2");
+    assert_eq!(asked(0, &list, &[0, 46, 95], 32), at(95, 0), "the middle of an item");
+    assert_eq!(asked_refusal(0, &list, &[0, 46, 93], 33), 20, "the items run out");
+    assert_eq!(asked_refusal(0, &list, &[0, 46, 93, 95], 48), 7, "an octet of 33 is no length");
+    assert_eq!(asked_refusal(IPV6, &list, &[0, 46, 93, 95], 48), 2);
+}
+
+#[test]
+fn orders_of_questions() {
+    let long = vec![33; 65_536];
+    assert_eq!(asked_refusal(0, &long, &[1], 0), 1);
+    assert_eq!(asked_refusal(0, &long[1..], &[1], 16), 19);
+    assert_eq!(asked_refusal(0, &long[1..], &[0], 16), 20, "before any item");
+    assert_eq!(asked_refusal(0, &long[1..], &[0], 15), 7);
+    // a default route, 10.0.0.0/8, a length out of range and a default route
+    let list = hex("00 08 0A 21 00");
+    assert_eq!([0, 1, 2, 3, 4, 15, 16].map(|number| asked_refusal(0, &list, &[0], number)), [0, 0, 7, 7, 7, 7, 20]);
+    assert_eq!(asked_refusal(0, &list, &[0, 4], 16), 0, "what stands before the start is not read");
+    assert_eq!(asked_refusal(0, &list, &[0, 4], 17), 20);
+    let cut = hex("00 00 20 0A");
+    assert_eq!([0, 1, 2, 3, 15].map(|number| asked_refusal(0, &cut, &[0], number)), [0, 0, 2, 2, 2]);
+    let longest = vec![0; 65_535];
+    let index: Vec<u16> = (0..65_535).step_by(16).collect();
+    assert_eq!(asked(0, &longest, &index, 65_534), "0 1 0 0 0 0 0 0 0");
+    assert_eq!(asked_refusal(0, &longest, &index, 65_535), 20);
+    assert_eq!(asked_refusal(0, &longest, &index, 65_536), 20);
+}
+
 #[test]
 fn paths_and_aggregators() {
     let sequence = hex("02 02 00 00 FD E9 00 00 FD EA");

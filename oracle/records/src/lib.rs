@@ -19,7 +19,7 @@ pub const EXTENDED: u8 = 32;
 pub const LAST_SETTINGS: u8 = 63;
 
 /// Ops are numbered from 1 up to this one.
-pub const LAST_OP: u8 = 28;
+pub const LAST_OP: u8 = 30;
 
 /// The most places of a room and bytes of a part.
 pub const MOST: usize = 400_000;
@@ -45,6 +45,11 @@ impl Request {
     /// The part as big-endian numbers of four bytes; only asked for where the page says it holds numbers.
     pub fn numbers(&self, part: usize) -> Vec<u32> {
         self.parts[part].chunks_exact(4).map(|four| u32::from_be_bytes([four[0], four[1], four[2], four[3]])).collect()
+    }
+
+    /// The part as big-endian places of two bytes; only asked for where the page says it holds an index.
+    pub fn places(&self, part: usize) -> Vec<u16> {
+        self.parts[part].chunks_exact(2).map(|two| u16::from_be_bytes([two[0], two[1]])).collect()
     }
 
     /// The record's bytes.
@@ -73,6 +78,7 @@ impl Request {
             21 => usize::from(self.argument) <= self.parts[2].len(),
             26 => whole(1),
             27 | 28 => whole(0),
+            30 => self.parts[1].len() % 2 == 0 && self.parts[2].len() == 4,
             _ => true,
         };
         (1..=LAST_OP).contains(&self.op) && self.settings <= LAST_SETTINGS && parts_given
@@ -141,6 +147,11 @@ impl Lent {
         Lent::Numbers((0..places).map(|i| 2_863_267_840 + (i % 65_536) as u32).collect())
     }
 
+    /// A store of 16-bit places as it is before a call; they are held as numbers.
+    pub fn places(places: usize) -> Lent {
+        Lent::Numbers((0..places).map(|i| (i % 65_536) as u32).collect())
+    }
+
     /// An output of bytes as it is before a call.
     pub fn bytes(places: usize) -> Lent {
         Lent::Bytes((0..places).map(|i| (i % 251) as u8).collect())
@@ -198,7 +209,7 @@ pub struct Answer {
 /// How many numbers come after the refusal of an op.
 pub fn numbers_of(op: u8) -> usize {
     match op {
-        1 | 9 => 8,
+        1 | 9 | 30 => 8,
         2..=7 | 24 | 25 => 2,
         8 | 20 | 21 => 3,
         10..=12 => 6,
@@ -215,6 +226,7 @@ pub fn lent_of(request: &Request) -> Vec<Lent> {
         6 | 10 | 21 => vec![Lent::numbers(request.room_a), Lent::numbers(request.room_b)],
         13..=17 | 26 | 27 => vec![Lent::bytes(request.room_a)],
         28 => vec![Lent::Numbers(request.numbers(0))],
+        29 => vec![Lent::places(request.room_a)],
         _ => vec![],
     }
 }
