@@ -11,7 +11,7 @@ const SHOWN: usize = 20;
 const SHOWN_BYTES: usize = 400;
 
 /// Refusals are numbered up to this one.
-const LAST_REFUSAL: usize = 18;
+const LAST_REFUSAL: usize = 20;
 
 #[derive(Default, Clone, Copy)]
 struct OpTotals {

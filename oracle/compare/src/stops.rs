@@ -30,13 +30,19 @@ fn cut_stores() -> [Vec<u8>; 4] {
     [(27, 26), (28, 1), (28, 23), (28, 26)].map(|(op, size)| record(on_bytes(op, 0, (9, 0), &vec![0; size])))
 }
 
+/// Questions with half a place of an index, and with a number that is not four bytes.
+fn cut_questions() -> [Vec<u8>; 8] {
+    [(1, 4), (3, 4), (5, 4), (2, 0), (2, 3), (2, 5), (2, 8), (0, 0)]
+        .map(|(index, number)| record(request(30, 0, (0, 0), [vec![0; 9], vec![0; index], vec![0; number]], 0)))
+}
+
 /// Runs that end in a stop: the bytes after one good record.
 fn bad_records() -> Vec<Vec<u8>> {
     let with_numbers = |op, parts| record(request(op, 0, (9, 0), parts, 0));
     let with_argument = |argument, part_3| record(request(21, 0, (9, 9), [vec![], vec![], vec![0; part_3]], argument));
     let mut bad = vec![
         record(on_bytes(0, 0, (0, 0), &[])),
-        record(on_bytes(29, 0, (0, 0), &[])),
+        record(on_bytes(31, 0, (0, 0), &[])),
         record(on_bytes(255, 0, (0, 0), &[])),
         record(on_bytes(3, 64, (0, 0), &[])),
         record(on_bytes(9, 128, (0, 0), &[])),
@@ -66,6 +72,8 @@ fn bad_records() -> Vec<Vec<u8>> {
         record(request(3, 0, (0, 0), [vec![], vec![], vec![0; 400_001]], 0)),
     ];
     bad.extend(cut_stores());
+    bad.extend(cut_questions());
+    bad.extend([29, 30].map(|op| record(request(op, 64, (0, 0), [vec![], vec![], vec![0; 4]], 0))));
     let good = good_record();
     bad.extend((1..good.len()).map(|cut| good[..cut].to_vec()));
     bad

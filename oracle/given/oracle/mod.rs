@@ -1,9 +1,10 @@
 //! The crate's own calls behind the request records. What the crate has no call for is not answered (`None`).
-//! Around the crate's result stand only what document 01 and the requests add by design: refusals 1, 11 and 15, and the stores.
+//! Around the crate's result stand only what document 01 and the requests add by design: refusals 1, 11, 15 and 20, and the stores.
 
 pub mod as4;
 pub mod attributes;
 pub mod facts;
+pub mod index;
 pub mod messages;
 pub mod mp_nlri;
 pub mod paths;
@@ -71,6 +72,8 @@ fn call(request: &Request) -> Outcome {
         21 => as4::path(request),
         22..=25 => mp_nlri::read(request),
         26 | 27 => mp_nlri::write(request),
+        29 => index::build(request),
+        30 => index::route(request),
         _ => Outcome::NoCounterpart,
     }
 }
@@ -83,7 +86,7 @@ fn is_strict_path(request: &Request) -> bool {
 /// Refusal 1 of the readers, which comes before the crate is asked.
 fn over_long(request: &Request) -> bool {
     let most = match request.op {
-        2..=8 | 18 | 19 | 22..=25 => MOST_BYTES,
+        2..=8 | 18 | 19 | 22..=25 | 29 | 30 => MOST_BYTES,
         10..=12 => MOST_BODY,
         _ => return false,
     };

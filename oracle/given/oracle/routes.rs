@@ -13,7 +13,7 @@ use std::sync::OnceLock;
 
 const HAS_ID: u32 = 256;
 
-fn family(request: &Request) -> Afi {
+pub fn family(request: &Request) -> Afi {
     if request.has(IPV6) {
         Afi::Ipv6
     } else {
@@ -50,14 +50,17 @@ pub fn one_route(request: &Request) -> Outcome {
     let mut bytes = Bytes::copy_from_slice(&request.parts[0]);
     let given = bytes.remaining();
     match bytes.read_nlri_prefix(&family(request), request.has(ADD_PATH)) {
-        Ok(prefix) => {
-            let mut numbers = vec![(given - bytes.remaining()) as u64];
-            numbers.extend(row(&prefix).map(u64::from));
-            numbers.push(u64::from(has_host_bit(&prefix)));
-            Outcome::Done(numbers, vec![])
-        }
+        Ok(prefix) => Outcome::Done(route_numbers(given - bytes.remaining(), &prefix), vec![]),
         Err(error) => Outcome::Refused(reader_refusal(&error)),
     }
+}
+
+/// How many bytes an item used, its row, and 1 where it has a host bit.
+pub fn route_numbers(used: usize, prefix: &NetworkPrefix) -> Vec<u64> {
+    let mut numbers = vec![used as u64];
+    numbers.extend(row(prefix).map(u64::from));
+    numbers.push(u64::from(has_host_bit(prefix)));
+    numbers
 }
 
 /// How many rows, and how many of them have a host bit; and the rows.
@@ -82,7 +85,8 @@ pub fn list_or_section(request: &Request) -> Outcome {
     }
 }
 
-fn list(request: &Request) -> Result<Vec<NetworkPrefix>, u32> {
+/// The crate's list reader.
+pub fn list(request: &Request) -> Result<Vec<NetworkPrefix>, u32> {
     let bytes = Bytes::copy_from_slice(&request.parts[0]);
     parse_nlri_list(bytes, request.has(ADD_PATH), &family(request)).map_err(|error| reader_refusal(&error))
 }
