@@ -3,6 +3,7 @@
 use super::as4::{joined, standing};
 use super::attributes::{search, walk};
 use super::examples::{headers, on_bytes};
+use super::index::{ask, build, own, starts};
 use super::marks::{marked, take_off};
 use super::mp_nlri::{announced, withdrawn, write_announcement, write_withdrawal};
 use super::pieces::{EXTENDED_LENGTH, FAMILIES};
@@ -119,6 +120,16 @@ fn rows(mut list: &[u8], with_id: bool) -> Option<Vec<u32>> {
     Some(rows)
 }
 
+/// The index of a list that has more starts than one, and by it the list's last route.
+fn index_requests(list: &[u8], settings: u8) -> Vec<Request> {
+    let index = own(list, settings);
+    if index.len() < 2 {
+        return vec![];
+    }
+    let last = starts(list, settings).len() as u32 - 1;
+    vec![build(settings, index.len(), list), ask(settings, list, &index, last)]
+}
+
 /// Types that are asked for in every section, whether they are there or not.
 const ALWAYS: [u8; 4] = [0, ATTRIBUTE_MP_REACH, ATTRIBUTE_MP_UNREACH, 255];
 
@@ -169,8 +180,10 @@ impl Capture {
         requests.push(on_bytes(10, self.width_setting() | GUESS, (ROWS, ROWS), body));
         requests.push(on_bytes(11, self.settings() | GUESS, (0, 0), body));
         requests.push(on_bytes(12, self.settings(), (0, 0), body));
-        let (_withdrawn, rest) = counted(body)?;
-        let (section, _announced) = counted(rest)?;
+        let (withdrawn, rest) = counted(body)?;
+        let (section, announced) = counted(rest)?;
+        let ids = self.settings() & ADD_PATH;
+        requests.extend([withdrawn, announced].into_iter().flat_map(|list| index_requests(list, ids)));
         let attributes = attributes(section)?;
         for attribute in &attributes {
             requests.extend(self.attribute_requests(attribute)?);
@@ -268,6 +281,7 @@ impl Capture {
 
     fn list_requests(&self, list: &[u8]) -> Vec<Request> {
         let settings: &[u8] = if self.add_path_ipv6 { &[ADD_PATH] } else { &[0, GUESS] };
-        settings.iter().map(|setting| on_bytes(2, IPV6 | setting, (ROWS, 0), list)).collect()
+        let read = settings.iter().map(|setting| on_bytes(2, IPV6 | setting, (ROWS, 0), list));
+        read.chain(index_requests(list, IPV6 | self.ipv6_setting())).collect()
     }
 }

@@ -1,10 +1,11 @@
 //! All short inputs: every byte string of at most two bytes, longer ones over the bytes where something changes, every
-//! host bit, every short first word of a row, and all combinations of boundary values for headers, rows and written messages.
+//! host bit, every short first word of a row, short indexes, and all combinations of boundary values for headers, rows and written messages.
 
 use super::as4::{self, joined};
 use super::attributes::{search, walk};
 use super::examples::{self, on_bytes, request, words, PATH_SETTINGS};
 use super::hosts::{self, READINGS};
+use super::index::{self, ask, build};
 use super::marks::{take_off, MARK};
 use super::mp_nlri::NEXT_HOP;
 use super::pieces;
@@ -20,6 +21,10 @@ impl Short {
                 .chain(written_messages())
                 .chain(written_rows())
                 .chain(marks_taken_off())
+                .chain(index::every_list())
+                .chain(index::longest())
+                .chain(indexes())
+                .chain(indexed_lists())
                 .chain(aggregators())
                 .chain(announcements_and_withdrawals())
                 .chain(hosts::every_way())
@@ -237,6 +242,27 @@ fn written_rows() -> impl Iterator<Item = Request> {
 /// Every first word up to twice the bit above the mark, before words with the mark's bit and a row of it.
 fn marks_taken_off() -> impl Iterator<Item = Request> {
     (0..4 * MARK).map(|first| take_off(&[[first, MARK, MARK, MARK, MARK, MARK], [MARK; 6]].concat()))
+}
+
+/// Every index of up to three places about the starts and the end of a list, and of 256.
+fn indexes() -> impl Iterator<Item = Request> {
+    const NUMBERS: [u32; 9] = [0, 1, 4, 15, 16, 17, 32, 35, 48];
+    strings(&[0, 1, 2, 5, 8, 9, 255], 0..=3).flat_map(|places| {
+        let list = [0, 8, 10, 9, 11, 255, 33, 8, 12];
+        let index: Vec<u16> = places.iter().map(|place| if *place == 255 { 256 } else { (*place).into() }).collect();
+        NUMBERS.map(|number| ask(0, &list, &index, number))
+    })
+}
+
+/// Short lists in both families and forms: their index, and routes from the first start.
+fn indexed_lists() -> impl Iterator<Item = Request> {
+    strings(&[0, 1, 8, 33, 129], 0..=5).flat_map(|list| {
+        let index: &[u16] = if list.is_empty() { &[] } else { &[0] };
+        let built = index::FORMS.map(|settings| build(settings, 1, &list));
+        let asked = [(0, 0), (0, 2), (ADD_PATH, 0), (IPV6, 1)];
+        let asked = asked.map(|(settings, number)| ask(settings, &list, index, number));
+        [built, asked].concat()
+    })
 }
 
 /// Two segments of good and bad types and counts; the numbers all fit two bytes, or the first or last does not.

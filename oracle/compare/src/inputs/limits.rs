@@ -4,6 +4,7 @@
 use super::as4::{joined, standing, ABSENT, FIRST_STANDS};
 use super::attributes::{search, walk};
 use super::examples::{on_bytes, request, words, HEADER_SETTINGS};
+use super::index::{ask, build, own};
 use super::marks::take_off;
 use super::mp_nlri::{write_announcement, write_withdrawal, NEXT_HOP};
 use super::pieces;
@@ -29,6 +30,7 @@ pub fn all() -> Vec<Request> {
         announcements_and_withdrawals(),
         written_announcements_and_withdrawals(),
         stores(),
+        indexes(),
     ]
     .concat()
 }
@@ -323,6 +325,19 @@ fn written_announcements_and_withdrawals() -> Vec<Request> {
 /// The most words that a part holds are not whole rows; the most rows are 16,666.
 fn stores() -> Vec<Request> {
     [99_996, 100_000].map(|count| take_off(&vec![u32::MAX; count])).to_vec()
+}
+
+/// The most items that a list can have, 65,535, and the most places of an index, 4,096; the last route by it. Over the limit there is no room, an
+/// index is out of order, and the first length out of range.
+fn indexes() -> Vec<Request> {
+    let longest = vec![0; 65_535];
+    let over = [vec![255], vec![0; 65_535]].concat();
+    vec![
+        build(0, 4_096, &longest),
+        build(0, 0, &over),
+        ask(0, &longest, &own(&longest, 0), 65_534),
+        ask(0, &over, &[1], 65_536),
+    ]
 }
 
 /// One or two attributes of a type that the crate keeps raw, so that the section has exactly this size.

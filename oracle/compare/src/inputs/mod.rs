@@ -1,5 +1,5 @@
-//! The inputs: examples of document 01, every least length, limit and order of two checks, every host bit and mark, captured messages, all
-//! short inputs, random ones around every boundary, damaged copies of good ones, and a few of the largest sizes.
+//! The inputs: examples of document 01, every least length, limit and order of two checks, every host bit, mark and start of an index,
+//! captured messages, all short inputs, random ones around every boundary, damaged copies of good ones, and a few of the largest sizes.
 
 pub mod as4;
 pub mod as4_pairs;
@@ -9,6 +9,7 @@ pub mod checks;
 pub mod examples;
 pub mod exhaustive;
 pub mod hosts;
+pub mod index;
 pub mod limits;
 pub mod marks;
 pub mod mp_nlri;
@@ -21,8 +22,9 @@ use records::Request;
 
 /// Document 01's examples, and the numbers and orders of checks of it and of the requests: these stand in the sample too.
 pub fn numbers() -> Vec<Request> {
-    let checks = [checks::all(), attributes::all(), as4::all(), hosts::all(), mp_nlri::all(), marks::all()].concat();
-    [examples::all(), checks, limits::all()].concat()
+    let checks =
+        [checks::all(), attributes::all(), as4::all(), hosts::all(), mp_nlri::all(), marks::all(), index::all()];
+    [examples::all(), checks.concat(), limits::all()].concat()
 }
 
 /// An endless source of requests, the same for the same seed and captures.

@@ -4,6 +4,7 @@ use super::as4::{joined, standing};
 use super::as4_pairs::{self, AS_TRANS};
 use super::attributes::{search, walk};
 use super::examples::{on_bytes, words};
+use super::index::{self, ask, build, STEP};
 use super::limits::raw_attribute;
 use super::marks::{take_off, MARK};
 use super::mp_nlri::{write_announcement, write_withdrawal};
@@ -35,7 +36,9 @@ pub fn request_of(rng: &mut Rng, op: u8, settings: u8) -> Request {
         22..=25 => announced_or_withdrawn(rng, op, settings),
         26 => written_announcement(rng, settings),
         27 => written_withdrawal(rng, settings),
-        _ => marks_taken_off(rng, settings),
+        28 => marks_taken_off(rng, settings),
+        29 => built_index(rng, settings),
+        _ => route_by_index(rng, settings),
     }
 }
 
@@ -44,7 +47,7 @@ pub fn request(rng: &mut Rng) -> Request {
         let op = 1 + rng.under(usize::from(LAST_OP)) as u8;
         return large(rng, op);
     }
-    let op = 1 + rng.under(usize::from(TAKE_OFF) - 1) as u8;
+    let op = rng.pick(&COMPARED);
     let settings = any_settings(rng);
     // in the place of what the crate cannot answer either, so that no op is compared with it less for this one
     let op = if has_no_call_of_crate(op, settings) && rng.one_in(4) { TAKE_OFF } else { op };
@@ -53,6 +56,18 @@ pub fn request(rng: &mut Rng) -> Request {
 
 /// The op that takes marks off, which the crate does not have.
 const TAKE_OFF: u8 = 28;
+
+/// The others.
+const COMPARED: [u8; LAST_OP as usize - 1] = {
+    let mut ops = [0; LAST_OP as usize - 1];
+    let mut at = 0;
+    while at < ops.len() {
+        let op = at as u8 + 1;
+        ops[at] = if op < TAKE_OFF { op } else { op + 1 };
+        at += 1;
+    }
+    ops
+};
 
 /// Whether the crate has no call for an op by its settings: a strict path or header, and sections with neither Add-Path nor the guess. Lists
 /// with neither it can read item by item.
@@ -471,6 +486,84 @@ fn marks_taken_off(rng: &mut Rng, settings: u8) -> Request {
     request_on(28, settings, rng.under(9), parts, rng.byte())
 }
 
+/// A list of some items, or of about one or two starts more, mostly good.
+fn indexed_list(rng: &mut Rng, settings: u8) -> Vec<u8> {
+    let (with_id, ipv6) = (settings & ADD_PATH != 0, settings & IPV6 != 0);
+    let count = match rng.under(8) {
+        0..=4 => rng.under(6),
+        5 | 6 => 14 + rng.under(6),
+        _ => 30 + rng.under(6),
+    };
+    let mut bytes = vec![];
+    for _ in 0..count {
+        if with_id {
+            bytes.extend(if rng.one_in(2) { rng.word() } else { rng.under(300) as u32 }.to_be_bytes());
+        }
+        let lengths = if ipv6 { pieces::IPV6_LENGTHS } else { pieces::IPV4_LENGTHS };
+        // mostly short ones
+        let most = if rng.one_in(3) { lengths.len() } else { 6 };
+        let bits = rng.pick(&lengths[..most]);
+        bytes.push(bits);
+        bytes.extend(pieces::octets(rng, bits));
+    }
+    bytes
+}
+
+fn built_index(rng: &mut Rng, settings: u8) -> Request {
+    let mut list = indexed_list(rng, settings);
+    if rng.one_in(4) {
+        damage(rng, &mut list);
+    }
+    let needed = index::own(&list, settings).len();
+    let room = if rng.one_in(3) { rng.under(4) } else { room(rng, needed) };
+    build(settings, room, &list)
+}
+
+/// A question by the list's own index, or by one that was changed, or on a list that was damaged after its index was made.
+fn route_by_index(rng: &mut Rng, settings: u8) -> Request {
+    let mut list = indexed_list(rng, settings);
+    let mut index = index::own(&list, settings);
+    let count = index::starts(&list, settings).len();
+    if rng.one_in(4) {
+        change_index(rng, &mut index, list.len());
+    }
+    if rng.one_in(6) {
+        damage(rng, &mut list);
+    }
+    let number = match rng.under(12) {
+        0 => rng.word(),
+        1 => rng.pick(&[15, 16, 17, 31, 32, 33, 48, 65_535, 65_536, u32::MAX]),
+        2 => (count + rng.under(STEP)) as u32,
+        3 => rng.under(STEP * (index.len() + 1)) as u32,
+        4 => count.saturating_sub(1) as u32,
+        _ => rng.under(count.max(1)) as u32,
+    };
+    Request { room_a: rng.under(9), argument: rng.byte(), ..ask(settings, &list, &index, number) }
+}
+
+/// One place changed, put in, put at the end or taken out.
+fn change_index(rng: &mut Rng, index: &mut Vec<u16>, end: usize) {
+    let place = match rng.under(8) {
+        0 => end as u16,
+        1 => (end as u16).wrapping_sub(1),
+        2 => rng.next() as u16,
+        3 => rng.pick(&[0, 1, 16, 256, 65_535]),
+        4 if !index.is_empty() => rng.pick(index),
+        _ => rng.under(end + 1) as u16,
+    };
+    let at = rng.under(index.len().max(1));
+    match rng.under(6) {
+        0 => index.push(place),
+        1 => index.truncate(at),
+        2 if !index.is_empty() => {
+            index.remove(at);
+        }
+        3 if !index.is_empty() => index[at] = index[at].wrapping_add(rng.pick(&[1, 2, 65_535])),
+        4 if !index.is_empty() => index[at] = place,
+        _ => index.insert(at, place),
+    }
+}
+
 /// A request near the greatest size of its op.
 pub fn large(rng: &mut Rng, op: u8) -> Request {
     let settings = any_settings(rng);
@@ -513,8 +606,21 @@ fn large_to_read(rng: &mut Rng, op: u8, settings: u8, size: usize) -> Request {
             let count = rng.pick(&[99_990, 99_995, 99_996, 99_997, 100_000]);
             take_off(&(0..count).map(|_| word_near_mark(rng)).collect::<Vec<_>>())
         }
+        29 | 30 => large_indexed(rng, op, settings, size),
         _ => large_announced_or_withdrawn(rng, op, settings, size),
     }
+}
+
+/// A long list and its index: the places that it needs or one less, or a route about the last one or anywhere.
+fn large_indexed(rng: &mut Rng, op: u8, settings: u8, size: usize) -> Request {
+    let list = large_list(rng, size, settings & ADD_PATH != 0, settings & IPV6 != 0);
+    let index = index::own(&list, settings);
+    if op == 29 {
+        return build(settings, rng.pick(&[index.len(), index.len() - 1, 5_000]), &list);
+    }
+    let count = index::starts(&list, settings).len();
+    let number = if rng.one_in(2) { rng.under(count) } else { count - 2 + rng.under(4) };
+    ask(settings, &list, &index, number as u32)
 }
 
 /// Two paths of which one has this size, and the other at times one near it.
