@@ -270,18 +270,20 @@ fn lengths() -> Vec<Request> {
     requests
 }
 
-/// Both calls under every settings byte, on a list that the guess reads otherwise, with rooms, parts and an argument of which nothing is used.
+/// Both calls under every settings byte, on lists that the guess reads otherwise, with rooms, parts and an argument of which nothing is used.
 fn every_settings() -> Vec<Request> {
     let bytes = hex("00 18 0A 01 08 18 C8 02 00 00 00");
     let both = |settings| {
         let asked = ask(settings, &bytes, &[0], 1);
-        let built = request(29, settings, (3, 5), [bytes.clone(), vec![1, 2, 3], vec![9]], settings);
+        // the guess refuses it, and with ids it is cut
+        let built = request(29, settings, (3, 5), [bytes[..9].to_vec(), vec![1, 2, 3], vec![9]], settings);
         [built, Request { room_a: 7, room_b: 5, argument: settings, ..asked }]
     };
     (0..=LAST_SETTINGS).flat_map(both).collect()
 }
 
-/// The longest list, and one of its last numbers and those after it; a place too few for its index, and its last place another.
+/// The longest list: its index with a place too few and one more; its routes about the last start and after its end; and by indexes whose last
+/// place is another or not there.
 pub fn longest() -> impl Iterator<Item = Request> {
     let bytes = vec![0; 65_535];
     let index = own(&bytes, 0);
@@ -289,8 +291,8 @@ pub fn longest() -> impl Iterator<Item = Request> {
     let mut changed = [65_504, 65_505, 65_534, 65_535].map(|place| [&index[..last], &[place]].concat()).to_vec();
     changed.push(index[..last].to_vec());
     let asked = changed.iter().map(|index| ask(0, &bytes, index, 65_520)).collect::<Vec<_>>();
-    let past = [65_519, 65_520, 65_535, 65_536, u32::MAX].map(|number| ask(0, &bytes, &index, number));
-    [4_095, 4_097].map(|room| build(0, room, &bytes)).into_iter().chain(asked).chain(past)
+    let routes = [65_519, 65_520, 65_535, 65_536, u32::MAX].map(|number| ask(0, &bytes, &index, number));
+    [4_095, 4_097].map(|room| build(0, room, &bytes)).into_iter().chain(asked).chain(routes)
 }
 
 /// Every list by its own index: each route and twenty numbers past it, and every room up to one more than it needs.
