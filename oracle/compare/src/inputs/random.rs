@@ -47,7 +47,7 @@ pub fn request(rng: &mut Rng) -> Request {
         let op = 1 + rng.under(usize::from(LAST_OP)) as u8;
         return large(rng, op);
     }
-    let op = rng.pick(&COMPARED);
+    let op = other_op(rng);
     let settings = any_settings(rng);
     // in the place of what the crate cannot answer either, so that no op is compared with it less for this one
     let op = if has_no_call_of_crate(op, settings) && rng.one_in(4) { TAKE_OFF } else { op };
@@ -57,17 +57,15 @@ pub fn request(rng: &mut Rng) -> Request {
 /// The op that takes marks off, which the crate does not have.
 const TAKE_OFF: u8 = 28;
 
-/// The others.
-const COMPARED: [u8; LAST_OP as usize - 1] = {
-    let mut ops = [0; LAST_OP as usize - 1];
-    let mut at = 0;
-    while at < ops.len() {
-        let op = at as u8 + 1;
-        ops[at] = if op < TAKE_OFF { op } else { op + 1 };
-        at += 1;
+/// Any op but that one.
+fn other_op(rng: &mut Rng) -> u8 {
+    let op = 1 + rng.under(usize::from(LAST_OP) - 1) as u8;
+    if op < TAKE_OFF {
+        op
+    } else {
+        op + 1
     }
-    ops
-};
+}
 
 /// Whether the crate has no call for an op by its settings: a strict path or header, and sections with neither Add-Path nor the guess. Lists
 /// with neither it can read item by item.
