@@ -327,13 +327,14 @@ fn stores() -> Vec<Request> {
     [99_996, 100_000].map(|count| take_off(&vec![u32::MAX; count])).to_vec()
 }
 
-/// The most items that a list can have, 65,535, and the most places of an index, 4,096; the last route by it. Over the limit there is no room, an
-/// index is out of order, and the first length out of range.
+/// The most items that a list can have, 65,535, and the most places of an index, 4,096; the last route by it; and a store of the most places. Over
+/// the limit there is no room, an index is out of order, and the first length out of range.
 fn indexes() -> Vec<Request> {
     let longest = vec![0; 65_535];
     let over = [vec![255], vec![0; 65_535]].concat();
     vec![
         build(0, 4_096, &longest),
+        build(0, 400_000, &[0; 17]),
         build(0, 0, &over),
         ask(0, &longest, &own(&longest, 0), 65_534),
         ask(0, &over, &[1], 65_536),
