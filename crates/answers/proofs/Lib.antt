@@ -1,1 +1,2 @@
+pub mod Along
 pub mod Lent

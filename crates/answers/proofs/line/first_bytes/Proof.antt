@@ -1,12 +1,12 @@
+use Rattle.answers.proofs.Along.{Along}
 use borrow.Author.Needs.{needs}
-use Prim.Native.Nat.{_-_, _≤_}
+use Prim.Native.Nat.{_-_}
 use lib.ListN.{length}
-use mathlib.Core.Path.{_≡_}
 use Rattle.answers.proofs.line.first_bytes.Statement.{statement}
 use Rattle.answers.proofs.line.first_bytes.Tie as tie
 
 abbrev Inv-loop : tie.InvT-loop
-Inv-loop out₀ at s next₀ i₀ out next i = (length out ≡ length out₀) × (i ≤ length s)
+Inv-loop out₀ at s next₀ i₀ out next i = Along (length s) out₀ out i
 
 abbrev μ-loop : tie.MeasureT-loop
 μ-loop out₀ at s next₀ i₀ out next i = length s - i

@@ -1,12 +1,11 @@
+use Rattle.answers.proofs.Along.{Along}
 use borrow.Author.Needs.{needs}
-use Prim.Native.Nat.{_-_, _≤_}
-use lib.ListN.{length}
-use mathlib.Core.Path.{_≡_}
+use Prim.Native.Nat.{_-_}
 use Rattle.answers.proofs.line.numbers.Statement.{statement}
 use Rattle.answers.proofs.line.numbers.Tie as tie
 
 abbrev Inv-loop : tie.InvT-loop
-Inv-loop out₀ at n values next₀ i₀ out next i = (length out ≡ length out₀) × (i ≤ 9)
+Inv-loop out₀ at n values next₀ i₀ out next i = Along 9 out₀ out i
 
 abbrev μ-loop : tie.MeasureT-loop
 μ-loop out₀ at n values next₀ i₀ out next i = 9 - i

@@ -1,12 +1,12 @@
+use Rattle.answers.proofs.Along.{Along}
 use borrow.Author.Needs.{needs}
-use Prim.Native.Nat.{_-_, _≤_}
+use Prim.Native.Nat.{_-_}
 use lib.ListN.{length}
-use mathlib.Core.Path.{_≡_}
 use Rattle.answers.proofs.store.fill_words.Statement.{statement}
 use Rattle.answers.proofs.store.fill_words.Tie as tie
 
 abbrev Inv-loop : tie.InvT-loop
-Inv-loop store₀ i₀ store i = (length store ≡ length store₀) × (i ≤ length store₀)
+Inv-loop store₀ i₀ store i = Along (length store₀) store₀ store i
 
 abbrev μ-loop : tie.MeasureT-loop
 μ-loop store₀ i₀ store i = length store₀ - i
