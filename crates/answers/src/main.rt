@@ -5,6 +5,7 @@ use crate::numbers::Numbers;
 use crate::request::Head;
 use crate::request::Judged;
 
+mod index;
 mod line;
 mod numbers;
 mod reads;
@@ -30,7 +31,11 @@ fn call(h: Head, s: &[u8], a: &mut [u32], b: &mut [u32], w: &mut [u8]) -> Number
     if writes::is_writer(h.op) {
         return writes::answer(h, s, a, b, w);
     }
-    reads::answer(h, s, a, b)
+    let op = h.op;
+    match op {
+        29 | 30 => index::answer(h, s, a),
+        _ => reads::answer(h, s, a, b),
+    }
 }
 
 // The stores or the output that an op lends.

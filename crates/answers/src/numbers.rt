@@ -6,6 +6,7 @@ use attributes::AttributeAnswer;
 use messages::MessageAnswer;
 use mp_nlri::ReachAnswer;
 use paths::PathAnswer;
+use route_index::IndexAnswer;
 use routes::ListAnswer;
 use routes::PrefixAnswer;
 use routes::RouteAnswer;
@@ -24,6 +25,14 @@ fn refused(n: u8, count: usize) -> Numbers {
     Numbers {
         count,
         values: [n as usize, 0, 0, 0, 0, 0, 0, 0, 0],
+    }
+}
+
+// A success of one number.
+fn one(n: usize) -> Numbers {
+    Numbers {
+        count: 2,
+        values: [0, n, 0, 0, 0, 0, 0, 0, 0],
     }
 }
 
@@ -69,11 +78,16 @@ pub fn of_list(a: RoutesAnswer) -> Numbers {
 // A store whose marks are taken off: its rows.
 pub fn of_cleared(a: ListAnswer) -> Numbers {
     match a {
-        ListAnswer::Rows(n) => Numbers {
-            count: 2,
-            values: [0, n, 0, 0, 0, 0, 0, 0, 0],
-        },
+        ListAnswer::Rows(n) => one(n),
         ListAnswer::Refused(n) => refused(n, 2),
+    }
+}
+
+// The index of a list: its places.
+pub fn of_index(a: IndexAnswer) -> Numbers {
+    match a {
+        IndexAnswer::Places(n) => one(n),
+        IndexAnswer::Refused(n) => refused(n, 2),
     }
 }
 
@@ -328,10 +342,7 @@ pub fn of_found(a: AttributeAnswer, value: &[u8]) -> Numbers {
 // What a writer answered.
 pub fn of_written(a: WriteAnswer) -> Numbers {
     match a {
-        WriteAnswer::Bytes(n) => Numbers {
-            count: 2,
-            values: [0, n, 0, 0, 0, 0, 0, 0, 0],
-        },
+        WriteAnswer::Bytes(n) => one(n),
         WriteAnswer::Refused(n) => refused(n, 2),
     }
 }

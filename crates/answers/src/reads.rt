@@ -151,7 +151,7 @@ fn merged(h: Head, s: &[u8], a: &mut [u32], b: &mut [u32]) -> Numbers {
 // How many stores an op lends.
 pub fn stores_lent(op: u8) -> u8 {
     match op {
-        2 | 4 | 22 | 24 | 28 => 1,
+        2 | 4 | 22 | 24 | 28 | 29 => 1,
         6 | 10 | 21 => 2,
         _ => 0,
     }

@@ -12,7 +12,7 @@ pub const HEAD_SIZE: usize = 18;
 pub const ROOM_LIMIT: usize = 400000;
 
 // The last op; the first is 1.
-const LAST_OP: u8 = 28;
+const LAST_OP: u8 = 30;
 
 // The largest settings byte.
 const SETTINGS_LIMIT: u8 = 63;
@@ -70,12 +70,14 @@ pub fn read_head(s: &[u8]) -> Head {
     }
 }
 
-// The places lent in the first store: those asked for, and in op 28 one for each number of part one.
+// The places lent in the first store: those asked for; in op 28 one for each number of part one, and in op 30 one for each place of part two.
 pub fn first_room(h: Head) -> usize {
-    if h.op == 28 {
-        return h.one / 4;
+    let op = h.op;
+    match op {
+        28 => h.one / 4,
+        30 => h.two / 2,
+        _ => h.room_a,
     }
-    h.room_a
 }
 
 // Whether a part is whole numbers of four bytes.
@@ -94,6 +96,7 @@ fn parts_given(h: Head) -> bool {
         18 => h.two == 4,
         21 => h.argument as usize <= h.three,
         26 => whole(h.two),
+        30 => (h.two % 2 == 0) & (h.three == 4),
         _ => true,
     }
 }
@@ -155,7 +158,7 @@ pub fn part_two(s: &[u8], h: Head) -> &[u8] {
     wire::part(s, plus(HEAD_SIZE, h.one), h.two)
 }
 
-fn part_three(s: &[u8], h: Head) -> &[u8] {
+pub fn part_three(s: &[u8], h: Head) -> &[u8] {
     wire::part(s, plus(plus(HEAD_SIZE, h.one), h.two), h.three)
 }
 

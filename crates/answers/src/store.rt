@@ -1,4 +1,4 @@
-// What lent places hold before a call, their sum, and numbers from the bytes of a part.
+// What lent places hold before a call, their sum, numbers from the bytes of a part, and the places of an index as words.
 use crate::request::plus;
 
 // The places of a store before a call.
@@ -19,6 +19,15 @@ pub fn fill_bytes(store: &mut [u8]) {
     }
 }
 
+// The places of an index before a call.
+pub fn fill_places(places: &mut [u16]) {
+    let mut i: usize = 0;
+    while i < places.len() {
+        places[i] = (i % 65536) as u16;
+        i = i + 1;
+    }
+}
+
 // The numbers of a part, four bytes each.
 pub fn decode(s: &[u8], store: &mut [u32]) {
     let mut at: usize = 0;
@@ -26,6 +35,29 @@ pub fn decode(s: &[u8], store: &mut [u32]) {
     while i < store.len() {
         store[i] = wire::u32_at(s, at);
         at = plus(at, 4);
+        i = i + 1;
+    }
+}
+
+// The places of an index, two bytes each.
+pub fn decode_places(s: &[u8], places: &mut [u16]) {
+    let mut at: usize = 0;
+    let mut i: usize = 0;
+    while i < places.len() {
+        places[i] = wire::u16_at(s, at) as u16;
+        at = plus(at, 2);
+        i = i + 1;
+    }
+}
+
+// Copies the places of an index to the front of a store, as many as it has room for.
+pub fn copy_places(places: &[u16], store: &mut [u32]) {
+    let mut i: usize = 0;
+    while i < places.len() {
+        if store.len() <= i {
+            return;
+        }
+        store[i] = places[i] as u32;
         i = i + 1;
     }
 }
