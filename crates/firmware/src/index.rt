@@ -11,7 +11,6 @@ ghost use Rattle.route_index.specs.Promises.{indexMeaning, countIndex, buildInd
 ghost use Rattle.words.specs.Settings.{familyOf, formOf};
 ghost use Rattle.words.specs.Word.{inFields, wordOf, Narrow};
 ghost use Rattle.firmware.specs.Fields.{rowWords, routeStored, routeAfter};
-use families::Afi;
 use route_index::IndexAnswer;
 use routes::PrefixAnswer;
 use routes::Row;
@@ -34,16 +33,12 @@ fn index_word(a: IndexAnswer) -> u64
     }
 }
 
-// How many places the index of a list has. Here and below each family has a call of its own, so that its table is known when it is compiled.
+// How many places the index of a list has.
 #[no_mangle]
 pub extern "C" fn doorbramble_count_index(s: &[u8], ipv6: u8, add_path: u8) -> u64
     ensures { λ r. ⌜ r ≡ wordOf (inFields (indexMeaning (countIndex (upTo (maxOf (familyOf ipv6))) (now (s .entry)) (formOf «add_path»)))) ⌝ }
 {
-    let form = form_of(add_path);
-    match family_of(ipv6) {
-        Afi::Ipv4 => index_word(route_index::count_index(s, Afi::Ipv4, form)),
-        Afi::Ipv6 => index_word(route_index::count_index(s, Afi::Ipv6, form)),
-    }
+    index_word(route_index::count_index(s, family_of(ipv6), form_of(add_path)))
 }
 
 // The index of a list, into a lent store.
@@ -57,11 +52,7 @@ pub extern "C" fn doorbramble_build_index(
     ensures answer { λ r. ⌜ r ≡ wordOf (inFields (indexMeaning (buildIndex (upTo (maxOf (familyOf ipv6))) (now (s .entry)) (formOf «add_path») (length (now (places .entry)))))) ⌝ }
     ensures places { λ _. ⌜ now (places .exit) ≡ indexAfter (upTo (maxOf (familyOf ipv6))) (now (s .entry)) (formOf «add_path») (now (places .entry)) ⌝ }
 {
-    let form = form_of(add_path);
-    match family_of(ipv6) {
-        Afi::Ipv4 => index_word(route_index::build_index(s, Afi::Ipv4, form, places)),
-        Afi::Ipv6 => index_word(route_index::build_index(s, Afi::Ipv6, form, places)),
-    }
+    index_word(route_index::build_index(s, family_of(ipv6), form_of(add_path), places))
 }
 
 // The words of a row, at the front of a store.
