@@ -28,7 +28,7 @@ use Rattle.routes.specs.declared.RouteAnswer.{RouteAnswer}
 use Rattle.routes.specs.declared.ListAnswer.{ListAnswer}
 use Rattle.routes.specs.declared.ListAnswer.the-variants as L
 use Rattle.routes.proofs.ListLaws.{Fair, fixed-step, list-fixed, sound-by, count-rows}
-use Rattle.route_index.specs.Index.{sixteenths, itemsBy, indexBy, rising, isIndex, refusedRoute, pastItem, unlessNone, routeFrom, itemRoute, routeBy}
+use Rattle.route_index.specs.Index.{sixteenths, itemsBy, indexBy, rising, isIndex, refusedRoute, pastItem, routeFrom, itemRoute, routeBy}
 use Rattle.route_index.proofs.AskLaws.{unless-some}
 use Rattle.route_index.proofs.IndexLaws.{itemsFrom, items-fixed, index-is, step-took, step-stops, count-fits}
 use Rattle.route_index.specs.Promises.{indexMeaning, placesFor, countIndex, roomFor, buildIndex, indexAfter}

@@ -155,8 +155,7 @@ fn put_places(s: &[u8], counts: &[u8; 256], form: Form, places: &mut [u16])
 pub fn count_index(s: &[u8], afi: Afi, form: Form) -> IndexAnswer
     ensures answer { λ r. ⌜ r ≡ countIndex (upTo (maxOf afi)) (now (s .entry)) form ⌝ }
 {
-    let mut counts = [0u8; 256];
-    octets::put_counts(afi, &mut counts);
+    let counts = octets::counts(afi);
     let n = count_places(s, &counts, form);
     if n < refusal::PAST_ALL {
         return IndexAnswer::Refused(n as u8);
@@ -169,8 +168,7 @@ pub fn build_index(s: &[u8], afi: Afi, form: Form, places: &mut [u16]) -> IndexA
     ensures answer { λ r. ⌜ r ≡ buildIndex (upTo (maxOf afi)) (now (s .entry)) form (length (now (places .entry))) ⌝ }
     ensures store { λ _. ⌜ now (places .exit) ≡ indexAfter (upTo (maxOf afi)) (now (s .entry)) form (now (places .entry)) ⌝ }
 {
-    let mut counts = [0u8; 256];
-    octets::put_counts(afi, &mut counts);
+    let counts = octets::counts(afi);
     let n = count_places(s, &counts, form);
     if n < refusal::PAST_ALL {
         return IndexAnswer::Refused(n as u8);
@@ -213,6 +211,14 @@ fn index_fault(other: bool, lacking: bool) -> u8
     0
 }
 
+// Where n items of a family from a place on end. The table is made here, so that its room on the stack is free again for the route's own.
+fn place_from(s: &[u8], from: usize, n: usize, afi: Afi, form: Form) -> PlaceAnswer
+    ensures { λ r. ⌜ r ≡ skipped (upTo (maxOf afi)) form (now (s .entry)) n from ⌝ }
+{
+    let counts = octets::counts(afi);
+    pass_items(s, from, n, &counts, form)
+}
+
 // No route, and why.
 fn no_route(why: u8) -> RouteAnswer
     ensures { λ r. ⌜ r ≡ refusedRoute why ⌝ }
@@ -236,8 +242,7 @@ pub fn route_at(s: &[u8], index: &[u16], n: usize, afi: Afi, form: Form) -> Rout
     if why != 0 {
         return no_route(why);
     }
-    let counts = octets::counts(afi);
-    match pass_items(s, index[q] as usize, r, &counts, form) {
+    match place_from(s, index[q] as usize, r, afi, form) {
         PlaceAnswer::At(at) => {
             if s.len() <= at {
                 return no_route(refusal::NO_SUCH_ROUTE);

@@ -1,17 +1,15 @@
-use Prim.Native.Nat.{ℕ, _/_, _%_, _<_}
+use Prim.Native.Nat.{ℕ, _/_, _<_}
 use mathlib.Core.Path.{_≡_, refl, sym, ap, _∙_}
 use mathlib.Core.List.{List}
 use mathlib.Core.Bool.{true}
 use native.Mathlib.Omega.{arith}
 use borrow.Author.Tests.{leb-false, not-false}
-use lib.ListN.{length, getD}
+use lib.ListN.{length}
 use Rattle.wire.proofs.Turn.{rest}
 use Rattle.families.specs.Family.{maxOf}
 use Rattle.routes.specs.Prefix.{routeOf}
-use Rattle.routes.specs.List.{Reader, upTo}
-use Rattle.routes.proofs.TableLaws.{item-family}
+use Rattle.routes.specs.List.{upTo}
 use Rattle.route_index.specs.Index.{isIndex, routeBy}
-use Rattle.route_index.specs.Private.{skipped}
 use Rattle.route_index.proofs.AskLaws.{fault-none, found, found-none, found-some, ask-long, ask-fault, ask-found}
 use borrow.Author.Needs.{needs}
 use Rattle.route_index.proofs.route_at.Statement.{statement}
@@ -49,20 +47,17 @@ taken c =
     let f = fault-none _ _ (sym (c .before .index-fault .ensures) ∙ omega (arith, c .if2 .left)) in
     (sym (c .before .before .is-index .ensures) ∙ not-false _ (f .0), leb-false _ _ (f .1))
 
-counts-requires : tie.Need-counts-requires
-counts-requires c κs = search needs
+mul-place-from : tie.Need-mul-place-from
+mul-place-from c = search needs
 
-mul-pass-items : tie.Need-mul-pass-items
-mul-pass-items c = search needs
+shared-slice-read-place-from : tie.Need-shared-slice-read-place-from
+shared-slice-read-place-from c = taken (c .before) .1
 
-shared-slice-read-pass-items : tie.Need-shared-slice-read-pass-items
-shared-slice-read-pass-items c = taken (c .before .before) .1
+cast-place-from : tie.Need-cast-place-from
+cast-place-from c = omega (arith, c .shared-slice-known3 .given (c .before .before .before .before .before .before .before .args .n / 16))
 
-cast-pass-items : tie.Need-cast-pass-items
-cast-pass-items c = omega (arith, c .shared-slice-known3 .given (c .before .before .before .before .before .before .before .before .args .n / 16))
-
-pass-items-requires : tie.Need-pass-items-requires
-pass-items-requires c κs = search needs
+place-from-requires : tie.Need-place-from-requires
+place-from-requires c κs = search needs
 
 enum-known-at : tie.Need-enum-known-at
 enum-known-at c = search needs
@@ -71,19 +66,18 @@ no-route-requires-3 : tie.Need-no-route-requires-3
 no-route-requires-3 c κs = search needs
 
 -- the place that was reached
-reached : (c : tie.After-pass-items) →
-    let a = c .before .before .before .before .before .before .before .before .before .before .args in
-    found (upTo (maxOf (a .afi))) (a .form) (a .s .now) (c .pass-items .result) ≡ routeBy (upTo (maxOf (a .afi))) (a .form) (a .s .now) (a .index .now) (a .n)
+reached : (c : tie.After-place-from) →
+    let a = c .before .before .before .before .before .before .before .before .args in
+    found (upTo (maxOf (a .afi))) (a .form) (a .s .now) (c .place-from .result) ≡ routeBy (upTo (maxOf (a .afi))) (a .form) (a .s .now) (a .index .now) (a .n)
 reached c =
-    let e = c .before .before .before .before in
+    let e = c .before .before in
     let a = e .before .before .before .before .before .before .args in
-    ask-found (upTo (maxOf (a .afi))) (a .form) (a .s .now) (a .index .now) (a .n) (omega (arith, e .before .before .before .if1 .left)) (taken e .0) (taken e .1) (c .pass-items .result)
-    (ap (λ (read : Reader). skipped read (a .form) (a .s .now) (a .n % 16) (getD (a .index .now) (a .n / 16) 0)) (sym (item-family _ (a .afi) (c .before .before .before .counts .ensures))) ∙ sym (c .pass-items .ensures))
+    ask-found (upTo (maxOf (a .afi))) (a .form) (a .s .now) (a .index .now) (a .n) (omega (arith, e .before .before .before .if1 .left)) (taken e .0) (taken e .1) (c .place-from .result) (sym (c .place-from .ensures))
 
 returns-3 : tie.Need-returns-3
 returns-3 c =
     let k = c .before .before .before .before .before in
-    let a = k .before .before .before .before .before .before .before .before .before .before .args in
+    let a = k .before .before .before .before .before .before .before .before .args in
     c .no-route3 .ensures
     ∙ found-none (upTo (maxOf (a .afi))) (a .form) (a .s .now) _ (c .before .if3 .taken)
     ∙ ap (found (upTo (maxOf (a .afi))) (a .form) (a .s .now)) (sym (c .before .before .before .at .given .1))
@@ -111,7 +105,7 @@ returns-4 : tie.Need-returns-4
 unfolding routeOf
 returns-4 c =
     let k = c .before .before .before .before .before .before in
-    let a = k .before .before .before .before .before .before .before .before .before .before .args in
+    let a = k .before .before .before .before .before .before .before .before .args in
     let at = c .before .before .before .before .at .given in
     c .try-parse-prefix .ensures
     ∙ ap (λ (t : List ℕ). routeOf t (maxOf (a .afi)) (a .form)) (rest (a .s .now) (at .0 .0))
@@ -122,7 +116,7 @@ returns-4 c =
 returns-5 : tie.Need-returns-5
 returns-5 c =
     let k = c .before .before .before .before in
-    let a = k .before .before .before .before .before .before .before .before .before .before .args in
+    let a = k .before .before .before .before .before .before .before .before .args in
     c .no-route4 .ensures ∙ ap (found (upTo (maxOf (a .afi))) (a .form) (a .s .now)) (sym (c .before .before .why .given .1)) ∙ reached k
 
 pub route-at-spec : {M : Type 1} → statement M
@@ -135,11 +129,10 @@ route-at-spec =
     index-fault-requires
     no-route-requires-2
     returns-2
-    counts-requires
-    mul-pass-items
-    shared-slice-read-pass-items
-    cast-pass-items
-    pass-items-requires
+    mul-place-from
+    shared-slice-read-place-from
+    cast-place-from
+    place-from-requires
     enum-known-at
     no-route-requires-3
     returns-3
