@@ -12,7 +12,7 @@ use Rattle.wire.proofs.AnswerLaws.{unpacked-count, unpacked-refused}
 use Rattle.wire.proofs.ChoiceLaws.{pick-leb}
 use Rattle.wire.specs.Refusal.{tooLong, noRoom, pastAll, listLimit}
 use Rattle.wire.specs.Store.{laid}
-use Rattle.wire.proofs.StoreLaws.{Laying, laying-start, laying-room, laying-long, laying-set, laying-done}
+use Rattle.wire.proofs.StoreLaws.{Laying, laying-start, laying-room, laying-set}
 use Rattle.wire.specs.Walk.{Step, took, stop, Reading, noted, notes, readAll, pieces, starts}
 use Rattle.wire.proofs.WalkLaws.{all-nil, all-took, all-stop, all-blind, pieces-nil, pieces-took, tally-one}
 use Rattle.families.specs.Family.{maxOf}
@@ -39,7 +39,7 @@ use Rattle.route_index.specs.declared.IndexAnswer.{IndexAnswer}
 use Rattle.route_index.specs.declared.IndexAnswer.the-variants as I
 
 module _ (read : Reader) (form : Form) where
-  abbrev step : Form → List ℕ → Step Form Row
+  abbrev pub step : Form → List ℕ → Step Form Row
   step = stepBy read (fixed form)
 
   -- the items of t, in any state
@@ -84,7 +84,7 @@ module _ (read : Reader) (form : Form) where
 
     module _ (fair : Fair read) where
       -- what an item makes of what is still to come
-      item-took : (at used : ℕ) (row : Row) → at < length s → read (drop at s) form ≡ P.Prefix used row
+      pub item-took : (at used : ℕ) (row : Row) → at < length s → read (drop at s) form ≡ P.Prefix used row
           → (0 < used) × (at + used ≤ length s) × (verdictFrom at ≡ verdictFrom (at + used)) × (starts at (itemsFrom (drop at s)) ≡ at ∷ starts (at + used) (itemsFrom (drop (at + used) s)))
       unfolding starts
       item-took at used row lt e =
@@ -237,9 +237,6 @@ module _ (read : Reader) (form : Form) (s d₀ : List ℕ) (fits : Fitting read 
   }
 
   module _ (fair : Fair read) (at i : ℕ) (d : List ℕ) (h : Placing read form s d₀ at i d) where
-    pub placing-long : length d ≡ length d₀
-    placing-long = laying-long d₀ 0 (placesFrom read form s 0) room d i (placesFrom read form s at) (h .laying)
-
     pub placing-step : (next : ℕ) → at < length s → skipped read form s 16 at ≡ At next → (at < next) × (i < length d) × Placing read form s d₀ next (i + 1) (set d i at)
     placing-step next lt e =
         let b = block-took read form s fair at next lt e in
@@ -253,14 +250,6 @@ module _ (read : Reader) (form : Form) (s d₀ : List ℕ) (fits : Fitting read 
             laying = laying-set d₀ 0 (placesFrom read form s 0) room d i (placesFrom read form s at) (h .laying) at (placesFrom read form s next) (b .3);
           },
         )
-
-    pub placing-never : (why : ℕ) → skipped read form s 16 at ≡ Refused why → ⊥
-    placing-never why e = let b = block-stop read form s fair at why (h .within) e in omega (arith, b .0, b .2, h .good)
-
-    pub placing-done : length s ≤ at → d ≡ laid d₀ 0 (indexBy read s form)
-    placing-done end =
-        laying-done d₀ 0 (placesFrom read form s 0) room d i (placesFrom read form s at) (h .laying) (none-left read form s at end .1 0)
-        ∙ ap (laid d₀ 0) (sym (index-is read form s))
 
 -- ---- what is built
 
@@ -306,10 +295,10 @@ module _ (counts : List ℕ) (afi : Afi) (table : counts ≡ tableOf (maxOf afi)
 
 -- and what is put by it
 module _ (counts : List ℕ) (afi : Afi) (table : counts ≡ tableOf (maxOf afi)) (s : List ℕ) (form : Form) (d : List ℕ) (n : ℕ) (e : countIndex (upTo (maxOf afi)) s form ≡ I.Places n) (le : n ≤ length d) where
-  pub fits-table : (length s ≤ listLimit) × Fitting (byTable counts) s form d
+  pub fits-table : (length s ≤ listLimit) × (Fitting (byTable counts) s form d × (n ≡ length (indexBy (byTable counts) s form)))
   fits-table =
       let f = count-fits (byTable counts) s form n (ap (λ (read : Reader). countIndex read s form) (item-family counts afi table) ∙ e) in
-      (f .0, record { good = f .1; room = omega (arith, f .2, le) })
+      (f .0, (record { good = f .1; room = omega (arith, f .2, le) }, sym (f .2)))
 
   pub put-table : (d′ : List ℕ) → d′ ≡ laid d 0 (indexBy (byTable counts) s form) → (I.Places n ≡ buildIndex (upTo (maxOf afi)) s form (length d)) × (d′ ≡ indexAfter (upTo (maxOf afi)) s form d)
   put-table d′ is =

@@ -7,8 +7,9 @@ use lib.ListN.{length, drop}
 use lib.Dec.{leb}
 use Rattle.wire.specs.Choice.{pick}
 use Rattle.wire.specs.Refusal.{notAnIndex, noSuchRoute}
+use Rattle.wire.specs.Walk.{readAll, pieces}
 use Rattle.families.specs.declared.Form.{Form}
-use Rattle.routes.specs.List.{Reader, fixed, listBy}
+use Rattle.routes.specs.List.{Reader, fixed, stepBy, listBy}
 use Rattle.routes.specs.declared.PrefixAnswer.{PrefixAnswer}
 use Rattle.routes.specs.declared.PrefixAnswer.the-variants as P
 use Rattle.route_index.specs.Index.{indexBy}
@@ -31,6 +32,11 @@ pub record Passes (read : Reader) (form : Form) (s : List ℕ) (n at n′ at′ 
   pub onwards : at < at′
   pub within : at′ ≤ length s
   pub same : skipped read form s n at ≡ skipped read form s n′ at′
+
+-- from a place on all items are good, and there are n of them or more
+pub record Remain (read : Reader) (form : Form) (s : List ℕ) (n at : ℕ) : Type 0 where
+  pub good : readAll (stepBy read (fixed form)) form (drop at s) .verdict ≡ 0
+  pub many : n ≤ length (pieces (stepBy read (fixed form)) form (drop at s))
 
 -- a good list whose index fits a store: what putting it asks
 pub record Fitting (read : Reader) (s : List ℕ) (form : Form) (store : List ℕ) : Type 0 where

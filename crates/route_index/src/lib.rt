@@ -1,16 +1,18 @@
 // An index beside a list of routes, guess off (document 02, K9): the start of every sixteenth item, by which a route is found without reading all before it.
 ghost use mathlib.Core.Path.{_≡_};
-ghost use Prim.Native.Nat.{_≤_, _<_};
-ghost use lib.ListN.{length, drop};
+ghost use Prim.Native.Nat.{_+_, _≤_, _<_};
+ghost use lib.ListN.{length, getD, drop};
 ghost use Rattle.wire.specs.Refusal.{listLimit};
 ghost use Rattle.wire.specs.Store.{laid};
-ghost use Rattle.families.specs.Family.{maxOf};
+ghost use Rattle.families.specs.Family.{maxOf, idSize};
+ghost use Rattle.families.specs.Octets.{entry};
 ghost use Rattle.routes.specs.List.{upTo, fixed, stepBy};
 ghost use Rattle.routes.specs.ByTable.{byTable};
 ghost use Rattle.routes.specs.Promises.{sized};
 ghost use Rattle.routes.specs.declared.StepAnswer.the-variants as Step;
 ghost use Rattle.route_index.specs.Index.{indexBy, isIndex, refusedRoute, routeBy};
-ghost use Rattle.route_index.specs.Private.{skipped, Passes, Fitting, indexFault};
+ghost use Rattle.route_index.specs.Private.{skipped, Passes, Remain, Fitting, indexFault};
+ghost use Rattle.route_index.specs.declared.PlaceAnswer.the-variants as Place;
 ghost use Rattle.route_index.specs.Promises.{countIndex, buildIndex, indexAfter, placesIn};
 use families::AddPath;
 use families::Afi;
@@ -67,10 +69,11 @@ fn pass_alike(
     ensures { λ r. ⌜ Passes (byTable (now (counts .entry))) form (now (s .entry)) most from (r .left) (r .at) ⌝ }
 {
     let n = used - families::id_size(form) - 1;
+    let last = s.len() - used;
     let mut at = from + used;
     let mut left = most - 1;
     while 0 < left {
-        if s.len() - at < used {
+        if last < at {
             return Passed { at, left };
         }
         if octets::after(counts, s[at + families::id_size(form)]) as usize != n {
@@ -129,24 +132,64 @@ fn count_places(s: &[u8], counts: &[u8; 256], form: Form) -> usize
     n
 }
 
-// Puts the places of a list that was counted.
-fn put_places(s: &[u8], counts: &[u8; 256], form: Form, places: &mut [u16])
+// The same of items that are known to be there, the first of n octets: nothing is judged again.
+fn pass_known_alike(
+    s: &[u8],
+    from: usize,
+    n: usize,
+    most: usize,
+    counts: &[u8; 256],
+    form: Form,
+) -> Passed
+    requires { ⌜ 0 < most ⌝ }
+    requires { ⌜ n ≡ entry (now counts) (getD (now s) (from + idSize form) 0) ⌝ }
+    requires { ⌜ Remain (byTable (now counts)) form (now s) most from ⌝ }
+    ensures passes { λ r. ⌜ Passes (byTable (now (counts .entry))) form (now (s .entry)) most from (r .left) (r .at) ⌝ }
+    ensures remain { λ r. ⌜ Remain (byTable (now (counts .entry))) form (now (s .entry)) (r .left) (r .at) ⌝ }
+{
+    let used = families::id_size(form) + 1 + n;
+    let mut at = from + used;
+    let mut left = most - 1;
+    while 0 < left {
+        if octets::after(counts, s[at + families::id_size(form)]) as usize != n {
+            return Passed { at, left };
+        }
+        at = at + used;
+        left = left - 1;
+    }
+    Passed { at, left }
+}
+
+// Passes over sixteen items that are known to be there.
+fn pass_known(s: &[u8], from: usize, counts: &[u8; 256], form: Form) -> usize
+    requires { ⌜ Remain (byTable (now counts)) form (now s) 16 from ⌝ }
+    ensures { λ r. ⌜ Place.At r ≡ skipped (byTable (now (counts .entry))) form (now (s .entry)) 16 from ⌝ }
+{
+    let mut at = from;
+    let mut left = SPACING;
+    while 0 < left {
+        let n = octets::after(counts, s[at + families::id_size(form)]) as usize;
+        let p = pass_known_alike(s, at, n, left, counts, form);
+        at = p.at;
+        left = p.left;
+    }
+    at
+}
+
+// Puts the n places of a list that was counted. All but the last have sixteen items after them.
+fn put_places(s: &[u8], counts: &[u8; 256], form: Form, n: usize, places: &mut [u16])
     requires { ⌜ length (now s) ≤ listLimit ⌝ }
     requires { ⌜ Fitting (byTable (now counts)) (now s) form (now places) ⌝ }
+    requires { ⌜ n ≡ length (indexBy (byTable (now counts)) (now s) form) ⌝ }
     ensures { λ _. ⌜ now (places .exit) ≡ laid (now (places .entry)) 0 (indexBy (byTable (now (counts .entry))) (now (s .entry)) form) ⌝ }
 {
     let mut at: usize = 0;
     let mut i: usize = 0;
-    while at < s.len() {
-        match pass_items(s, at, SPACING, counts, form) {
-            PlaceAnswer::At(next) => {
-                places[i] = at as u16;
-                i = i + 1;
-                at = next;
-            }
-            PlaceAnswer::Refused(_) => {
-                return;
-            }
+    while i < n {
+        places[i] = at as u16;
+        i = i + 1;
+        if i < n {
+            at = pass_known(s, at, counts, form);
         }
     }
 }
@@ -176,7 +219,7 @@ pub fn build_index(s: &[u8], afi: Afi, form: Form, places: &mut [u16]) -> IndexA
     if places.len() < n - refusal::PAST_ALL {
         return IndexAnswer::Refused(refusal::NO_ROOM);
     }
-    put_places(s, &counts, form, places);
+    put_places(s, &counts, form, n - refusal::PAST_ALL, places);
     IndexAnswer::Places(n - refusal::PAST_ALL)
 }
 

@@ -10,10 +10,10 @@ use Rattle.route_index.proofs.pass_alike.Statement.{statement}
 use Rattle.route_index.proofs.pass_alike.Tie as tie
 
 abbrev Inv-loop : tie.InvT-loop
-Inv-loop s from used most counts form n at₀ left₀ at left = Alike counts form s used n most from left at
+Inv-loop s from used most counts form n last at₀ left₀ at left = Alike counts form s used n most from left at
 
 abbrev μ-loop : tie.MeasureT-loop
-μ-loop s from used most counts form n at₀ left₀ at left = left
+μ-loop s from used most counts form n last at₀ left₀ at left = left
 
 id-size-requires : tie.Need-id-size-requires Inv-loop μ-loop
 id-size-requires c κs = search needs
@@ -33,6 +33,9 @@ sub-n c = omega (arith, start c .0)
 sub-n-2 : tie.Need-sub-n-2 Inv-loop μ-loop
 sub-n-2 c = omega (arith, start c .0)
 
+sub-last : tie.Need-sub-last Inv-loop μ-loop
+sub-last c = omega (arith, start c .1)
+
 add-at : tie.Need-add-at Inv-loop μ-loop
 add-at c = omega (arith, start c .1)
 
@@ -41,9 +44,6 @@ sub-left c = omega (arith, c .before .before .pre .0)
 
 loop-holds : tie.Need-loop-holds Inv-loop μ-loop
 loop-holds c = start c .2
-
-sub-if1 : tie.Need-sub-if1 Inv-loop μ-loop
-sub-if1 c = c .before .loop .inv .passes .within
 
 returns : tie.Need-returns Inv-loop μ-loop
 returns c = c .before .before .loop .inv .passes
@@ -106,10 +106,10 @@ pass-alike-spec =
     id-size-requires
     sub-n
     sub-n-2
+    sub-last
     add-at
     sub-left
     loop-holds
-    sub-if1
     returns
     id-size-requires-2
     add-after

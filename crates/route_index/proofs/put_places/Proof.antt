@@ -1,87 +1,81 @@
-use borrow.Author.Needs.{needs}
-use Prim.Native.Nat.{_+_, _-_, _<_}
+use Prim.Native.Nat.{_-_, _≤_, _<_}
 use native.Mathlib.Omega.{arith}
-use lib.ListN.{length, set}
-use mathlib.Core.Path.{sym, _∙_}
+use lib.ListN.{length}
 use Rattle.routes.specs.ByTable.{byTable}
 use Rattle.routes.proofs.TableLaws.{fair-table}
-use Rattle.route_index.proofs.IndexLaws.{Placing, placing-start, placing-long, placing-step, placing-never, placing-done}
+use Rattle.route_index.proofs.KnownLaws.{Putting, putting-start, putting-here, putting-last, putting-more, putting-next}
 use Rattle.route_index.proofs.put_places.Statement.{statement}
 use Rattle.route_index.proofs.put_places.Tie as tie
 
 abbrev Inv-loop : tie.InvT-loop
-Inv-loop s counts form places₀ at₀ i₀ places at i = Placing (byTable counts) form s places₀ at i places
+Inv-loop s counts form n places₀ at₀ i₀ places at i = Putting (byTable counts) form s places₀ n at i places
 
 abbrev μ-loop : tie.MeasureT-loop
-μ-loop s counts form places₀ at₀ i₀ places at i = length s - at
+μ-loop s counts form n places₀ at₀ i₀ places at i = n - i
 
 loop-holds : tie.Need-loop-holds Inv-loop μ-loop
-loop-holds c = let a = c .before .before .args in placing-start (byTable (a .counts .now)) (a .form) (a .s .now) (a .places .now) (c .before .before .pre .1)
+loop-holds c =
+    let g = c .before .before in
+    let a = g .args in
+    putting-start (byTable (a .counts .now)) (a .form) (a .s .now) (a .places .now) (g .pre .1 .0) (a .n) (g .pre .1 .1)
 
-pass-items-requires : tie.Need-pass-items-requires Inv-loop μ-loop
-pass-items-requires c κs = search needs
-
-enum-known-next : tie.Need-enum-known-next Inv-loop μ-loop
-enum-known-next c = search needs
-
--- the block that the turn passes
-turn : (c : tie.After-known-told Inv-loop μ-loop) →
-    let l = c .before .before .before .before .before in
-    let a = l .before .before .before .args in
-    let next = c .before .next .given .0 .0 in
-    (l .loop .at < next) × (l .loop .i < length (l .loop .places)) × Placing (byTable (a .counts .now)) (a .form) (a .s .now) (a .places .now) next (l .loop .i + 1) (set (l .loop .places) (l .loop .i) (l .loop .at))
-turn c =
-    let l = c .before .before .before .before .before in
+-- the place that the turn puts
+here : (c : tie.In-loop Inv-loop μ-loop) →
+    let l = c .before in
+    (l .loop .i < length (l .loop .places)) × (l .loop .at < length (l .before .before .before .args .s .now)) × (l .loop .i ≤ l .loop .at)
+here c =
+    let l = c .before in
     let g = l .before .before .before in
     let a = g .args in
-    placing-step (byTable (a .counts .now)) (a .form) (a .s .now) (a .places .now) (g .pre .1) (fair-table (a .counts .now)) (l .loop .at) (l .loop .i) (l .loop .places) (l .loop .inv) (c .before .next .given .0 .0)
-    (omega (arith, c .before .before .before .before .loop-test .taken)) (sym (c .before .before .before .pass-items .ensures) ∙ c .before .next .given .1)
+    putting-here (byTable (a .counts .now)) (a .form) (a .s .now) (a .places .now) (g .pre .1 .0) (a .n) (g .pre .1 .1) (fair-table (a .counts .now)) (l .loop .at) (l .loop .i) (l .loop .places) (l .loop .inv) (omega (arith, c .loop-test .taken))
 
 cast-places : tie.Need-cast-places Inv-loop μ-loop
-cast-places c = omega (arith, c .before .before .before .before .loop-test .taken, turn c .2 .within, c .before .before .before .before .before .before .before .before .pre .0)
+cast-places c = omega (arith, here c .1, c .before .before .before .before .pre .0)
 
 mul-places : tie.Need-mul-places Inv-loop μ-loop
-mul-places c = omega (arith, c .before .before .before .before .before .loop .inv .few, c .before .before .before .before .before .loop .inv .within, c .before .before .before .before .before .before .before .before .pre .0)
+mul-places c = omega (arith, here c .1, here c .2, c .before .before .before .before .pre .0)
 
 slice-write-places : tie.Need-slice-write-places Inv-loop μ-loop
-slice-write-places c = turn c .1
+slice-write-places c = here c .0
 
 add-i : tie.Need-add-i Inv-loop μ-loop
-add-i c = omega (arith, c .before .before .before .before .before .loop .inv .few, c .before .before .before .before .before .loop .inv .within, c .before .before .before .before .before .before .before .before .pre .0)
+add-i c = omega (arith, here c .1, here c .2, c .before .before .before .before .pre .0)
+
+pass-known-requires : tie.Need-pass-known-requires Inv-loop μ-loop
+pass-known-requires c κs =
+    let l = c .before .before in
+    let g = l .before .before .before in
+    let a = g .args in
+    putting-more (byTable (a .counts .now)) (a .form) (a .s .now) (a .places .now) (g .pre .1 .0) (a .n) (g .pre .1 .1) (fair-table (a .counts .now)) (l .loop .at) (l .loop .i) (l .loop .places) (l .loop .inv) (omega (arith, c .before .loop-test .taken))
+    (omega (arith, c .if1 .taken))
 
 loop-less : tie.Need-loop-less Inv-loop μ-loop
-loop-less c = omega (arith, turn c .0, turn c .2 .within)
+loop-less c = omega (arith, c .before .before .loop-test .taken)
 
 loop-again : tie.Need-loop-again Inv-loop μ-loop
-loop-again c = turn c .2
+loop-again c =
+    let l = c .before .before .before in
+    let g = l .before .before .before in
+    let a = g .args in
+    putting-next (byTable (a .counts .now)) (a .form) (a .s .now) (a .places .now) (g .pre .1 .0) (a .n) (g .pre .1 .1) (fair-table (a .counts .now)) (l .loop .at) (l .loop .i) (l .loop .places) (l .loop .inv) (omega (arith, c .before .before .loop-test .taken))
+    (omega (arith, c .before .if1 .taken)) _ (c .pass-known .ensures)
 
-enum-told : tie.Need-enum-told Inv-loop μ-loop
-enum-told c = search needs
+loop-less-2 : tie.Need-loop-less-2 Inv-loop μ-loop
+loop-less-2 c = omega (arith, c .before .loop-test .taken)
+
+loop-again-2 : tie.Need-loop-again-2 Inv-loop μ-loop
+loop-again-2 c =
+    let l = c .before .before in
+    let g = l .before .before .before in
+    let a = g .args in
+    putting-last (byTable (a .counts .now)) (a .form) (a .s .now) (a .places .now) (g .pre .1 .0) (a .n) (g .pre .1 .1) (fair-table (a .counts .now)) (l .loop .at) (l .loop .i) (l .loop .places) (l .loop .inv) (omega (arith, c .before .loop-test .taken))
+    (omega (arith, c .if1 .left))
 
 same-length : tie.Need-same-length Inv-loop μ-loop
-same-length c =
-    let l = c .before .before .before .before in
-    let g = l .before .before .before in
-    placing-long (byTable (g .args .counts .now)) (g .args .form) (g .args .s .now) (g .args .places .now) (g .pre .1) (fair-table (g .args .counts .now)) (l .loop .at) (l .loop .i) (l .loop .places) (l .loop .inv)
+same-length c = c .before .loop .inv .long
 
 returns : tie.Need-returns Inv-loop μ-loop
-returns c =
-    let l = c .before .before .before .before in
-    let g = l .before .before .before in
-    absurd (placing-never (byTable (g .args .counts .now)) (g .args .form) (g .args .s .now) (g .args .places .now) (g .pre .1) (fair-table (g .args .counts .now)) (l .loop .at) (l .loop .i) (l .loop .places) (l .loop .inv)
-    (c .enum-told .given .0 .0) (sym (c .before .before .pass-items .ensures) ∙ c .enum-told .given .1))
-
-same-length-2 : tie.Need-same-length-2 Inv-loop μ-loop
-same-length-2 c =
-    let l = c .before in
-    let g = l .before .before .before in
-    placing-long (byTable (g .args .counts .now)) (g .args .form) (g .args .s .now) (g .args .places .now) (g .pre .1) (fair-table (g .args .counts .now)) (l .loop .at) (l .loop .i) (l .loop .places) (l .loop .inv)
-
-returns-2 : tie.Need-returns-2 Inv-loop μ-loop
-returns-2 c =
-    let l = c .before in
-    let g = l .before .before .before in
-    placing-done (byTable (g .args .counts .now)) (g .args .form) (g .args .s .now) (g .args .places .now) (g .pre .1) (fair-table (g .args .counts .now)) (l .loop .at) (l .loop .i) (l .loop .places) (l .loop .inv) (omega (arith, c .loop-test .left))
+returns c = c .before .loop .inv .done (omega (arith, c .loop-test .left))
 
 pub put-places-spec : {M : Type 1} → statement M
 put-places-spec =
@@ -90,16 +84,14 @@ put-places-spec =
     Inv-loop
     μ-loop
     loop-holds
-    pass-items-requires
-    enum-known-next
     cast-places
     mul-places
     slice-write-places
     add-i
+    pass-known-requires
     loop-less
     loop-again
-    enum-told
+    loop-less-2
+    loop-again-2
     same-length
-    returns
-    same-length-2
-    returns-2)
+    returns)
