@@ -14,7 +14,6 @@ ghost use Rattle.route_index.specs.Index.{indexBy, isIndex, refusedRoute
 ghost use Rattle.route_index.specs.Private.{skipped, Passes, Remain, Fitting, indexFault};
 ghost use Rattle.route_index.specs.declared.PlaceAnswer.the-variants as Place;
 ghost use Rattle.route_index.specs.Promises.{countIndex, buildIndex, indexAfter, placesIn};
-use families::AddPath;
 use families::Afi;
 use families::Form;
 use families::octets;
@@ -44,18 +43,8 @@ struct Passed {
     left: usize,
 }
 
-// The setting under which every item stands in a form.
-fn fixed_mode(form: Form) -> AddPath
-    ensures { λ r. ⌜ r ≡ fixed form ⌝ }
-{
-    match form {
-        Form::Plain => AddPath::Off,
-        Form::Tagged => AddPath::On,
-    }
-}
-
 // Passes over the item of `used` bytes at a place and those after it that are as long, `most` at the most. While they are, the next place waits for no byte
-// of the list: the processor goes on ahead of the tests.
+// of the list: the processor goes on ahead of the tests. One test tells that an item is all there and not one too many.
 fn pass_alike(
     s: &[u8],
     from: usize,
@@ -64,29 +53,34 @@ fn pass_alike(
     counts: &[u8; 256],
     form: Form,
 ) -> Passed
-    requires { ⌜ 0 < most ⌝ }
+    requires { ⌜ (0 < most) × (most ≤ 16) ⌝ }
+    requires { ⌜ length (now s) ≤ listLimit ⌝ }
     requires { ⌜ Step.Item used form ≡ sized (stepBy (byTable (now counts)) (fixed form) form (drop from (now s))) ⌝ }
     ensures { λ r. ⌜ Passes (byTable (now (counts .entry))) form (now (s .entry)) most from (r .left) (r .at) ⌝ }
 {
     let n = used - families::id_size(form) - 1;
-    let last = s.len() - used;
+    let last = wire::least(s.len(), from + most * used) - used;
     let mut at = from + used;
-    let mut left = most - 1;
-    while 0 < left {
-        if last < at {
-            return Passed { at, left };
-        }
+    let mut passed: usize = 1;
+    while at <= last {
         if octets::after(counts, s[at + families::id_size(form)]) as usize != n {
-            return Passed { at, left };
+            return Passed {
+                at,
+                left: most - passed,
+            };
         }
         at = at + used;
-        left = left - 1;
+        passed = passed + 1;
     }
-    Passed { at, left }
+    Passed {
+        at,
+        left: most - passed,
+    }
 }
 
 // Passes over n items from a place on, or over all where there are fewer.
 fn pass_items(s: &[u8], from: usize, n: usize, counts: &[u8; 256], form: Form) -> PlaceAnswer
+    requires { ⌜ (n ≤ 16) × (length (now s) ≤ listLimit) ⌝ }
     ensures { λ r. ⌜ r ≡ skipped (byTable (now (counts .entry))) form (now (s .entry)) n from ⌝ }
 {
     let mut at = from;
@@ -95,7 +89,7 @@ fn pass_items(s: &[u8], from: usize, n: usize, counts: &[u8; 256], form: Form) -
         if s.len() <= at {
             return PlaceAnswer::At(at);
         }
-        match routes::item_step(s, at, counts, fixed_mode(form), form) {
+        match routes::form_size(&s[at..], counts, form) {
             StepAnswer::Item { used, form: _ } => {
                 let p = pass_alike(s, at, used, left, counts, form);
                 at = p.at;
@@ -256,6 +250,7 @@ fn index_fault(other: bool, lacking: bool) -> u8
 
 // Where n items of a family from a place on end. The table is made here, so that its room on the stack is free again for the route's own.
 fn place_from(s: &[u8], from: usize, n: usize, afi: Afi, form: Form) -> PlaceAnswer
+    requires { ⌜ (n ≤ 16) × (length (now s) ≤ listLimit) ⌝ }
     ensures { λ r. ⌜ r ≡ skipped (upTo (maxOf afi)) form (now (s .entry)) n from ⌝ }
 {
     let counts = octets::counts(afi);

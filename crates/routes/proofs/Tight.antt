@@ -2,6 +2,7 @@
 use mathlib.Core.Path.{_≡_, sym, _∙_}
 use Rattle.routes.proofs.ListLaws.{one-number}
 use Rattle.routes.proofs.try_parse_prefix.Reads as try_parse_prefix
+use Rattle.routes.proofs.form_size.Reads as form_size
 use Rattle.routes.proofs.item_step.Reads as item_step
 use Rattle.routes.proofs.count_nlri_list.Reads as count_nlri_list
 use Rattle.routes.proofs.is_strange.Reads as is_strange
@@ -14,6 +15,9 @@ use Rattle.routes.proofs.counted.Reads as counted
 
 pub tight-try-parse-prefix : (κs : _) (a : _) (z z′ : _) (e e′ : _) → try_parse_prefix.Learnt κs a z e → try_parse_prefix.Learnt κs a z′ e′ → z ≡ z′
 tight-try-parse-prefix κs a z z′ e e′ p q = p ∙ sym q
+
+pub tight-form-size : (κs : _) (a : _) (z z′ : _) (e e′ : _) → form_size.Learnt κs a z e → form_size.Learnt κs a z′ e′ → z ≡ z′
+tight-form-size κs a z z′ e e′ p q = p ∙ sym q
 
 pub tight-item-step : (κs : _) (a : _) (z z′ : _) (e e′ : _) → item_step.Learnt κs a z e → item_step.Learnt κs a z′ e′ → z ≡ z′
 tight-item-step κs a z z′ e e′ p q = p ∙ sym q

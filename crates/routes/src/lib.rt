@@ -230,7 +230,7 @@ fn guess_at(s: &[u8], n: usize, counts: &[u8; 256], form: Form) -> StepAnswer
 }
 
 // A step in one form.
-fn form_size(s: &[u8], counts: &[u8; 256], form: Form) -> StepAnswer
+pub fn form_size(s: &[u8], counts: &[u8; 256], form: Form) -> StepAnswer
     ensures { λ r. ⌜ r ≡ sized (stepBy (byTable (now (counts .entry))) (fixed form) form (now (s .entry))) ⌝ }
 {
     keep_size(front_size(s, counts, form), form)
