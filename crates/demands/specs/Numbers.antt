@@ -64,7 +64,7 @@ use Rattle.slot_table.specs.Line.{digits, fieldsText, sectionText, entryOf, ent
 use Rattle.slot_table.specs.Table.{linesOf, endingText}
 use Rattle.slot_table.specs.declared.Ending.the-variants as Ending
 use Rattle.words.specs.Word.{fields, inFields, wordOf}
-use Rattle.firmware.specs.Fields.{messageFields, updateFields, hostFields, reachFields, clearedFields, slotFields, attributeFields, versionFields, aggregatorSize, rowWords, pairWords, keptLimit, bodyRows}
+use Rattle.firmware.specs.Fields.{messageFields, updateFields, hostFields, reachFields, clearedFields, slotFields, attributeFields, versionFields, aggregatorSize, rowWords, indexSpacing, indexPlaces, pairWords, keptLimit, bodyRows}
 use Rattle.messages.specs.declared.Edition.{Edition}
 use Rattle.messages.specs.declared.Edition.the-variants.{Rfc4271, Rfc8654}
 use Rattle.messages.specs.declared.MessageAnswer.the-variants.{Message}
@@ -1211,6 +1211,9 @@ indexes =
     ∷ line (indexPlace Plain (zeros 33) 2) 32
     ∷ line (indexPlace Plain (8 ∷ 10 ∷ zeros 16) 1) 17
     ∷ line (indexPlace Tagged (zeros 85) 1) 80
+    -- sixteen items apart; the most places, which are those of the longest list of the shortest items
+    ∷ line indexSpacing 16
+    ∷ line indexPlaces 4096
     -- the list's refusals, and no rule of one byte; then 11
     ∷ line (builtPlaces (zeros 65536) 0) 1000
     ∷ line (builtPlaces (8 ∷ []) 0) 2000

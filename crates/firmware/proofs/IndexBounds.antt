@@ -11,25 +11,26 @@ use lib.Dec.{leb, ltb}
 use Rattle.wire.specs.Answer.{valueIn}
 use Rattle.wire.specs.Refusal.{tooLong, noRoom, notAnIndex, noSuchRoute, listLimit}
 use Rattle.wire.specs.Store.{laid}
-use Rattle.wire.specs.Walk.{notes, starts}
+use Rattle.wire.specs.Walk.{notes}
 use Rattle.wire.proofs.ChoiceLaws.{pick-any, pick-leb}
-use Rattle.wire.proofs.WalkLaws.{noted-alike, starts-length}
+use Rattle.wire.proofs.WalkLaws.{noted-alike}
 use Rattle.families.specs.declared.Form.{Form}
 use Rattle.families.specs.declared.Form.the-variants.{Plain}
 use Rattle.routes.specs.Prefix.{words, withHost, routeMeaning}
 use Rattle.routes.specs.List.{upTo, fixed, stepOf, listBy, listOf}
 use Rattle.routes.specs.Promises.{countAnswer}
-use Rattle.routes.proofs.ListLaws.{sound}
+use Rattle.routes.proofs.ListLaws.{fair, sound}
 use Rattle.routes.proofs.PrefixLaws.{prefix-cases}
 use Rattle.routes.specs.declared.Row.{Row}
 use Rattle.routes.specs.declared.PrefixAnswer.the-variants as P
 use Rattle.routes.specs.declared.ListAnswer.{ListAnswer}
 use Rattle.routes.specs.declared.ListAnswer.the-variants as L
 use Rattle.routes.specs.declared.RouteAnswer.{RouteAnswer}
-use Rattle.route_index.specs.Index.{sixteenths, itemsBy, indexBy, isIndex, refusedRoute, pastItem, unlessNone, routeFrom, routeBy}
+use Rattle.route_index.specs.Index.{itemsBy, indexBy, isIndex, refusedRoute, pastItem, unlessNone, routeFrom, routeBy}
 use Rattle.route_index.specs.Promises.{indexMeaning, placesFor, countIndex, roomFor, buildIndex}
 use Rattle.route_index.specs.declared.IndexAnswer.{IndexAnswer}
 use Rattle.route_index.specs.declared.IndexAnswer.the-variants as I
+use Rattle.route_index.proofs.OwnLaws.{own-length}
 use Rattle.words.specs.Word.{fields, inFields, wordOf, Narrow}
 use Rattle.words.proofs.FlagLaws.{flag-byte}
 use Rattle.words.proofs.WordLaws.{refused-narrow, number-narrow}
@@ -39,21 +40,13 @@ use Rattle.firmware.proofs.ListBounds.{list-modest}
 
 -- ---- an index
 
--- one of sixteen, and one for what is left over
-sixteenths-few : (skip : ℕ) (ps : List ℕ) → skip ≤ 15 → 16 * length (sixteenths skip ps) + skip ≤ length ps + 15
-unfolding sixteenths
-sixteenths-few skip [] h = omega (arith, h)
-sixteenths-few zero (p ∷ ps) h = omega (arith, sixteenths-few 15 ps (omega arith))
-sixteenths-few (suc skip) (p ∷ ps) h = omega (arith, sixteenths-few skip ps (omega (arith, h)))
-
 module _ (s : List ℕ) (max : ℕ) (form : Form) where
   items-few : length (itemsBy (upTo max) s form) ≤ length s
   unfolding notes listBy
   items-few = omega (arith, noted-alike (λ _ item. item) (stepOf max (fixed form)) (sound max (fixed form)) Plain s .1, list-modest s max (fixed form) .few)
 
   index-few : 16 * length (indexBy (upTo max) s form) ≤ length s + 15
-  unfolding indexBy
-  index-few = omega (arith, sixteenths-few 0 (starts 0 (itemsBy (upTo max) s form)) (omega arith), starts-length 0 (itemsBy (upTo max) s form), items-few)
+  index-few = omega (arith, own-length (upTo max) (fair max) form s, items-few)
 
   -- what counting tells
   pub count-few : valueIn 0 (indexMeaning (countIndex (upTo max) s form)) ≤ indexPlaces

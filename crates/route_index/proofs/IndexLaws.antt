@@ -1,6 +1,6 @@
 -- Laws of an index: what passing over sixteen items makes of the places that are still to come; the loops that count and put them.
 -- Assumes nothing.
-use Prim.Native.Nat.{ℕ, zero, suc, _+_, _-_, _≤_, _<_}
+use Prim.Native.Nat.{ℕ, zero, suc, _+_, _-_, _/_, _≤_, _<_}
 use mathlib.Core.Path.{_≡_, refl, sym, ap, ap₂, _∙_}
 use mathlib.Core.List.{List, [], _∷_}
 use native.Mathlib.Omega.{arith}
@@ -37,6 +37,13 @@ use Rattle.route_index.specs.declared.PlaceAnswer.{PlaceAnswer}
 use Rattle.route_index.specs.declared.PlaceAnswer.the-variants.{At, Refused}
 use Rattle.route_index.specs.declared.IndexAnswer.{IndexAnswer}
 use Rattle.route_index.specs.declared.IndexAnswer.the-variants as I
+
+-- one of sixteen, and one for what is left over
+pub sixteenths-length : (skip : ℕ) (l : List ℕ) → skip ≤ 15 → length (sixteenths skip l) ≡ (length l + 15 - skip) / 16
+unfolding sixteenths
+sixteenths-length skip [] le = omega arith
+sixteenths-length zero (p ∷ ps) le = omega (arith, sixteenths-length 15 ps (omega arith))
+sixteenths-length (suc skip) (p ∷ ps) le = omega (arith, sixteenths-length skip ps (omega arith))
 
 module _ (read : Reader) (form : Form) where
   abbrev pub step : Form → List ℕ → Step Form Row

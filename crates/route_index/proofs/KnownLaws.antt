@@ -1,6 +1,6 @@
 -- Laws of passing over items that are known to be there: from a list that was counted, sixteen for each place but the last.
 -- Assumes nothing.
-use Prim.Native.Nat.{ℕ, zero, suc, _+_, _-_, _*_, _≤_, _<_}
+use Prim.Native.Nat.{ℕ, suc, _+_, _-_, _*_, _≤_, _<_}
 use mathlib.Core.Path.{_≡_, refl, sym, ap, _∙_}
 use mathlib.Core.List.{List, [], _∷_}
 use native.Mathlib.Nat.{lt-of-not-le}
@@ -26,7 +26,7 @@ use Rattle.route_index.specs.Index.{sixteenths, indexBy}
 use Rattle.route_index.specs.Private.{skipped, Passes, Remain, Fitting}
 use Rattle.route_index.specs.declared.PlaceAnswer.the-variants.{At}
 use Rattle.route_index.proofs.SkipLaws.{skip-took}
-use Rattle.route_index.proofs.IndexLaws.{itemsFrom, placesFrom, verdictFrom, step, step-stops, index-is, item-took, block-took, Placing, placing-start, placing-step}
+use Rattle.route_index.proofs.IndexLaws.{sixteenths-length, itemsFrom, placesFrom, verdictFrom, step, step-stops, index-is, item-took, block-took, Placing, placing-start, placing-step}
 
 -- ---- one item of those that remain
 
@@ -96,13 +96,6 @@ module _ (counts : List ℕ) (form : Form) (s : List ℕ) (k n most from : ℕ) 
 
 -- ---- the loop that puts
 
--- one of sixteen, and one for what is left over
-pub sixteenths-few : (skip : ℕ) (ps : List ℕ) → skip ≤ 15 → 16 * length (sixteenths skip ps) + skip ≤ length ps + 15
-unfolding sixteenths
-sixteenths-few skip [] h = omega (arith, h)
-sixteenths-few zero (p ∷ ps) h = omega (arith, sixteenths-few 15 ps (omega arith))
-sixteenths-few (suc skip) (p ∷ ps) h = omega (arith, sixteenths-few skip ps (omega (arith, h)))
-
 nothing : (l : List ℕ) → length l ≡ 0 → l ≡ []
 nothing [] e = refl
 nothing (x ∷ l) e = absurd (omega (arith, e))
@@ -112,7 +105,7 @@ module _ (read : Reader) (form : Form) (s : List ℕ) (at : ℕ) (good : verdict
   pub many-items : (n : ℕ) → n + 15 ≤ 16 * length (placesFrom read form s at) → Remain read form s n at
   many-items n h = record {
     good = good;
-    many = omega (arith, h, sixteenths-few 0 (starts at (itemsFrom read form (drop at s))) (omega arith), starts-length at (itemsFrom read form (drop at s)));
+    many = omega (arith, h, sixteenths-length 0 (starts at (itemsFrom read form (drop at s))) (omega arith), starts-length at (itemsFrom read form (drop at s)));
   }
 
   -- the first place is where they start

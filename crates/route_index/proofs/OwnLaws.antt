@@ -1,6 +1,6 @@
 -- Laws of a list's own index: it is taken, its places are the starts of items, and what is found by it are the list's routes; and what is found from any place.
 -- Assumes nothing.
-use Prim.Native.Nat.{ℕ, zero, suc, _+_, _-_, _*_, _/_, _%_, _≤_, _<_}
+use Prim.Native.Nat.{ℕ, zero, suc, _+_, _*_, _/_, _%_, _≤_, _<_}
 use mathlib.Core.Path.{_≡_, refl, sym, ap, ap₂, _∙_}
 use mathlib.Core.List.{List, [], _∷_, map}
 use mathlib.Core.Bool.{Bool, true}
@@ -30,18 +30,12 @@ use Rattle.routes.specs.declared.ListAnswer.the-variants as L
 use Rattle.routes.proofs.ListLaws.{Fair, fixed-step, list-fixed, sound-by, count-rows}
 use Rattle.route_index.specs.Index.{sixteenths, itemsBy, indexBy, rising, isIndex, refusedRoute, pastItem, routeFrom, itemRoute, routeBy}
 use Rattle.route_index.proofs.AskLaws.{unless-some}
-use Rattle.route_index.proofs.IndexLaws.{itemsFrom, items-fixed, index-is, step-took, step-stops, count-fits}
+use Rattle.route_index.proofs.IndexLaws.{sixteenths-length, itemsFrom, items-fixed, index-is, step-took, step-stops, count-fits}
 use Rattle.route_index.specs.Promises.{indexMeaning, placesFor, countIndex, roomFor, buildIndex, indexAfter}
 use Rattle.route_index.specs.declared.IndexAnswer.{IndexAnswer}
 use Rattle.route_index.specs.declared.IndexAnswer.the-variants as I
 
 -- ---- every sixteenth of a list
-
-pub sixteenths-length : (skip : ℕ) (l : List ℕ) → skip ≤ 15 → length (sixteenths skip l) ≡ (length l + 15 - skip) / 16
-unfolding sixteenths
-sixteenths-length skip [] le = omega arith
-sixteenths-length zero (p ∷ ps) le = omega (arith, sixteenths-length 15 ps (omega arith))
-sixteenths-length (suc skip) (p ∷ ps) le = omega (arith, sixteenths-length skip ps (omega arith))
 
 pub sixteenths-at : (skip i : ℕ) (l : List ℕ) → getD (sixteenths skip l) i 0 ≡ getD l (skip + 16 * i) 0
 unfolding sixteenths
