@@ -53,7 +53,7 @@ start c =
     (alike-start (g .args .counts .now) (g .args .form) (g .args .s .now) (g .args .from) (g .args .used) (g .args .most) (g .pre .0 .0) (g .pre .1 .1) (c .least .result) (c .least .ensures))
 
 sub-last : tie.Need-sub-last Inv-loop μ-loop
-sub-last c = start c .0
+sub-last c = omega (arith, start c .0)
 
 add-at : tie.Need-add-at Inv-loop μ-loop
 add-at c = omega (arith, first (c .before) .1, c .before .before .before .pre .1 .0)
