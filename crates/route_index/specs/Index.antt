@@ -27,6 +27,7 @@ sixteenths (suc skip) (p ∷ ps) = sixteenths skip ps
 abbrev pub itemsBy : Reader → List ℕ → Form → List (List ℕ)
 itemsBy read s form = pieces (stepBy read (fixed form)) Plain s
 
+-- where every sixteenth of them starts, from the first
 unfoldable pub indexBy : Reader → List ℕ → Form → List ℕ
 indexBy read s form = sixteenths 0 (starts 0 (itemsBy read s form))
 
