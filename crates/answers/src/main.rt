@@ -16,7 +16,7 @@ mod writes;
 const WAITING_LIMIT: usize = 64000;
 
 // Where the run is: the bytes in hand are input[start..have], the output that waits is out[..at].
-#[derive(Drop)]
+#[derive(Clone, Copy)]
 struct State {
     start: usize,
     have: usize,

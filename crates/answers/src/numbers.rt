@@ -12,7 +12,7 @@ use updates::{PartsAnswer, UpdateAnswer};
 use wire::WriteAnswer;
 
 // The first `count` of the values.
-#[derive(Drop)]
+#[derive(Clone, Copy)]
 pub struct Numbers {
     pub count: usize,
     pub values: [usize; 9],

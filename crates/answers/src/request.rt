@@ -17,7 +17,7 @@ const LAST_OP: u8 = 30;
 const SETTINGS_LIMIT: u8 = 63;
 
 // What stands before the three parts: op, settings, the places lent in two stores, the lengths of the parts, an argument.
-#[derive(Drop)]
+#[derive(Clone, Copy)]
 pub struct Head {
     pub op: u8,
     pub settings: u8,
@@ -30,7 +30,7 @@ pub struct Head {
 }
 
 // The bytes in hand: a whole record of so many bytes, too few to say, a record that is not given, or the end.
-#[derive(Drop)]
+#[derive(Clone, Copy)]
 pub enum Judged {
     Whole(usize),
     More,

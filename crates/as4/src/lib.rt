@@ -32,7 +32,7 @@ const AS_SET: u8 = 1;
 const CONFED_SEQUENCE: u8 = 3;
 
 // Which of two AGGREGATORs stands, or a refusal number.
-#[derive(Drop)]
+#[derive(Clone, Copy)]
 pub enum StandingAnswer {
     Aggregator,
     As4Aggregator,
@@ -120,7 +120,7 @@ fn ignores_as4_path(aggregator: &[u8], as4_aggregator: &[u8]) -> bool
 }
 
 // What a path counts, and how many segments and numbers it has without those of confederations; or a refusal number.
-#[derive(Drop)]
+#[derive(Clone, Copy)]
 enum WeighAnswer {
     Weight {
         route_len: usize,
@@ -132,7 +132,7 @@ enum WeighAnswer {
 
 // The leading part of an AS_PATH: where its whole segments end, how many numbers of a split sequence follow, 0 for none, and how many segments and numbers
 // stand before that.
-#[derive(Drop)]
+#[derive(Clone, Copy)]
 struct Leading {
     end: usize,
     split: usize,
@@ -141,7 +141,7 @@ struct Leading {
 }
 
 // What a path is built of: AS_PATH alone; or its leading part and AS4_PATH, with so many segments and numbers together; or a refusal number.
-#[derive(Drop)]
+#[derive(Clone, Copy)]
 enum Plan {
     Alone,
     Built {

@@ -8,14 +8,14 @@ ghost use Rattle.asns.specs.Aggregator.{unlike, aggregator_of, aggregator_writte
 use wire::{WriteAnswer, refusal};
 
 // The width of AS numbers: two bytes, or four.
-#[derive(Drop)]
+#[derive(Clone, Copy)]
 pub enum AsnLength {
     Bits16,
     Bits32,
 }
 
 // An AGGREGATOR, with a flag where its width is not the configured one, or a refusal number.
-#[derive(Drop)]
+#[derive(Clone, Copy)]
 pub enum AggregatorAnswer {
     Aggregator {
         asn: u32,

@@ -23,7 +23,7 @@ const LONG_HEAD: usize = 4;
 
 // An attribute: its flags and type, where its value starts, the value's length, and where the next attribute stands; that there is none; or a
 // refusal number.
-#[derive(Drop)]
+#[derive(Clone, Copy)]
 pub enum AttributeAnswer {
     Attribute {
         flags: u8,
@@ -37,7 +37,7 @@ pub enum AttributeAnswer {
 }
 
 // What stands at the front of a section: an attribute, with where its value starts and where it ends, or not all of one.
-#[derive(Drop)]
+#[derive(Clone, Copy)]
 enum FrontAnswer {
     Whole {
         flags: u8,

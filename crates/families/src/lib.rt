@@ -6,21 +6,21 @@ ghost use Rattle.families.specs.Family.{id_size, mark_of, guess_mark, octets, mo
 pub mod octets;
 
 // The family of a route.
-#[derive(Drop)]
+#[derive(Clone, Copy)]
 pub enum Afi {
     Ipv4,
     Ipv6,
 }
 
 // How an item stands: Plain without a path id, Tagged with one. They are also the two states of the guess.
-#[derive(Drop)]
+#[derive(Clone, Copy)]
 pub enum Form {
     Plain,
     Tagged,
 }
 
 // The Add-Path setting of a list: off, on, or off with the guess.
-#[derive(Drop)]
+#[derive(Clone, Copy)]
 pub enum AddPath {
     Off,
     On,

@@ -32,7 +32,7 @@ pub const MESSAGE_LIMIT: usize = 4096;
 pub const EXTENDED_LIMIT: usize = 65535;
 
 // Which RFC a strict reading goes by: RFC 4271, where no message is over 4,096 bytes, or RFC 8654, where both ends agreed on long ones.
-#[derive(Drop)]
+#[derive(Clone, Copy)]
 pub enum Edition {
     Rfc4271,
     Rfc8654,
@@ -40,7 +40,7 @@ pub enum Edition {
 
 // A message: its type, the length it claims, the bytes taken with the header, and whether its marker is not all FF, it claims
 // more than there is, or less; or a refusal number.
-#[derive(Drop)]
+#[derive(Clone, Copy)]
 pub enum MessageAnswer {
     Message {
         kind: u8,

@@ -27,14 +27,14 @@ pub const NEXT_HOP_OFFSET: usize = 4;
 const RESERVED_SIZE: usize = 1;
 
 // What stands before the routes of MP_REACH_NLRI: the bytes of its next hop, and whether the reserved byte is not 0; or a refusal number.
-#[derive(Drop)]
+#[derive(Clone, Copy)]
 pub enum HeadAnswer {
     Head { next_hop: usize, reserved: bool },
     Refused(u8),
 }
 
 // MP_REACH_NLRI: the same, its rows, and how many of them have a bit set past their length.
-#[derive(Drop)]
+#[derive(Clone, Copy)]
 pub enum ReachAnswer {
     Reach {
         next_hop: usize,

@@ -17,21 +17,21 @@ const AS_SET: u32 = 1;
 const CONFED_SET: u32 = 4;
 
 // Which segments a path may have: the crate takes one of no numbers, the strict rule does not (RFC 7606 section 7.2).
-#[derive(Drop)]
+#[derive(Clone, Copy)]
 pub enum PathRule {
     Crate,
     Strict,
 }
 
 // A path: its segments and their numbers, or a refusal number.
-#[derive(Drop)]
+#[derive(Clone, Copy)]
 pub enum PathAnswer {
     Path { segments: usize, numbers: usize },
     Refused(u8),
 }
 
 // How many numbers a segment has, or a refusal number.
-#[derive(Drop)]
+#[derive(Clone, Copy)]
 pub enum SegmentAnswer {
     Numbers(u8),
     Refused(u8),

@@ -18,7 +18,7 @@ use routes::{PrefixAnswer, RouteAnswer, StepAnswer};
 use wire::refusal;
 
 // An index: how many places it has, or a refusal number.
-#[derive(Drop)]
+#[derive(Clone, Copy)]
 pub enum IndexAnswer {
     Places(usize),
     Refused(u8),
@@ -28,14 +28,14 @@ pub enum IndexAnswer {
 pub const SPACING: usize = 16;
 
 // A place of a list, or the refusal that stands before it.
-#[derive(Drop)]
+#[derive(Clone, Copy)]
 enum PlaceAnswer {
     At(usize),
     Refused(u8),
 }
 
 // A place, and how many items are still to be passed from there on.
-#[derive(Drop)]
+#[derive(Clone, Copy)]
 struct Passed {
     at: usize,
     left: usize,

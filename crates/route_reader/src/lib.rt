@@ -384,7 +384,7 @@ pub fn read_nlri(s: &[u8], afi: Afi, mode: AddPath, store: &mut [u32]) -> Routes
 }
 
 // Two sections, each with its rows or its own refusal number; or a refusal of both.
-#[derive(Drop)]
+#[derive(Clone, Copy)]
 pub enum PairAnswer {
     Sections {
         first: RoutesAnswer,

@@ -15,7 +15,7 @@ use families::{Afi, Form};
 use wire::{WriteAnswer, refusal};
 
 // The bytes of two lists that were written, or a refusal number.
-#[derive(Drop)]
+#[derive(Clone, Copy)]
 pub enum ListsAnswer {
     Lists { first: usize, second: usize },
     Refused(u8),
@@ -119,7 +119,7 @@ fn put_row_by_form(rows: &[u32], at: usize, form: Form, out: &mut [u8], to: usiz
 }
 
 // The next row, and the place of its bytes.
-#[derive(Drop)]
+#[derive(Clone, Copy)]
 struct Reached {
     at: usize,
     to: usize,

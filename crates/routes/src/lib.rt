@@ -14,7 +14,7 @@ use families::{AddPath, Afi, Form, octets};
 use wire::refusal;
 
 // A route as six words: length, plus 256 where there is an id; id or 0; four address words.
-#[derive(Drop)]
+#[derive(Clone, Copy)]
 pub struct Row {
     pub first: u32,
     pub id: u32,
@@ -25,28 +25,28 @@ pub struct Row {
 }
 
 // One route: the bytes it takes and its row, or a refusal number.
-#[derive(Drop)]
+#[derive(Clone, Copy)]
 pub enum PrefixAnswer {
     Prefix { used: usize, row: Row },
     Refused(u8),
 }
 
 // The same, and whether a bit past its length is set.
-#[derive(Drop)]
+#[derive(Clone, Copy)]
 pub struct RouteAnswer {
     pub prefix: PrefixAnswer,
     pub host: bool,
 }
 
 // A list: its rows, or a refusal number.
-#[derive(Drop)]
+#[derive(Clone, Copy)]
 pub enum ListAnswer {
     Rows(usize),
     Refused(u8),
 }
 
 // The same, and how many of the rows have a bit set past their length: 0 where it is refused.
-#[derive(Drop)]
+#[derive(Clone, Copy)]
 pub struct RoutesAnswer {
     pub list: ListAnswer,
     pub hosts: usize,
@@ -56,14 +56,14 @@ pub struct RoutesAnswer {
 pub const HOST_UNIT: usize = 65536;
 
 // How many bytes an item takes, or why it is refused.
-#[derive(Drop)]
+#[derive(Clone, Copy)]
 enum SizeAnswer {
     Size(usize),
     Refused(u8),
 }
 
 // A step of a list: the bytes its item takes and the form it stands in, or why it is refused.
-#[derive(Drop)]
+#[derive(Clone, Copy)]
 pub enum StepAnswer {
     Item { used: usize, form: Form },
     Refused(u8),

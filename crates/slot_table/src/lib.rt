@@ -26,7 +26,7 @@ const LINE_END: u8 = 0x0A;
 const SLASH: u8 = 0x2F;
 
 // Whether a message is all there and ends with the slot, claims more bytes than the slot has, or fewer.
-#[derive(Drop)]
+#[derive(Clone, Copy)]
 enum State {
     Whole,
     Cut,
@@ -35,7 +35,7 @@ enum State {
 
 // What a line says of a slot: a refusal number; an UPDATE with its two sections, and how many of their rows have a bit set past their length; or a message
 // of another type.
-#[derive(Drop)]
+#[derive(Clone, Copy)]
 enum Entry {
     Refused(u8),
     Other {
@@ -54,7 +54,7 @@ enum Entry {
 
 // What is to be done next with a block: write what was put and go on with what is left, read more after what is left, or end. The table is
 // whole then, or its last line is the one that ends it early.
-#[derive(Drop)]
+#[derive(Clone, Copy)]
 pub enum Then {
     Write,
     Read,
@@ -63,7 +63,7 @@ pub enum Then {
 }
 
 // How far a call came: the bytes of the block that it used, the bytes that it put, the number of the next record, and what is to be done next.
-#[derive(Drop)]
+#[derive(Clone, Copy)]
 pub struct Listed {
     pub used: usize,
     pub put: usize,
@@ -73,7 +73,7 @@ pub struct Listed {
 
 // How a table ended: whole; where a record of that number should stand and none does, at a byte of the input; where no more could be read
 // after so many bytes; or where it could not be written.
-#[derive(Drop)]
+#[derive(Clone, Copy)]
 pub enum Ending {
     Whole,
     Stop { nth: u64, byte: u64 },

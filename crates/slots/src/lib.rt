@@ -16,7 +16,7 @@ const SETTINGS_LIMIT: u8 = 3;
 
 // What stands at the front of the input: a record of so many kept bytes and its setting; too few bytes to tell, where more may come;
 // what is no record; or nothing at all, and no more will come.
-#[derive(Drop)]
+#[derive(Clone, Copy)]
 pub enum SlotAnswer {
     Slot { kept: usize, mode: AddPath },
     More,

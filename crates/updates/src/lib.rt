@@ -18,7 +18,7 @@ use wire::refusal;
 pub const LENGTH_SIZE: usize = 2;
 
 // The lengths of the three sections, or a refusal number.
-#[derive(Drop)]
+#[derive(Clone, Copy)]
 pub enum PartsAnswer {
     Parts {
         withdrawn: usize,
@@ -30,7 +30,7 @@ pub enum PartsAnswer {
 
 // The routes of both sections, each with its rows, and those that have a bit set past their length, or its own refusal number; or a refusal of the
 // UPDATE.
-#[derive(Drop)]
+#[derive(Clone, Copy)]
 pub enum UpdateAnswer {
     Update {
         withdrawn: RoutesAnswer,

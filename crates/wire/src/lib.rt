@@ -11,7 +11,7 @@ pub const LIST_LIMIT: usize = 65535;
 pub const BODY_LIMIT: usize = 65516;
 
 // What a writer answers: the bytes that it wrote, or a refusal number.
-#[derive(Drop)]
+#[derive(Clone, Copy)]
 pub enum WriteAnswer {
     Bytes(usize),
     Refused(u8),
