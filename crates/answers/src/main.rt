@@ -1,4 +1,6 @@
 // Reads request records from standard input, runs the call that each names, and writes a line for each to standard output.
+#![tactic(auto)]
+
 ghost use Rattle.std.specs.Prelude.{◌≡◌, length};
 
 use crate::numbers::Numbers;

@@ -1,5 +1,7 @@
 // Old AS numbers and new ones side by side (RFC 6793 section 4.2.3): which of two AGGREGATORs stands, and the path that AS_PATH, with numbers of two
 // bytes, and AS4_PATH, with numbers of four, make together.
+#![tactic(auto)]
+
 ghost use Rattle.std.specs.Prelude.{◌≡◌, ◌+◌, ◌≤◌, ◌<◌, [], ◌∷◌, ◌++◌, length, get_or, drop, leb};
 ghost use Rattle.wire.specs.Choice.{pick};
 ghost use Rattle.wire.specs.Extent.{PartOf};

@@ -1,5 +1,7 @@
 // AS numbers of two bytes or four (RFC 6793 section 4.1), and AGGREGATOR (RFC 4271 section 4.3): the widths, reads and writes that a path
 // and an AGGREGATOR share. The reading and the writer of attr_07_18_aggregator.rs.
+#![tactic(auto)]
+
 ghost use Rattle.std.specs.Prelude.{◌≡◌, length};
 ghost use Rattle.wire.specs.Number.{be_at};
 ghost use Rattle.asns.specs.Asn.{width_of, span, fits_width, with_number, eight_for};

@@ -1,5 +1,7 @@
 // The attribute section of an UPDATE (RFC 4271 section 4.3), attribute by attribute: the one at a place, and the first of a type (RFC 7606
 // section 3). No value is looked into.
+#![tactic(auto)]
+
 ghost use Rattle.std.specs.Prelude.{◌≡◌, ◌+◌, max, ◌≤◌, length, eqb};
 ghost use Rattle.wire.specs.Answer.{flag};
 ghost use Rattle.wire.specs.Choice.{pick};

@@ -1,4 +1,6 @@
 // Bytes copied to a place of an output, or moved to the front of where they stand: nothing changes where there is no room.
+#![tactic(auto)]
+
 ghost use Rattle.std.specs.Prelude.{◌≡◌, ◌+◌, ◌≤◌, length, take, drop};
 ghost use Rattle.wire.specs.Store.{laid, placed};
 ghost use Rattle.copies.specs.Front.{to_front};

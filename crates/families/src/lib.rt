@@ -1,5 +1,7 @@
 // The settings of a list of routes: the family, how an item stands, Add-Path; and the numbers that they fix (RFC 4271 section 4.3,
 // RFC 7911 section 3).
+#![tactic(auto)]
+
 ghost use Rattle.std.specs.Prelude.{◌≡◌};
 ghost use Rattle.families.specs.Family.{id_size, mark_of, guess_mark, octets, mode_of};
 

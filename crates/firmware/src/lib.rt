@@ -1,5 +1,7 @@
 // The calls of a drive's firmware, for C: numbers and slices in, one word of 64 bits out, and the rest in slices that the caller lends.
 // include/doorbramble.h declares them. They stand in modules, by what they read and write.
+#![tactic(auto)]
+
 ghost use Rattle.std.specs.Prelude.{◌≡◌};
 ghost use Rattle.wire.specs.Answer.{write_meaning};
 ghost use Rattle.words.specs.Word.{in_fields, word_of, Narrow};

@@ -1,5 +1,7 @@
 // Prints the table of the slot records on standard input, and tells on a descriptor of its own how the table ended. It reads, calls and writes:
 // slot_table says what is put and how far it came, copies keeps what is left.
+#![tactic(auto)]
+
 ghost use Rattle.std.specs.Prelude.{◌≡◌, ◌≤◌, length};
 
 use slot_table::{Ending, Then};

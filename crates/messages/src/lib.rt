@@ -1,4 +1,6 @@
 // Messages by their header (RFC 4271 section 4.1): the crate's reading of messages.rs, the strict one of RFC 4271 or RFC 8654, and the writer.
+#![tactic(auto)]
+
 ghost use Rattle.std.specs.Prelude.{◌≡◌, ◌+◌, ◌≤◌, [], ◌∷◌, length, drop, ltb};
 ghost use Rattle.wire.specs.Extent.{PartOf};
 ghost use Rattle.wire.specs.Number.{be, padded};

@@ -1,5 +1,7 @@
 // Runs the header and UPDATE examples of document 01, and headers that claim a long message, through the calls of messages, updates and
 // update_writer, and prints what they answer.
+#![tactic(auto)]
+
 use families::{AddPath, Form};
 use messages::{Edition, MessageAnswer};
 use routes::RoutesAnswer;

@@ -1,5 +1,7 @@
 // Goes from a message to its IPv6 routes: the body, its attributes, the search for MP_REACH_NLRI and MP_UNREACH_NLRI, and their readers; then writes what
 // was read again. Prints what each call answers.
+#![tactic(auto)]
+
 use attributes::{AttributeAnswer, kind};
 use families::{AddPath, Form};
 use mp_nlri::ReachAnswer;

@@ -1,5 +1,7 @@
 // MP_REACH_NLRI and MP_UNREACH_NLRI of IPv6 unicast routes, read and written (RFC 4760 sections 3 and 4, RFC 2545 section 3). The reading of
 // parse_nlri in attr_14_15_nlri.rs, for this family pair alone.
+#![tactic(auto)]
+
 ghost use Rattle.std.specs.Prelude.{◌≡◌, true, ◌+◌, ◌≤◌, length, drop};
 ghost use Rattle.wire.specs.Answer.{filled, write_meaning};
 ghost use Rattle.wire.specs.Extent.{PartOf};

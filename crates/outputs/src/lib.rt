@@ -1,4 +1,6 @@
 // Numbers put at a place of an output: nothing changes where there is no room.
+#![tactic(auto)]
+
 ghost use Rattle.std.specs.Prelude.{◌≡◌, take};
 ghost use Rattle.wire.specs.Number.{to_be};
 ghost use Rattle.wire.specs.Store.{placed};

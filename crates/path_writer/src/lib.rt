@@ -1,5 +1,7 @@
 // Writing an AS_PATH (RFC 4271 section 4.3, RFC 5065 section 3, RFC 6793 section 4.1). The writer of attr_02_17_as_path.rs, which here
 // leaves the output as it was on every refusal.
+#![tactic(auto)]
+
 ghost use Rattle.std.specs.Prelude.{◌≡◌, true, ◌+◌, ◌≤◌, ◌<◌, [], ◌∷◌, length, take, drop};
 ghost use Rattle.wire.specs.Number.{to_be};
 ghost use Rattle.wire.specs.Store.{laid, PutAhead};

@@ -1,5 +1,7 @@
 // AS_PATH (RFC 4271 section 4.3, RFC 5065 section 3, RFC 6793 section 4.1): reading a path and counting it. The reading of
 // attr_02_17_as_path.rs, and the strict one (RFC 7606 section 7.2).
+#![tactic(auto)]
+
 ghost use Rattle.std.specs.Prelude.{◌≡◌, ◌+◌, ◌≤◌, [], ◌∷◌, length, drop};
 ghost use Rattle.wire.specs.Store.{laid, PutAhead};
 ghost use Rattle.wire.specs.Walk.{flat};

@@ -1,5 +1,7 @@
 // The path and AGGREGATOR examples of document 01, and document 02's empty segment, through the calls themselves: what it prints is compared with the
 // file stdout.
+#![tactic(auto)]
+
 use asns::{AggregatorAnswer, AsnLength};
 use paths::{PathAnswer, PathRule};
 use wire::WriteAnswer;

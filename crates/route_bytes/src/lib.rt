@@ -1,4 +1,6 @@
 // How many bytes rows of six words take as a list of routes (RFC 4271 section 4.3, RFC 7911 section 3), and which cannot be written.
+#![tactic(auto)]
+
 ghost use Rattle.std.specs.Prelude.{◌≡◌, ◌+◌, ◌*◌, ◌<◌, ◌≤◌, ◌&&◌, length, drop, ◌==◌};
 ghost use Rattle.wire.specs.Answer.{unpacked};
 ghost use Rattle.wire.specs.Number.{to_be};

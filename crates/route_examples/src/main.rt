@@ -1,4 +1,6 @@
 // Runs the route examples of document 01 through the calls of routes, route_reader, route_marks and route_writer, and prints what they answer.
+#![tactic(auto)]
+
 use families::{AddPath, Afi, Form};
 use routes::{ListAnswer, PrefixAnswer, RoutesAnswer, Row};
 use wire::WriteAnswer;

@@ -1,4 +1,6 @@
 // An index beside a list of routes, guess off (document 02, K9): the start of every sixteenth item, by which a route is found without reading all before it.
+#![tactic(auto)]
+
 ghost use Rattle.std.specs.Prelude.{◌≡◌, ◌+◌, ◌≤◌, ◌<◌, length, get_or, drop};
 ghost use Rattle.wire.specs.Refusal.{list_limit};
 ghost use Rattle.wire.specs.Store.{laid};

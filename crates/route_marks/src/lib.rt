@@ -1,4 +1,6 @@
 // The mark of a guessed path id (document 02, K8), taken off the rows of a lent store.
+#![tactic(auto)]
+
 ghost use Rattle.std.specs.Prelude.{◌≡◌, length};
 ghost use Rattle.route_marks.specs.Marks.{unmarked};
 ghost use Rattle.route_marks.specs.Promises.{clear_answer, clear_after};

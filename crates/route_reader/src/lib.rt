@@ -1,5 +1,7 @@
 // Route lists into lent stores (RFC 4271 section 4.3, RFC 7911 section 3): parse_nlri_list of utils.rs, read_nlri of messages.rs. A list is counted,
 // then filled with no test of its bytes again: an address is read by whole words where they lie inside the list.
+#![tactic(auto)]
+
 ghost use Rattle.std.specs.Prelude.{◌≡◌, true, ◌+◌, ◌-◌, ◌≤◌, ◌<◌, [], ◌∷◌, length, take, drop};
 ghost use Rattle.wire.specs.Answer.{filled};
 ghost use Rattle.wire.specs.Number.{be_at};

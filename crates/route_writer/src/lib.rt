@@ -1,4 +1,6 @@
 // The route list writer (RFC 4271 section 4.3, RFC 7911 section 3): rows of six words as the bytes of a list, the writing of encode_nlri_prefixes in utils.rs.
+#![tactic(auto)]
+
 ghost use Rattle.std.specs.Prelude.{◌≡◌, ◌+◌, ◌≤◌, ◌<◌, length, get_or, take};
 ghost use Rattle.wire.specs.Answer.{write_meaning};
 ghost use Rattle.wire.specs.Number.{to_be};

@@ -1,5 +1,7 @@
 // Runs inputs through the calls of slots and slot_table, and prints what they answer: each way to stop, to end and to wait, and lines for outputs of
 // other sizes. The records of document 01 and the lines of every kind are in the input of the lister.
+#![tactic(auto)]
+
 use families::AddPath;
 use slot_table::{Ending, Listed, Then};
 use slots::SlotAnswer;

@@ -1,5 +1,7 @@
 // The table that is printed of slot records: the line of a record, by the crate's reading of its message and its routes counted; and the lines of all
 // records, block by block.
+#![tactic(auto)]
+
 ghost use Rattle.std.specs.Prelude.{◌≡◌, ◌+◌, ◌≤◌, [], ◌∷◌, ◌++◌, length, drop};
 ghost use Rattle.wire.specs.Store.{laid};
 ghost use Rattle.updates.specs.Update.{count_update};

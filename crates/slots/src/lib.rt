@@ -1,4 +1,6 @@
 // The slot records of a drive: what stands at the front of the input.
+#![tactic(auto)]
+
 ghost use Rattle.std.specs.Prelude.{◌≡◌};
 ghost use Rattle.slots.specs.Slot.{differs, over_settings, short, slot_of};
 

@@ -1,5 +1,7 @@
 // The UPDATE body writer (RFC 4271 section 4.3): rows to withdraw, attribute bytes and rows to announce as the three sections of a body, each
 // after its length but the last.
+#![tactic(auto)]
+
 ghost use Rattle.std.specs.Prelude.{◌≡◌, length};
 ghost use Rattle.wire.specs.Answer.{filled, write_meaning};
 ghost use Rattle.update_writer.specs.Body.{body_bytes, body_answer};

@@ -1,5 +1,7 @@
 // The UPDATE body (RFC 4271 section 4.3): its three sections as parts of the caller's bytes, and its routes in lent stores. The reading of
 // parse_bgp_update_message in messages.rs.
+#![tactic(auto)]
+
 ghost use Rattle.std.specs.Prelude.{◌≡◌, length};
 ghost use Rattle.wire.specs.Extent.{PartOf};
 ghost use Rattle.families.specs.Family.{max_of};

@@ -1,4 +1,6 @@
 // Numbers as bytes at a place of a slice, and parts of a slice: reads that take every place. The refusal numbers, and the answer of a writer.
+#![tactic(auto)]
+
 ghost use Rattle.std.specs.Prelude.{◌≡◌, min, max, [], ◌∷◌, length, get_or};
 ghost use Rattle.wire.specs.Number.{be, be_at};
 ghost use Rattle.wire.specs.Extent.{extent, clipped, PartOf};

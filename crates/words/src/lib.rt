@@ -1,4 +1,6 @@
 // What the calls for C share: an answer as one word of 64 bits, and the numbers of C that stand for a choice.
+#![tactic(auto)]
+
 ghost use Rattle.std.specs.Prelude.{◌≡◌};
 ghost use Rattle.words.specs.Settings.{family_of, form_of, asn_length_of, edition_of, settings_of};
 ghost use Rattle.words.specs.Word.{fields, word_of};

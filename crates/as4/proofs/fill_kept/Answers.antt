@@ -1,0 +1,208 @@
+use Prim.Native.Nat.{ℕ, ◌+◌, ◌-◌, ◌≤◌}
+use mathlib.Core.Path.{◌≡◌, subst}
+use mathlib.Core.List.{List}
+use native.Mathlib.Omega.{arith}
+use lib.ListN.{length, get_or, drop}
+use Rattle.asns.specs.Asn.{span}
+use Rattle.wire.specs.Store.{laid}
+use Rattle.paths.specs.Segment.{numbers_of, pair_of, asns_of}
+use Rattle.paths.proofs.SegmentLaws.{length_numbers}
+use Rattle.paths.proofs.PathTurn.{pair_is, asns_is}
+use Rattle.as4.specs.Private.{kept_count, kept_of}
+use Rattle.as4.proofs.FillTurn.{FilledTo, filled_start, filled_done, filled_fits, filled_next}
+use Rattle.as4.proofs.fill_kept.Goals as goal
+
+pub loop-at-init : goal.loop-at-init
+loop-at-init c =
+    let a = c.args in
+    let p = c.requires in
+    (filled_start pair_of 4 a.as4-path.now a.pairs.now p.0 p.1.0, filled_start asns_of 4 a.as4-path.now a.numbers.now p.0 p.1.1)
+
+pub overflow_add-n : goal.overflow_add-n
+overflow_add-n c =
+    let fits :
+    let s = c.args.as4-path.now in
+    let n = get_or s (c.loop-at.at + 1) 0 in
+    (c.loop-at.at + (2 + span 4 n) ≤ length s)
+    × (c.loop-at.pair + kept_count (get_or s c.loop-at.at 0) 2 ≤ length c.loop-at.pairs)
+    × (c.loop-at.to + kept_count (get_or s c.loop-at.at 0) n ≤ length c.loop-at.numbers)
+    × (length c.loop-at.pairs ≡ length c.args.pairs.now)
+    × (length c.loop-at.numbers ≡ length c.args.numbers.now) =
+    let a = c.args in
+    let s = a.as4-path.now in
+    let at = c.loop-at.at in
+    let lt = c.loop-at-test.true in
+    let p = filled_fits pair_of 4 s a.pairs.now at c.loop-at.pair c.loop-at.pairs c.loop-at.invariant.0 lt _ (pair_is 4 s at) in
+    let n = filled_fits asns_of 4 s a.numbers.now at c.loop-at.to c.loop-at.numbers c.loop-at.invariant.1 lt _ (asns_is 4 s at) in
+    (p.0, p.1, rw (length_numbers 4 (get_or s (at + 1) 0) (drop (at + 2) s)) at n.1, c.loop-at.invariant.0.long, c.loop-at.invariant.1.long) in
+    omega (arith, fits)
+
+pub bounds-as4_path-at-in-loop-at : goal.bounds-as4_path-at-in-loop-at
+bounds-as4_path-at-in-loop-at c =
+    let fits :
+    let s = c.args.as4-path.now in
+    let n = get_or s (c.loop-at.at + 1) 0 in
+    (c.loop-at.at + (2 + span 4 n) ≤ length s)
+    × (c.loop-at.pair + kept_count (get_or s c.loop-at.at 0) 2 ≤ length c.loop-at.pairs)
+    × (c.loop-at.to + kept_count (get_or s c.loop-at.at 0) n ≤ length c.loop-at.numbers)
+    × (length c.loop-at.pairs ≡ length c.args.pairs.now)
+    × (length c.loop-at.numbers ≡ length c.args.numbers.now) =
+    let a = c.args in
+    let s = a.as4-path.now in
+    let at = c.loop-at.at in
+    let lt = c.loop-at-test.true in
+    let p = filled_fits pair_of 4 s a.pairs.now at c.loop-at.pair c.loop-at.pairs c.loop-at.invariant.0 lt _ (pair_is 4 s at) in
+    let n = filled_fits asns_of 4 s a.numbers.now at c.loop-at.to c.loop-at.numbers c.loop-at.invariant.1 lt _ (asns_is 4 s at) in
+    (p.0, p.1, rw (length_numbers 4 (get_or s (at + 1) 0) (drop (at + 2) s)) at n.1, c.loop-at.invariant.0.long, c.loop-at.invariant.1.long) in
+    omega (arith, fits)
+
+pub put_kept-requires : goal.put_kept-requires
+put_kept-requires c =
+    let fits :
+    let s = c.args.as4-path.now in
+    let n = get_or s (c.loop-at.at + 1) 0 in
+    (c.loop-at.at + (2 + span 4 n) ≤ length s)
+    × (c.loop-at.pair + kept_count (get_or s c.loop-at.at 0) 2 ≤ length c.loop-at.pairs)
+    × (c.loop-at.to + kept_count (get_or s c.loop-at.at 0) n ≤ length c.loop-at.numbers)
+    × (length c.loop-at.pairs ≡ length c.args.pairs.now)
+    × (length c.loop-at.numbers ≡ length c.args.numbers.now) =
+    let a = c.args in
+    let s = a.as4-path.now in
+    let at = c.loop-at.at in
+    let lt = c.loop-at-test.true in
+    let p = filled_fits pair_of 4 s a.pairs.now at c.loop-at.pair c.loop-at.pairs c.loop-at.invariant.0 lt _ (pair_is 4 s at) in
+    let n = filled_fits asns_of 4 s a.numbers.now at c.loop-at.to c.loop-at.numbers c.loop-at.invariant.1 lt _ (asns_is 4 s at) in
+    (p.0, p.1, rw (length_numbers 4 (get_or s (at + 1) 0) (drop (at + 2) s)) at n.1, c.loop-at.invariant.0.long, c.loop-at.invariant.1.long) in
+    let both = let f = fits in (f.0, (f.1, f.2)) in
+    record { n_in_bounds = both.0; at_in_bounds = both.1; n_in_bounds_2 = both.2 }
+
+pub overflow_cast-n : goal.overflow_cast-n
+overflow_cast-n c = omega (arith, c.type_inv.as4_path (c.loop-at.at + 1))
+
+pub overflow_add-at : goal.overflow_add-at
+overflow_add-at c =
+    let fits :
+    let s = c.args.as4-path.now in
+    let n = get_or s (c.loop-at.at + 1) 0 in
+    (c.loop-at.at + (2 + span 4 n) ≤ length s)
+    × (c.loop-at.pair + kept_count (get_or s c.loop-at.at 0) 2 ≤ length c.loop-at.pairs)
+    × (c.loop-at.to + kept_count (get_or s c.loop-at.at 0) n ≤ length c.loop-at.numbers)
+    × (length c.loop-at.pairs ≡ length c.args.pairs.now)
+    × (length c.loop-at.numbers ≡ length c.args.numbers.now) =
+    let a = c.args in
+    let s = a.as4-path.now in
+    let at = c.loop-at.at in
+    let lt = c.loop-at-test.true in
+    let p = filled_fits pair_of 4 s a.pairs.now at c.loop-at.pair c.loop-at.pairs c.loop-at.invariant.0 lt _ (pair_is 4 s at) in
+    let n = filled_fits asns_of 4 s a.numbers.now at c.loop-at.to c.loop-at.numbers c.loop-at.invariant.1 lt _ (asns_is 4 s at) in
+    (p.0, p.1, rw (length_numbers 4 (get_or s (at + 1) 0) (drop (at + 2) s)) at n.1, c.loop-at.invariant.0.long, c.loop-at.invariant.1.long) in
+    omega (arith, fits, c.numbers_size.ensures)
+
+pub overflow_add-at-in-loop-at : goal.overflow_add-at-in-loop-at
+overflow_add-at-in-loop-at c =
+    let fits :
+    let s = c.args.as4-path.now in
+    let n = get_or s (c.loop-at.at + 1) 0 in
+    (c.loop-at.at + (2 + span 4 n) ≤ length s)
+    × (c.loop-at.pair + kept_count (get_or s c.loop-at.at 0) 2 ≤ length c.loop-at.pairs)
+    × (c.loop-at.to + kept_count (get_or s c.loop-at.at 0) n ≤ length c.loop-at.numbers)
+    × (length c.loop-at.pairs ≡ length c.args.pairs.now)
+    × (length c.loop-at.numbers ≡ length c.args.numbers.now) =
+    let a = c.args in
+    let s = a.as4-path.now in
+    let at = c.loop-at.at in
+    let lt = c.loop-at-test.true in
+    let p = filled_fits pair_of 4 s a.pairs.now at c.loop-at.pair c.loop-at.pairs c.loop-at.invariant.0 lt _ (pair_is 4 s at) in
+    let n = filled_fits asns_of 4 s a.numbers.now at c.loop-at.to c.loop-at.numbers c.loop-at.invariant.1 lt _ (asns_is 4 s at) in
+    (p.0, p.1, rw (length_numbers 4 (get_or s (at + 1) 0) (drop (at + 2) s)) at n.1, c.loop-at.invariant.0.long, c.loop-at.invariant.1.long) in
+    omega (arith, fits, c.numbers_size.ensures)
+
+pub overflow_add-pair : goal.overflow_add-pair
+overflow_add-pair c =
+    let fits :
+    let s = c.args.as4-path.now in
+    let n = get_or s (c.loop-at.at + 1) 0 in
+    (c.loop-at.at + (2 + span 4 n) ≤ length s)
+    × (c.loop-at.pair + kept_count (get_or s c.loop-at.at 0) 2 ≤ length c.loop-at.pairs)
+    × (c.loop-at.to + kept_count (get_or s c.loop-at.at 0) n ≤ length c.loop-at.numbers)
+    × (length c.loop-at.pairs ≡ length c.args.pairs.now)
+    × (length c.loop-at.numbers ≡ length c.args.numbers.now) =
+    let a = c.args in
+    let s = a.as4-path.now in
+    let at = c.loop-at.at in
+    let lt = c.loop-at-test.true in
+    let p = filled_fits pair_of 4 s a.pairs.now at c.loop-at.pair c.loop-at.pairs c.loop-at.invariant.0 lt _ (pair_is 4 s at) in
+    let n = filled_fits asns_of 4 s a.numbers.now at c.loop-at.to c.loop-at.numbers c.loop-at.invariant.1 lt _ (asns_is 4 s at) in
+    (p.0, p.1, rw (length_numbers 4 (get_or s (at + 1) 0) (drop (at + 2) s)) at n.1, c.loop-at.invariant.0.long, c.loop-at.invariant.1.long) in
+    omega (arith, fits, c.kept_count-pair.ensures)
+
+pub overflow_cast-n-in-loop-at : goal.overflow_cast-n-in-loop-at
+overflow_cast-n-in-loop-at c = omega (arith, c.type_inv.as4_path (c.loop-at.at + 1))
+
+pub overflow_add-to : goal.overflow_add-to
+overflow_add-to c =
+    let fits :
+    let s = c.args.as4-path.now in
+    let n = get_or s (c.loop-at.at + 1) 0 in
+    (c.loop-at.at + (2 + span 4 n) ≤ length s)
+    × (c.loop-at.pair + kept_count (get_or s c.loop-at.at 0) 2 ≤ length c.loop-at.pairs)
+    × (c.loop-at.to + kept_count (get_or s c.loop-at.at 0) n ≤ length c.loop-at.numbers)
+    × (length c.loop-at.pairs ≡ length c.args.pairs.now)
+    × (length c.loop-at.numbers ≡ length c.args.numbers.now) =
+    let a = c.args in
+    let s = a.as4-path.now in
+    let at = c.loop-at.at in
+    let lt = c.loop-at-test.true in
+    let p = filled_fits pair_of 4 s a.pairs.now at c.loop-at.pair c.loop-at.pairs c.loop-at.invariant.0 lt _ (pair_is 4 s at) in
+    let n = filled_fits asns_of 4 s a.numbers.now at c.loop-at.to c.loop-at.numbers c.loop-at.invariant.1 lt _ (asns_is 4 s at) in
+    (p.0, p.1, rw (length_numbers 4 (get_or s (at + 1) 0) (drop (at + 2) s)) at n.1, c.loop-at.invariant.0.long, c.loop-at.invariant.1.long) in
+    omega (arith, fits, c.kept_count-to.ensures)
+
+pub loop-at-smaller : goal.loop-at-smaller
+loop-at-smaller c =
+    let fits :
+    let s = c.args.as4-path.now in
+    let n = get_or s (c.loop-at.at + 1) 0 in
+    (c.loop-at.at + (2 + span 4 n) ≤ length s)
+    × (c.loop-at.pair + kept_count (get_or s c.loop-at.at 0) 2 ≤ length c.loop-at.pairs)
+    × (c.loop-at.to + kept_count (get_or s c.loop-at.at 0) n ≤ length c.loop-at.numbers)
+    × (length c.loop-at.pairs ≡ length c.args.pairs.now)
+    × (length c.loop-at.numbers ≡ length c.args.numbers.now) =
+    let a = c.args in
+    let s = a.as4-path.now in
+    let at = c.loop-at.at in
+    let lt = c.loop-at-test.true in
+    let p = filled_fits pair_of 4 s a.pairs.now at c.loop-at.pair c.loop-at.pairs c.loop-at.invariant.0 lt _ (pair_is 4 s at) in
+    let n = filled_fits asns_of 4 s a.numbers.now at c.loop-at.to c.loop-at.numbers c.loop-at.invariant.1 lt _ (asns_is 4 s at) in
+    (p.0, p.1, rw (length_numbers 4 (get_or s (at + 1) 0) (drop (at + 2) s)) at n.1, c.loop-at.invariant.0.long, c.loop-at.invariant.1.long) in
+    omega (arith, fits, c.numbers_size.ensures)
+
+pub loop-at-preserved : goal.loop-at-preserved
+loop-at-preserved c =
+    let a = c.args in
+    let s = a.as4-path.now in
+    let at = c.loop-at.at in
+    let n = get_or s (at + 1) 0 in
+    let lt = c.loop-at-test.true in
+    let left = c.put_kept.ensures in
+    let size : ℕ = 2 + span 4 n in
+    let numbers : List ℕ = numbers_of 4 n (drop (at + 2) s) in
+    let p = filled_next pair_of 4 s a.pairs.now at c.loop-at.pair c.loop-at.pairs c.loop-at.invariant.0 lt _ (pair_is 4 s at) in
+    let q = filled_next asns_of 4 s a.numbers.now at c.loop-at.to c.loop-at.numbers c.loop-at.invariant.1 lt _ (asns_is 4 s at) in
+    rw (c.numbers_size.ensures, c.kept_count-pair.ensures, c.kept_count-to.ensures, left.0, left.1)
+    (p, subst (λ (k : ℕ). FilledTo asns_of 4 s a.numbers.now (at + size) (c.loop-at.to + kept_count (get_or s at 0) k) (laid c.loop-at.numbers c.loop-at.to (kept_of (get_or s at 0) numbers))) (length_numbers 4 n (drop (at + 2) s)) q)
+
+pub shape_of-pairs : goal.shape_of-pairs
+shape_of-pairs c = c.loop-at.invariant.0.long
+
+pub shape_of-numbers : goal.shape_of-numbers
+shape_of-numbers c = c.loop-at.invariant.1.long
+
+pub returns : goal.returns
+returns c =
+    let both =
+    let a = c.args in (
+      filled_done pair_of 4 a.as4-path.now a.pairs.now c.loop-at.at c.loop-at.pair c.loop-at.pairs c.loop-at.invariant.0 c.loop-at-test.false,
+      filled_done asns_of 4 a.as4-path.now a.numbers.now c.loop-at.at c.loop-at.to c.loop-at.numbers c.loop-at.invariant.1 c.loop-at-test.false,
+    ) in
+    record { pairs = both.0; numbers = both.1 }

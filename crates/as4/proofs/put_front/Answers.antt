@@ -1,0 +1,21 @@
+use mathlib.Core.Path.{◌∙◌}
+use Rattle.paths.specs.Segment.{pair_of, asns_of}
+use Rattle.as4.proofs.FrontLaws as front
+use Rattle.as4.proofs.put_front.Goals as goal
+
+pub returns-then-front-eq0 : goal.returns-then-front-eq0
+returns-then-front-eq0 c =
+    let a = c.args in
+    record {
+      pairs = front.front_none pair_of a.pairs.now a.front.now c.if-front-eq0.true;
+      numbers = front.front_none asns_of a.numbers.now a.front.now c.if-front-eq0.true;
+    }
+
+pub returns : goal.returns
+returns c =
+    let both =
+    let a = c.args in
+    let left = c.parse_as_path.ensures in
+    let read = front.front_read a.front.now a.pairs.now a.numbers.now c.requires.front_len_bound c.requires.front_value.0 c.requires.front_value.1.0 c.requires.front_value.1.1 in
+    (left.1.0 ∙ read.0, left.1.1 ∙ read.1) in
+    record { pairs = both.0; numbers = both.1 }

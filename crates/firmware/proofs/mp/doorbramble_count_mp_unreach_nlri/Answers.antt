@@ -1,0 +1,10 @@
+use Rattle.words.proofs.WordLaws.{told_in}
+use Rattle.routes.specs.Promises.{routes_meaning}
+use Rattle.firmware.proofs.MpBounds.{count_unreach_narrow}
+use Rattle.firmware.proofs.mp.doorbramble_count_mp_unreach_nlri.Goals as goal
+
+pub list_word-requires : goal.list_word-requires
+list_word-requires c = rw c.count_mp_unreach_nlri.ensures (count_unreach_narrow _ _)
+
+pub returns : goal.returns
+returns c = told_in routes_meaning c.list_word.ensures (rw c.mode_of.ensures at c.count_mp_unreach_nlri.ensures)

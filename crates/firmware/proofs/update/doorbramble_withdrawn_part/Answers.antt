@@ -1,0 +1,14 @@
+use mathlib.Core.Path.{sym, ◌∙◌}
+use native.Mathlib.Omega.{arith}
+use Rattle.updates.specs.Body.{withdrawn_at}
+use Rattle.firmware.proofs.UpdateBounds.{part_narrow}
+use Rattle.firmware.proofs.update.doorbramble_withdrawn_part.Goals as goal
+
+pub overflow_cast-withdrawn : goal.overflow_cast-withdrawn
+overflow_cast-withdrawn c = omega (arith, part_narrow withdrawn_at _ _ _ _ _ (omega arith) c.update_parts.ensures c.in-Parts.is)
+
+pub returns-in-Parts : goal.returns-in-Parts
+returns-in-Parts c = rw (sym c.update_parts.ensures ∙ c.in-Parts.is) c.word.ensures
+
+pub returns-in-Refused : goal.returns-in-Refused
+returns-in-Refused c = rw (sym c.update_parts.ensures ∙ c.in-Refused.is) c.word-in-Refused.ensures

@@ -1,0 +1,43 @@
+use mathlib.Core.Path.{refl, sym, ◌∙◌}
+use native.Mathlib.Omega.{arith}
+use lib.ListN.{length}
+use Rattle.routes.specs.Promises.{read_list}
+use Rattle.mp_nlri.specs.Read.{ipv6, read_reach}
+use Rattle.mp_nlri.proofs.ValueLaws.{Headed, head_good}
+use Rattle.mp_nlri.proofs.ReadLaws.{reach_refused, reach_list_lem, reach_told, reach_stored}
+use Rattle.mp_nlri.proofs.parse_mp_reach_nlri.Goals as goal
+
+pub overflow_add-next_hop : goal.overflow_add-next_hop
+overflow_add-next_hop c =
+    let headed : Headed c.args.value.now c.in-Head.next_hop c.in-Head.reserved = head_good _ _ _ (sym c.mp_reach_head.ensures ∙ c.in-Head.is) in
+    omega (arith, headed.whole, headed.paired.short)
+
+pub overflow_add-next_hop-in-Head : goal.overflow_add-next_hop-in-Head
+overflow_add-next_hop-in-Head c =
+    let headed : Headed c.args.value.now c.in-Head.next_hop c.in-Head.reserved = head_good _ _ _ (sym c.mp_reach_head.ensures ∙ c.in-Head.is) in
+    omega (arith, headed.whole, headed.paired.short)
+
+pub bytes_after-list-requires : goal.bytes_after-list-requires
+bytes_after-list-requires c =
+    let headed : Headed c.args.value.now c.in-Head.next_hop c.in-Head.reserved = head_good _ _ _ (sym c.mp_reach_head.ensures ∙ c.in-Head.is) in
+    omega (arith, headed.whole)
+
+pub returns-in-Head : goal.returns-in-Head
+unfolding read_reach
+returns-in-Head c =
+    let both =
+    let a = c.args in
+    let is = c.mp_reach_head.ensures in
+    let list = reach_list_lem a.value.now _ is _ _ c.in-Head.is _ c.bytes_after-list.ensures in (
+      reach_told a.value.now _ is _ _ c.in-Head.is (λ l. read_list ipv6 l a.mode (length a.store.now)) _ _ _ list c.parse_nlri_list.ensures.answer c.as_reach.ensures,
+      reach_stored a.value.now a.mode a.store.now _ _ _ _ _ _ list c.parse_nlri_list.ensures.answer c.as_reach.ensures c.parse_nlri_list.ensures.store,
+    ) in
+    record { answer = both.0; store = both.1 }
+
+pub returns-in-Refused : goal.returns-in-Refused
+unfolding read_reach
+returns-in-Refused c =
+    record {
+      answer = reach_refused _ _ c.mp_reach_head.ensures _ _ c.in-Refused.is;
+      store = refl;
+    }

@@ -1,0 +1,44 @@
+use mathlib.Core.Path.{◌≡◌, refl, sym, ap, ◌∙◌}
+use Prim.Native.Nat.{ℕ}
+use native.Mathlib.Omega.{arith}
+use Rattle.routes.specs.ByTable.{by_table}
+use Rattle.route_index.specs.Private.{skipped}
+use Rattle.route_index.proofs.SkipLaws.{skip_zero, skip_end, item_here, stop_here}
+use Rattle.route_index.proofs.pass_items.Goals as goal
+
+pub loop-left-init : goal.loop-left-init
+loop-left-init c = (omega arith, refl)
+
+pub returns-then-s-at : goal.returns-then-s-at
+returns-then-s-at c =
+    let a = c.args in
+    sym (c.loop-left.invariant.1 ∙ skip_end (by_table a.counts.now) a.form a.s.now c.loop-left.left c.loop-left.at c.if-s-at.true)
+
+pub pass_alike-p-requires : goal.pass_alike-p-requires
+pass_alike-p-requires c =
+    let both =
+    let a = c.args in
+    let item = item_here a.counts.now a.form a.s.now c.loop-left.at _ c.form_size.ensures c.in-Item.used c.in-Item.form c.in-Item.is in
+    ((omega (arith, c.loop-left-test.true), omega (arith, c.loop-left.invariant.0, c.requires.0)), (c.requires.1, item)) in
+    record { most_nonzero = both.0; s_len_bound = both.1; form_value = both.2 }
+
+pub loop-left-smaller : goal.loop-left-smaller
+loop-left-smaller c = c.pass_alike-p.ensures.fewer
+
+pub loop-left-preserved : goal.loop-left-preserved
+loop-left-preserved c = (omega (arith, c.loop-left.invariant.0, c.pass_alike-p.ensures.fewer), c.loop-left.invariant.1 ∙ c.pass_alike-p.ensures.same)
+
+pub returns-in-Refused : goal.returns-in-Refused
+returns-in-Refused c =
+    let a = c.args in
+    sym (c.loop-left.invariant.1
+    ∙ stop_here a.counts.now a.form a.s.now c.loop-left.at _ c.form_size.ensures c.loop-left.left c.in-Refused.why
+    (omega (arith, c.loop-left-test.true)) (omega (arith, c.if-s-at.false)) c.in-Refused.is)
+
+pub returns : goal.returns
+returns c =
+    let a = c.args in
+    let none : c.loop-left.left ≡ 0 = omega (arith, c.loop-left-test.false) in
+    sym (c.loop-left.invariant.1
+    ∙ ap (λ (i : ℕ). skipped (by_table a.counts.now) a.form a.s.now i c.loop-left.at) none
+    ∙ skip_zero (by_table a.counts.now) a.form a.s.now c.loop-left.at)

@@ -1,0 +1,18 @@
+use mathlib.Core.Path.{refl, sym, ◌∙◌}
+use lib.Seq.{length-take-le}
+use Rattle.wire.specs.Number.{be_at}
+use Rattle.wire.proofs.NumberLaws.{be_between}
+use Rattle.route_reader.proofs.id_of.Goals as goal
+
+pub slice_bounds-u32_at-end : goal.slice_bounds-u32_at-end
+slice_bounds-u32_at-end c =
+    let g = c.before in
+    let four = g.requires in
+    sym (length-take-le 4 g.args.s.now (rw c.enum-told2.given.1 at four))
+
+pub returns-in-Plain : goal.returns-in-Plain
+unfolding be_at
+returns-in-Plain c = rw c.in-Plain.is
+
+pub returns-in-Tagged : goal.returns-in-Tagged
+returns-in-Tagged c = rw c.enum-told2.given.1 (c.u32_at.ensures ∙ be_between c.before.args.s.now 0 4 4 refl)

@@ -1,0 +1,40 @@
+use mathlib.Core.Path.{◌≡◌, sym, ap, ◌∙◌}
+use mathlib.Core.List.{[], ◌∷◌}
+use native.Mathlib.Omega.{arith}
+use lib.ListN.{length, length-take}
+use lib.Seq.{length-take-le}
+use lib.Bits.{bit_and}
+use Rattle.wire.specs.Number.{Bytes}
+use Rattle.wire.specs.Store.{laid}
+use Rattle.route_reader.proofs.WordsLaws.{masked_first, two_by_two, address_parts}
+use Rattle.route_reader.proofs.put_long.Goals as goal
+
+pub slice_bounds-put_exact-end : goal.slice_bounds-put_exact-end
+slice_bounds-put_exact-end c = let g = c.before in sym (length-take-le g.args.n g.args.s.now g.requires.1.0.there)
+
+pub put_exact-requires : goal.put_exact-requires
+put_exact-requires c = let g = c.before in (g.requires.0, omega (arith, g.requires.1.0.few, length-take g.args.n g.args.s.now))
+
+pub slice_bounds-t-end : goal.slice_bounds-t-end
+slice_bounds-t-end c = sym (length-take-le 16 c.before.args.s.now (omega (arith, c.if1.false)))
+
+pub slice_bounds-u-end : goal.slice_bounds-u-end
+slice_bounds-u-end c = omega (arith, ap length c.before.requires.1.1)
+
+pub returns : goal.returns
+returns c =
+    let g = c.before in
+    let a = g.args in
+    let bytes : Bytes a.s.now = λ i. (c.shared-slice-known.given i).fits in
+    let word = masked_first a.s.now a.table.now a.n bytes g.requires.1.1 g.requires.1.0.few in
+    let x = c.u32_at in
+    let x' = c.u32_at-2 in
+    let y = c.u32_at-3 in
+    let y' = c.u32_at-4 in
+    let half : c.put_pair.new.0 ≡ laid a.store.now a.to (bit_and x.result x'.result ∷ bit_and y.result y'.result ∷ []) = c.put_pair.ensures in
+    two_by_two a.store.now _ _ a.to _ _ _ _ g.requires.0 half c.put_pair-2.ensures
+    ∙ ap (laid a.store.now a.to) (address_parts _ _ _ _ _
+    (word 0 _ _ (omega arith) x.ensures x'.ensures)
+    (word 4 _ _ (omega arith) y.ensures y'.ensures)
+    (word 8 _ _ (omega arith) c.u32_at-5.ensures c.u32_at-6.ensures)
+    (word 12 _ _ (omega arith) c.u32_at-7.ensures c.u32_at-8.ensures))

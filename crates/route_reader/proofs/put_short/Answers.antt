@@ -1,0 +1,21 @@
+use mathlib.Core.Path.{◌≡◌, sym, ap, ◌∙◌}
+use mathlib.Core.List.{[], ◌∷◌}
+use native.Mathlib.Omega.{arith}
+use lib.ListN.{length-take}
+use lib.Seq.{length-take-le}
+use Rattle.wire.specs.Store.{laid}
+use Rattle.route_reader.proofs.WordsLaws.{address_first}
+use Rattle.route_reader.proofs.put_short.Goals as goal
+
+pub slice_bounds-put_exact-end : goal.slice_bounds-put_exact-end
+slice_bounds-put_exact-end c = let g = c.before in sym (length-take-le g.args.n g.args.s.now g.requires.1.there)
+
+pub put_exact-requires : goal.put_exact-requires
+put_exact-requires c = let g = c.before in (g.requires.0, omega (arith, g.requires.1.few, length-take g.args.n g.args.s.now))
+
+pub returns : goal.returns
+returns c =
+    let a = c.args in
+    let w = c.first_word.result in
+    let put : c.put_words.new.0 ≡ laid a.store.now a.to (w ∷ 0 ∷ 0 ∷ 0 ∷ []) = c.put_words.ensures in
+    put ∙ ap (laid a.store.now a.to) (address_first _ w (omega (arith, c.requires.octets.few, length-take a.n a.s.now)) c.first_word.ensures)
