@@ -1,6 +1,5 @@
 use native.Mathlib.Omega.{arith}
 use Prim.Native.Nat.{ℕ, ◌+◌, ◌-◌, ◌*◌, ◌≤◌, ◌<◌}
-use mathlib.Core.Logic.{⊎_elim}
 use mathlib.Core.Path.{◌≡◌, refl, sym, ap, ◌∙◌}
 use lib.ListN.{length, take, drop}
 use Rattle.families.specs.Family.{id_size}
@@ -16,6 +15,7 @@ use Rattle.routes.proofs.HostLaws.{weight_few}
 use Rattle.wire.specs.Answer.{flag}
 use Rattle.routes.specs.Prefix.{host_bits}
 use Rattle.routes.proofs.count_guess.Goals as goal
+use Rattle.routes.proofs.count_guess.Goals.{in-Plain, in-Tagged}
 
 pub loop-n-init : goal.loop-n-init
 loop-n-init c = let a = c.args in carried_start (by_table a.counts.now) (fair_table a.counts.now) Guess Plain a.s.now
@@ -30,8 +30,7 @@ host_at-requires c =
     let plain :
     let used = c.in-Item.used in
     (1 ≤ used) × (c.loop-n.n + used ≤ length c.loop-n.rest.now) = let f = fits in (omega (arith, f.0, ap id_size c.in-Plain.is), f.1) in
-    let both = let p = plain in (p.0, (p.1, refl)) in
-    record { form_bound = both.0; used_in_bounds = both.1; past_value = both.2 }
+    record { form_bound = plain.0; used_in_bounds = plain.1; past_value = refl }
 
 pub overflow_add-hosts : goal.overflow_add-hosts
 overflow_add-hosts c =
@@ -101,8 +100,7 @@ host_at-requires-in-Tagged c =
     let tagged :
     let used = c.in-Item.used in
     (5 ≤ used) × (c.loop-n.n + used ≤ length c.loop-n.rest.now) = let f = fits in (omega (arith, f.0, ap id_size c.in-Tagged.is), f.1) in
-    let both = let p = tagged in (p.0, (p.1, refl)) in
-    record { form_bound = both.0; used_in_bounds = both.1; past_value = both.2 }
+    record { form_bound = tagged.0; used_in_bounds = tagged.1; past_value = refl }
 
 pub overflow_add-hosts-in-Tagged : goal.overflow_add-hosts-in-Tagged
 overflow_add-hosts-in-Tagged c =
@@ -169,63 +167,41 @@ overflow_add-count c =
     (omega (arith, c.loop-n.invariant.behind.part, c.requires), omega (arith, counted, c.requires)) in
     omega (arith, few)
 
-pub loop-n-smaller : goal.loop-n-smaller
-loop-n-smaller c =
-    let turn : (b : ℕ) → b ≡ id_size c.in-Item.next + 1 → (host : ℕ) →
+-- what holds after the item, with b bytes before its octets and its host bit counted
+turn : (c : goal.Joined-next) (b : ℕ) → b ≡ id_size c.in-Item.next + 1 → (host : ℕ) →
     let a = c.args in
     let left = c.loop-n.rest.now in
     let used = c.in-Item.used in
     let form = c.in-Item.next in
     let after = take (length left - (c.loop-n.n + b)) (drop (c.loop-n.n + b) left) in
     host ≡ flag (host_bits form (take used (drop c.loop-n.n left)))
-    → (length after - (used - b) < length left - c.loop-n.n) × Carried (by_table a.counts.now) Guess Plain a.s.now after (used - b) form (c.loop-n.count + 1 + host_unit * (c.loop-n.hosts + host)) = λ b bytes host is.
+    → (length after - (used - b) < length left - c.loop-n.n) × Carried (by_table a.counts.now) Guess Plain a.s.now after (used - b) form (c.loop-n.count + 1 + host_unit * (c.loop-n.hosts + host))
+turn c b bytes host is =
     let a = c.args in
-    sized_next a.counts.now Guess Plain a.s.now c.loop-n.rest.now c.loop-n.n c.loop-n.form (c.loop-n.count + host_unit * c.loop-n.hosts) c.loop-n.invariant _ c.guess_at.ensures _ _ c.in-Item.is _ (omega (arith, is)) b bytes in
-    let next :
+    sized_next a.counts.now Guess Plain a.s.now c.loop-n.rest.now c.loop-n.n c.loop-n.form (c.loop-n.count + host_unit * c.loop-n.hosts) c.loop-n.invariant _ c.guess_at.ensures _ _ c.in-Item.is _ (omega (arith, is)) b bytes
+
+next : (c : goal.Joined-next) →
     let a = c.args in
     (length c.match-next.rest.now - c.match-next.n < length c.loop-n.rest.now - c.loop-n.n)
-    × Carried (by_table a.counts.now) Guess Plain a.s.now c.match-next.rest.now c.match-next.n c.in-Item.next (c.loop-n.count + 1 + host_unit * c.match-next.hosts) =
+    × Carried (by_table a.counts.now) Guess Plain a.s.now c.match-next.rest.now c.match-next.n c.in-Item.next (c.loop-n.count + 1 + host_unit * c.match-next.hosts)
+next c =
     let item = take c.in-Item.used (drop c.loop-n.n c.loop-n.rest.now) in
-    ⊎_elim
-    (λ w.
-    let form = w.1.given.1 in
-    rw (w.6, w.7, w.8)
-    (turn 1 (sym (ap (λ (f : Form). id_size f + 1) form)) w.4.result (w.4.ensures ∙ ap flag (w.3.ensures ∙ sym (ap (λ (f : Form). host_bits f item) form)))))
-    (λ w.
-    let form = w.1.given.1 in
-    rw (w.6, w.7, w.8)
-    (turn 5 (sym (ap (λ (f : Form). id_size f + 1) form)) w.4.result (w.4.ensures ∙ ap flag (w.3.ensures ∙ sym (ap (λ (f : Form). host_bits f item) form)))))
-    c.match-next.branch in
-    next.0
+    elim c.match-next.branch [
+      | in-Plain w ↦
+          let form = w.in-Plain.is in
+          rw (w.rest-is, w.n-is, w.hosts-is)
+          (turn c 1 (sym (ap (λ (f : Form). id_size f + 1) form)) w.one_if-hosts.result (w.one_if-hosts.ensures ∙ ap flag (w.host_at.ensures ∙ sym (ap (λ (f : Form). host_bits f item) form))))
+      | in-Tagged w ↦
+          let form = w.in-Tagged.is in
+          rw (w.rest-is, w.n-is, w.hosts-is)
+          (turn c 5 (sym (ap (λ (f : Form). id_size f + 1) form)) w.one_if-hosts-in-Tagged.result (w.one_if-hosts-in-Tagged.ensures ∙ ap flag (w.host_at-in-Tagged.ensures ∙ sym (ap (λ (f : Form). host_bits f item) form))))
+    ]
+
+pub loop-n-smaller : goal.loop-n-smaller
+loop-n-smaller c = (next c).0
 
 pub loop-n-preserved : goal.loop-n-preserved
-loop-n-preserved c =
-    let turn : (b : ℕ) → b ≡ id_size c.in-Item.next + 1 → (host : ℕ) →
-    let a = c.args in
-    let left = c.loop-n.rest.now in
-    let used = c.in-Item.used in
-    let form = c.in-Item.next in
-    let after = take (length left - (c.loop-n.n + b)) (drop (c.loop-n.n + b) left) in
-    host ≡ flag (host_bits form (take used (drop c.loop-n.n left)))
-    → (length after - (used - b) < length left - c.loop-n.n) × Carried (by_table a.counts.now) Guess Plain a.s.now after (used - b) form (c.loop-n.count + 1 + host_unit * (c.loop-n.hosts + host)) = λ b bytes host is.
-    let a = c.args in
-    sized_next a.counts.now Guess Plain a.s.now c.loop-n.rest.now c.loop-n.n c.loop-n.form (c.loop-n.count + host_unit * c.loop-n.hosts) c.loop-n.invariant _ c.guess_at.ensures _ _ c.in-Item.is _ (omega (arith, is)) b bytes in
-    let next :
-    let a = c.args in
-    (length c.match-next.rest.now - c.match-next.n < length c.loop-n.rest.now - c.loop-n.n)
-    × Carried (by_table a.counts.now) Guess Plain a.s.now c.match-next.rest.now c.match-next.n c.in-Item.next (c.loop-n.count + 1 + host_unit * c.match-next.hosts) =
-    let item = take c.in-Item.used (drop c.loop-n.n c.loop-n.rest.now) in
-    ⊎_elim
-    (λ w.
-    let form = w.1.given.1 in
-    rw (w.6, w.7, w.8)
-    (turn 1 (sym (ap (λ (f : Form). id_size f + 1) form)) w.4.result (w.4.ensures ∙ ap flag (w.3.ensures ∙ sym (ap (λ (f : Form). host_bits f item) form)))))
-    (λ w.
-    let form = w.1.given.1 in
-    rw (w.6, w.7, w.8)
-    (turn 5 (sym (ap (λ (f : Form). id_size f + 1) form)) w.4.result (w.4.ensures ∙ ap flag (w.3.ensures ∙ sym (ap (λ (f : Form). host_bits f item) form)))))
-    c.match-next.branch in
-    next.1
+loop-n-preserved c = (next c).1
 
 pub returns-in-Refused : goal.returns-in-Refused
 returns-in-Refused c =

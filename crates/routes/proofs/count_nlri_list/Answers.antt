@@ -6,7 +6,7 @@ pub returns : goal.returns
 returns c =
     let a = c.args in
     record {
-      answer = c.counted.ensures
-          ∙ c.count_list_by.ensures
+      answer = c.counted.ensures.answer
+          ∙ c.count_list_by.ensures.answer
           ∙ count_list_family _ a.afi (c.put_counts.ensures refl) a.s.now a.mode;
     }

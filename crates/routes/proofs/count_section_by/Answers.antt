@@ -22,7 +22,7 @@ pub returns : goal.returns
 returns c =
     let a = c.args in
     record {
-      answer = c.count_list_by.ensures
+      answer = c.count_list_by.ensures.answer
           ∙ ap (λ (r : Reading Row). with_hosts (count_answer a.s.now r) (hosts_by (by_table a.counts.now) a.s.now a.mode))
           (sym (section_list (by_table a.counts.now) a.s.now a.mode (sym c.is_strange.ensures ∙ c.if-is_strange.false)));
     }

@@ -11,6 +11,7 @@ returns-then-s-k c = let a = c.args in sym (ap size_of (table_none a.counts.now 
 
 pub size_by-requires : goal.size_by-requires
 size_by-requires c =
-    let both =
-    (omega (arith, c.id_size-k.ensures), ap (λ (k : ℕ). get_or c.args.s.now k 0) c.id_size-k.ensures) in
-    record { form_in_bounds = both.0; bits_value = both.1 }
+    record {
+      form_in_bounds = omega (arith, c.id_size-k.ensures);
+      bits_value = ap (λ (k : ℕ). get_or c.args.s.now k 0) c.id_size-k.ensures;
+    }

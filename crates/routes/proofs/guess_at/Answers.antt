@@ -44,11 +44,12 @@ byte_tried-bits-requires c =
 
 pub size_by-requires : goal.size_by-requires
 size_by-requires c =
-    let both =
     let s = c.args.s.now in
     let n = c.args.n in
-    (omega (arith, c.requires, ap length (rest s n), length-drop n s), c.byte_tried-bits.ensures ∙ sym (first s n) ∙ ap (λ (l : List ℕ). get_or l 0 0) (sym (rest s n))) in
-    record { form_in_bounds = both.0; bits_value = both.1 }
+    record {
+      form_in_bounds = omega (arith, c.requires, ap length (rest s n), length-drop n s);
+      bits_value = c.byte_tried-bits.ensures ∙ sym (first s n) ∙ ap (λ (l : List ℕ). get_or l 0 0) (sym (rest s n));
+    }
 
 pub returns-in-Size : goal.returns-in-Size
 returns-in-Size c =

@@ -36,8 +36,7 @@ host_at-requires c =
     let e = size_took (up_to (max_of a.afi)) (fair (max_of a.afi)) a.s.now a.form _ (size ∙ c.in-Size.is) in
     let t = prefix_took a.s.now (max_of a.afi) a.form _ _ e in
     (e, omega (arith, t.size), t.room) in
-    let both = let i = item in (i.1, (omega (arith, i.2), refl)) in
-    record { form_bound = both.0; used_in_bounds = both.1; past_value = both.2 }
+    record { form_bound = item.1; used_in_bounds = omega (arith, item.2); past_value = refl }
 
 pub returns-in-Size : goal.returns-in-Size
 unfolding route_of
