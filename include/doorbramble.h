@@ -73,8 +73,8 @@ extern "C" {
 /* the message type is not 1 to 5 */
 #define DOORBRAMBLE_MESSAGE_TYPE 4
 
-/* 5 is retired and not used again */
-
+/* never given (a message body is shorter than the measured length) */
+#define DOORBRAMBLE_SHORT_BODY 5
 /* the marker is not all FF (strict) */
 #define DOORBRAMBLE_BAD_MARKER 6
 /* a prefix length is over 32 (IPv4) or 128 (IPv6) */

@@ -18,7 +18,7 @@ message_length = 3
 abbrev pub message_type : ℕ
 message_type = 4
 
--- never given: a message body is shorter than the measured length
+-- never given (a message body is shorter than the measured length)
 abbrev pub short_body : ℕ
 short_body = 5
 

@@ -11,12 +11,12 @@ pub fn all() -> impl Iterator<Item = (usize, &'static str)> {
     })
 }
 
-/// For each number whether it is one of them, or 0, which is none.
+/// For each number whether an answer may have it: it is one of them and no `never given`, or 0, which is none.
 pub fn known() -> [bool; PAST_ALL] {
     let mut known = [false; PAST_ALL];
     known[0] = true;
-    for (number, _) in all() {
-        known[number] = true;
+    for (number, sentence) in all() {
+        known[number] = !sentence.starts_with("never given");
     }
     known
 }

@@ -167,10 +167,10 @@ mod tests {
     #[test]
     fn an_answer_has_a_number_of_the_list() {
         let known = |refusal| differences(&format!("1 9 {refusal} 0 0 0 0 0 0 0 0")) == 0;
-        assert!((0..=20).filter(|refusal| *refusal != 5).all(known), "no refusal, and each number in use");
+        assert!((0..=20).filter(|refusal| *refusal != 5).all(known), "no refusal, and each number that is given");
         assert!(
             [5, 21, 31, 32, 65_535].into_iter().all(|refusal| !known(refusal)),
-            "the retired one, and those after the last"
+            "the one that is never given, and those after the last"
         );
     }
 

@@ -65,7 +65,7 @@ fn claimed_length(bytes: &[u8]) -> usize {
     usize::from(bytes[16]) << 8 | usize::from(bytes[17])
 }
 
-/// The crate's reading. The body is measured by what is given, so that it is always there.
+/// The crate's reading. The body check, 5, cannot fail: the body is measured by what is given.
 pub fn crate_reading(bytes: &[u8]) -> Result<Header, Refusal> {
     if bytes.len() < HEADER {
         return Err(2);
@@ -81,10 +81,14 @@ pub fn crate_reading(bytes: &[u8]) -> Result<Header, Refusal> {
     if is_over_plain(kind, claimed) {
         return Err(3);
     }
+    let taken = claimed.min(bytes.len());
+    if bytes.len() - HEADER < taken - HEADER {
+        return Err(5);
+    }
     Ok(Header {
         kind,
         claimed,
-        taken: claimed.min(bytes.len()),
+        taken,
         marker: !marker_is_good(bytes),
         cut: claimed > bytes.len(),
         trailing: claimed < bytes.len(),
