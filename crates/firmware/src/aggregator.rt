@@ -15,12 +15,7 @@ use words::{asn_length_of, word};
 const AGGREGATOR_SIZE: usize = 2;
 
 // An AGGREGATOR into two words of a lent store.
-#[unsafe(no_mangle)]
-pub extern "C" fn doorbramble_parse_aggregator(
-    value: &[u8],
-    four_bytes: u8,
-    words: &mut [u32],
-) -> u64
+pub fn doorbramble_parse_aggregator(value: &[u8], four_bytes: u8, words: &mut [u32]) -> u64
     ensures answer { result ≡ word_of (in_fields (aggregator_stored (aggregator_meaning (aggregator_of value.now (asn_length_of four_bytes))) (length words.old))) }
     ensures words { words.new ≡ filled (aggregator_stored (aggregator_meaning (aggregator_of value.now (asn_length_of four_bytes))) (length words.old)) (aggregator_words (aggregator_meaning (aggregator_of value.now (asn_length_of four_bytes)))) words.old }
 {
@@ -42,8 +37,7 @@ pub extern "C" fn doorbramble_parse_aggregator(
 }
 
 // An AS number and an identifier as an AGGREGATOR.
-#[unsafe(no_mangle)]
-pub extern "C" fn doorbramble_encode_aggregator(
+pub fn doorbramble_encode_aggregator(
     asn: u32,
     identifier: u32,
     four_bytes: u8,

@@ -31,16 +31,14 @@ fn attribute_word(a: AttributeAnswer) -> u64
 }
 
 // The attribute at a place of a section.
-#[unsafe(no_mangle)]
-pub extern "C" fn doorbramble_attribute_at(section: &[u8], place: usize) -> u64
+pub fn doorbramble_attribute_at(section: &[u8], place: usize) -> u64
     ensures { result ≡ word_of (attribute_fields (attribute_at section.now place)) }
 {
     attribute_word(attributes::attribute_at(section, place))
 }
 
 // The first attribute of a type.
-#[unsafe(no_mangle)]
-pub extern "C" fn doorbramble_find_attribute(section: &[u8], kind: u8) -> u64
+pub fn doorbramble_find_attribute(section: &[u8], kind: u8) -> u64
     ensures { result ≡ word_of (attribute_fields (find_answer section.now kind)) }
 {
     attribute_word(attributes::find_attribute(section, kind))

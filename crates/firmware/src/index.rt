@@ -30,21 +30,14 @@ fn index_word(a: IndexAnswer) -> u64
 }
 
 // How many places the index of a list has.
-#[unsafe(no_mangle)]
-pub extern "C" fn doorbramble_count_index(s: &[u8], ipv6: u8, add_path: u8) -> u64
+pub fn doorbramble_count_index(s: &[u8], ipv6: u8, add_path: u8) -> u64
     ensures { result ≡ word_of (in_fields (index_meaning (count_index (up_to (max_of (family_of ipv6))) s.now (form_of add_path)))) }
 {
     index_word(route_index::count_index(s, family_of(ipv6), form_of(add_path)))
 }
 
 // The index of a list, into a lent store.
-#[unsafe(no_mangle)]
-pub extern "C" fn doorbramble_build_index(
-    s: &[u8],
-    ipv6: u8,
-    add_path: u8,
-    places: &mut [u16],
-) -> u64
+pub fn doorbramble_build_index(s: &[u8], ipv6: u8, add_path: u8, places: &mut [u16]) -> u64
     ensures answer { result ≡ word_of (in_fields (index_meaning (build_index (up_to (max_of (family_of ipv6))) s.now (form_of add_path) (length places.old)))) }
     ensures places { places.new ≡ index_after (up_to (max_of (family_of ipv6))) s.now (form_of add_path) places.old }
 {
@@ -65,8 +58,7 @@ fn put_words(store: &mut [u32], row: Row)
 }
 
 // The route of a number by an index, into a lent store.
-#[unsafe(no_mangle)]
-pub extern "C" fn doorbramble_route_at(
+pub fn doorbramble_route_at(
     s: &[u8],
     index: &[u16],
     n: usize,

@@ -1,5 +1,5 @@
 // The calls of a drive's firmware, for C: numbers and slices in, one word of 64 bits out, and the rest in slices that the caller lends.
-// include/doorbramble.h declares them. They stand in modules, by what they read and write.
+// The crate firmware_c exports them, and include/doorbramble.h declares them. They stand in modules, by what they read and write.
 #![tactic(auto)]
 
 ghost use Rattle.std.specs.Prelude.{◌≡◌};

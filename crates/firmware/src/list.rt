@@ -29,8 +29,7 @@ pub(super) fn list_word(a: RoutesAnswer) -> u64
 
 // How many routes a list has, and how many of them have a bit set past their length. Here and below each family has a call of its own, so that its table is
 // known when it is compiled.
-#[unsafe(no_mangle)]
-pub extern "C" fn doorbramble_count_nlri_list(s: &[u8], ipv6: u8, settings: u8) -> u64
+pub fn doorbramble_count_nlri_list(s: &[u8], ipv6: u8, settings: u8) -> u64
     ensures { result ≡ word_of (in_fields (Routes.routes_meaning (Routes.count_list (up_to (max_of (family_of ipv6))) s.now (mode_of settings)))) }
 {
     let mode = mode_of(settings);
@@ -41,13 +40,7 @@ pub extern "C" fn doorbramble_count_nlri_list(s: &[u8], ipv6: u8, settings: u8) 
 }
 
 // The routes of a list, into a lent store.
-#[unsafe(no_mangle)]
-pub extern "C" fn doorbramble_parse_nlri_list(
-    s: &[u8],
-    ipv6: u8,
-    settings: u8,
-    store: &mut [u32],
-) -> u64
+pub fn doorbramble_parse_nlri_list(s: &[u8], ipv6: u8, settings: u8, store: &mut [u32]) -> u64
     ensures answer { result ≡ word_of (in_fields (Routes.routes_meaning (Routes.read_list (up_to (max_of (family_of ipv6))) s.now (mode_of settings) (length store.old)))) }
     ensures store { store.new ≡ Routes.store_after s.now (list_of s.now (max_of (family_of ipv6)) (mode_of settings)) store.old }
 {
@@ -59,13 +52,7 @@ pub extern "C" fn doorbramble_parse_nlri_list(
 }
 
 // Rows as a list of routes.
-#[unsafe(no_mangle)]
-pub extern "C" fn doorbramble_encode_nlri_prefixes(
-    rows: &[u32],
-    ipv6: u8,
-    add_path: u8,
-    out: &mut [u8],
-) -> u64
+pub fn doorbramble_encode_nlri_prefixes(rows: &[u32], ipv6: u8, add_path: u8, out: &mut [u8]) -> u64
     ensures answer { result ≡ word_of (in_fields (write_meaning (RouteWriter.write_answer rows.now (max_of (family_of ipv6)) (form_of add_path) (length out.old)))) }
     ensures out { out.new ≡ RouteWriter.out_after rows.now (max_of (family_of ipv6)) (form_of add_path) out.old }
 {
@@ -73,8 +60,7 @@ pub extern "C" fn doorbramble_encode_nlri_prefixes(
 }
 
 // The mark of a guessed id taken off every row of a store, which may have more rows than a list: they are told in all three fields.
-#[unsafe(no_mangle)]
-pub extern "C" fn doorbramble_clear_guessed(store: &mut [u32]) -> u64
+pub fn doorbramble_clear_guessed(store: &mut [u32]) -> u64
     ensures answer { result ≡ word_of (cleared_fields (clear_answer (length store.old))) }
     ensures store { store.new ≡ clear_after store.old }
 {

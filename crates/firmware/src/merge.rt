@@ -11,8 +11,7 @@ use as4::StandingAnswer;
 use words::word;
 
 // Which of two AGGREGATORs stands: all of it as a part, and 1, or 2 for AS4_AGGREGATOR.
-#[unsafe(no_mangle)]
-pub extern "C" fn doorbramble_standing_aggregator(aggregator: &[u8], as4_aggregator: &[u8]) -> u64
+pub fn doorbramble_standing_aggregator(aggregator: &[u8], as4_aggregator: &[u8]) -> u64
     ensures { result ≡ word_of (standing_fields (standing aggregator.now as4_aggregator.now) (length aggregator.now) (length as4_aggregator.now)) }
 {
     match as4::which_aggregator(aggregator, as4_aggregator) {
@@ -23,8 +22,7 @@ pub extern "C" fn doorbramble_standing_aggregator(aggregator: &[u8], as4_aggrega
 }
 
 // How many segments and numbers the path has that AS_PATH and AS4_PATH make, with the AGGREGATORs beside them.
-#[unsafe(no_mangle)]
-pub extern "C" fn doorbramble_count_merged_as_path(
+pub fn doorbramble_count_merged_as_path(
     as_path: &[u8],
     as4_path: &[u8],
     aggregator: &[u8],
@@ -36,8 +34,7 @@ pub extern "C" fn doorbramble_count_merged_as_path(
 }
 
 // That path into two lent stores: a pair of type and count for each segment, and the numbers back to back.
-#[unsafe(no_mangle)]
-pub extern "C" fn doorbramble_merge_as_path(
+pub fn doorbramble_merge_as_path(
     as_path: &[u8],
     as4_path: &[u8],
     aggregator: &[u8],

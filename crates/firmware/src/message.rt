@@ -36,8 +36,7 @@ fn message_word(a: MessageAnswer) -> u64
 }
 
 // The header of a message, as the crate reads it.
-#[unsafe(no_mangle)]
-pub extern "C" fn doorbramble_parse_bgp_message(s: &[u8]) -> u64
+pub fn doorbramble_parse_bgp_message(s: &[u8]) -> u64
     ensures { result ≡ word_of (message_fields (message_of s.now)) }
 {
     message_word(messages::parse_bgp_message(s))
@@ -51,24 +50,21 @@ fn strict_word(s: &[u8], edition: Edition) -> u64
 }
 
 // As RFC 4271 has it.
-#[unsafe(no_mangle)]
-pub extern "C" fn doorbramble_parse_bgp_message_strict(s: &[u8]) -> u64
+pub fn doorbramble_parse_bgp_message_strict(s: &[u8]) -> u64
     ensures { result ≡ word_of (message_fields (strict_of Rfc4271 s.now)) }
 {
     strict_word(s, Edition::Rfc4271)
 }
 
 // As the edition that C names has it.
-#[unsafe(no_mangle)]
-pub extern "C" fn doorbramble_parse_bgp_message_by_edition(s: &[u8], edition: u8) -> u64
+pub fn doorbramble_parse_bgp_message_by_edition(s: &[u8], edition: u8) -> u64
     ensures { result ≡ word_of (message_fields (strict_of (edition_of edition) s.now)) }
 {
     strict_word(s, edition_of(edition))
 }
 
 // A type and a body as a message.
-#[unsafe(no_mangle)]
-pub extern "C" fn doorbramble_encode_bgp_message(kind: u8, body: &[u8], out: &mut [u8]) -> u64
+pub fn doorbramble_encode_bgp_message(kind: u8, body: &[u8], out: &mut [u8]) -> u64
     ensures answer { result ≡ word_of (in_fields (write_meaning (Messages.write_message kind body.now (length out.old)))) }
     ensures out { out.new ≡ Messages.message_after kind body.now out.old }
 {

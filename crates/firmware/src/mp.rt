@@ -38,20 +38,14 @@ fn reach_word(a: ReachAnswer) -> u64
 }
 
 // How many routes MP_REACH_NLRI has.
-#[unsafe(no_mangle)]
-pub extern "C" fn doorbramble_count_mp_reach_nlri(value: &[u8], settings: u8) -> u64
+pub fn doorbramble_count_mp_reach_nlri(value: &[u8], settings: u8) -> u64
     ensures { result ≡ word_of (reach_fields (count_reach value.now (mode_of settings))) }
 {
     reach_word(mp_nlri::count_mp_reach_nlri(value, mode_of(settings)))
 }
 
 // The routes of MP_REACH_NLRI, into a lent store.
-#[unsafe(no_mangle)]
-pub extern "C" fn doorbramble_parse_mp_reach_nlri(
-    value: &[u8],
-    settings: u8,
-    store: &mut [u32],
-) -> u64
+pub fn doorbramble_parse_mp_reach_nlri(value: &[u8], settings: u8, store: &mut [u32]) -> u64
     ensures answer { result ≡ word_of (reach_fields (read_reach value.now (mode_of settings) (length store.old))) }
     ensures store { store.new ≡ reach_after (read_reach value.now (mode_of settings) (length store.old)) value.now (mode_of settings) store.old }
 {
@@ -59,8 +53,7 @@ pub extern "C" fn doorbramble_parse_mp_reach_nlri(
 }
 
 // A next hop and rows as MP_REACH_NLRI.
-#[unsafe(no_mangle)]
-pub extern "C" fn doorbramble_encode_mp_reach_nlri(
+pub fn doorbramble_encode_mp_reach_nlri(
     next_hop: &[u8],
     rows: &[u32],
     add_path: u8,
@@ -73,20 +66,14 @@ pub extern "C" fn doorbramble_encode_mp_reach_nlri(
 }
 
 // How many routes MP_UNREACH_NLRI has.
-#[unsafe(no_mangle)]
-pub extern "C" fn doorbramble_count_mp_unreach_nlri(value: &[u8], settings: u8) -> u64
+pub fn doorbramble_count_mp_unreach_nlri(value: &[u8], settings: u8) -> u64
     ensures { result ≡ word_of (in_fields (routes_meaning (count_unreach value.now (mode_of settings)))) }
 {
     list_word(mp_nlri::count_mp_unreach_nlri(value, mode_of(settings)))
 }
 
 // The routes of MP_UNREACH_NLRI, into a lent store.
-#[unsafe(no_mangle)]
-pub extern "C" fn doorbramble_parse_mp_unreach_nlri(
-    value: &[u8],
-    settings: u8,
-    store: &mut [u32],
-) -> u64
+pub fn doorbramble_parse_mp_unreach_nlri(value: &[u8], settings: u8, store: &mut [u32]) -> u64
     ensures answer { result ≡ word_of (in_fields (routes_meaning (read_unreach value.now (mode_of settings) (length store.old)))) }
     ensures store { store.new ≡ unreach_after (read_unreach value.now (mode_of settings) (length store.old)) value.now (mode_of settings) store.old }
 {
@@ -94,12 +81,7 @@ pub extern "C" fn doorbramble_parse_mp_unreach_nlri(
 }
 
 // Rows as MP_UNREACH_NLRI.
-#[unsafe(no_mangle)]
-pub extern "C" fn doorbramble_encode_mp_unreach_nlri(
-    rows: &[u32],
-    add_path: u8,
-    out: &mut [u8],
-) -> u64
+pub fn doorbramble_encode_mp_unreach_nlri(rows: &[u32], add_path: u8, out: &mut [u8]) -> u64
     ensures answer { result ≡ word_of (in_fields (write_meaning (write_unreach rows.now (form_of add_path) (length out.old)))) }
     ensures out { out.new ≡ filled (write_meaning (write_unreach rows.now (form_of add_path) (length out.old))) (unreach_bytes (route_bytes rows.now (form_of add_path))) out.old }
 {

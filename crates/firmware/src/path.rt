@@ -32,16 +32,14 @@ fn count_by(value: &[u8], four_bytes: u8, rule: PathRule) -> u64
 }
 
 // As the crate does.
-#[unsafe(no_mangle)]
-pub extern "C" fn doorbramble_count_as_path(value: &[u8], four_bytes: u8) -> u64
+pub fn doorbramble_count_as_path(value: &[u8], four_bytes: u8) -> u64
     ensures { result ≡ word_of (in_fields (Paths.path_meaning (Paths.count_answer value.now (path_of known_type (width_of (asn_length_of four_bytes)) value.now)))) }
 {
     count_by(value, four_bytes, PathRule::Crate)
 }
 
 // Strictly.
-#[unsafe(no_mangle)]
-pub extern "C" fn doorbramble_count_as_path_strict(value: &[u8], four_bytes: u8) -> u64
+pub fn doorbramble_count_as_path_strict(value: &[u8], four_bytes: u8) -> u64
     ensures { result ≡ word_of (in_fields (Paths.path_meaning (Paths.count_answer value.now (path_of non_empty (width_of (asn_length_of four_bytes)) value.now)))) }
 {
     count_by(value, four_bytes, PathRule::Strict)
@@ -79,8 +77,7 @@ fn parse_by(value: &[u8], how: u16, pairs: &mut [u32], numbers: &mut [u32]) -> u
 }
 
 // As the crate does.
-#[unsafe(no_mangle)]
-pub extern "C" fn doorbramble_parse_as_path(
+pub fn doorbramble_parse_as_path(
     value: &[u8],
     four_bytes: u8,
     pairs: &mut [u32],
@@ -94,8 +91,7 @@ pub extern "C" fn doorbramble_parse_as_path(
 }
 
 // Strictly.
-#[unsafe(no_mangle)]
-pub extern "C" fn doorbramble_parse_as_path_strict(
+pub fn doorbramble_parse_as_path_strict(
     value: &[u8],
     four_bytes: u8,
     pairs: &mut [u32],
@@ -125,8 +121,7 @@ fn encode_by(pairs: &[u32], numbers: &[u32], how: u16, out: &mut [u8]) -> u64
 }
 
 // As the crate does.
-#[unsafe(no_mangle)]
-pub extern "C" fn doorbramble_encode_as_path(
+pub fn doorbramble_encode_as_path(
     pairs: &[u32],
     numbers: &[u32],
     four_bytes: u8,
@@ -139,8 +134,7 @@ pub extern "C" fn doorbramble_encode_as_path(
 }
 
 // Strictly.
-#[unsafe(no_mangle)]
-pub extern "C" fn doorbramble_encode_as_path_strict(
+pub fn doorbramble_encode_as_path_strict(
     pairs: &[u32],
     numbers: &[u32],
     four_bytes: u8,

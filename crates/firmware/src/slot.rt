@@ -33,8 +33,7 @@ fn slot_word(a: SlotAnswer) -> u64
 }
 
 // What stands at the front of the input. `last` says that no bytes follow those in hand.
-#[unsafe(no_mangle)]
-pub extern "C" fn doorbramble_next_slot(s: &[u8], last: u8) -> u64
+pub fn doorbramble_next_slot(s: &[u8], last: u8) -> u64
     ensures { result ≡ word_of (slot_fields (slot_of s.now (is_yes last))) }
 {
     slot_word(slots::next_slot(s, last != 0))

@@ -16,8 +16,7 @@ use updates::{LENGTH_SIZE, PartsAnswer, UpdateAnswer};
 use words::{form_of, word};
 
 // Where the withdrawn section of an UPDATE body stands.
-#[unsafe(no_mangle)]
-pub extern "C" fn doorbramble_withdrawn_part(body: &[u8]) -> u64
+pub fn doorbramble_withdrawn_part(body: &[u8]) -> u64
     ensures { result ≡ word_of (part_fields withdrawn_at (parts_of body.now)) }
 {
     match updates::update_parts(body) {
@@ -31,8 +30,7 @@ pub extern "C" fn doorbramble_withdrawn_part(body: &[u8]) -> u64
 }
 
 // Where the attribute section of an UPDATE body stands.
-#[unsafe(no_mangle)]
-pub extern "C" fn doorbramble_attribute_part(body: &[u8]) -> u64
+pub fn doorbramble_attribute_part(body: &[u8]) -> u64
     ensures { result ≡ word_of (part_fields attributes_at (parts_of body.now)) }
 {
     match updates::update_parts(body) {
@@ -51,8 +49,7 @@ pub extern "C" fn doorbramble_attribute_part(body: &[u8]) -> u64
 }
 
 // Where the announced section of an UPDATE body stands.
-#[unsafe(no_mangle)]
-pub extern "C" fn doorbramble_announced_part(body: &[u8]) -> u64
+pub fn doorbramble_announced_part(body: &[u8]) -> u64
     ensures { result ≡ word_of (part_fields announced_at (parts_of body.now)) }
 {
     match updates::update_parts(body) {
@@ -90,16 +87,14 @@ fn update_word(a: UpdateAnswer) -> u64
 }
 
 // How many routes the sections of an UPDATE body have.
-#[unsafe(no_mangle)]
-pub extern "C" fn doorbramble_count_bgp_update_message(body: &[u8], settings: u8) -> u64
+pub fn doorbramble_count_bgp_update_message(body: &[u8], settings: u8) -> u64
     ensures { result ≡ word_of (update_fields (count_update body.now (mode_of settings))) }
 {
     update_word(updates::count_bgp_update_message(body, mode_of(settings)))
 }
 
 // How many routes of each section of an UPDATE body have a bit set past their length, for which the word of an UPDATE has no field left.
-#[unsafe(no_mangle)]
-pub extern "C" fn doorbramble_count_update_hosts(body: &[u8], settings: u8) -> u64
+pub fn doorbramble_count_update_hosts(body: &[u8], settings: u8) -> u64
     ensures { result ≡ word_of (host_fields (count_update body.now (mode_of settings))) }
 {
     match updates::update_parts(body) {
@@ -125,8 +120,7 @@ pub extern "C" fn doorbramble_count_update_hosts(body: &[u8], settings: u8) -> u
 }
 
 // The routes of an UPDATE body, into a lent store for each section.
-#[unsafe(no_mangle)]
-pub extern "C" fn doorbramble_parse_bgp_update_message(
+pub fn doorbramble_parse_bgp_update_message(
     body: &[u8],
     settings: u8,
     withdrawn: &mut [u32],
@@ -140,8 +134,7 @@ pub extern "C" fn doorbramble_parse_bgp_update_message(
 }
 
 // Rows to withdraw, attribute bytes and rows to announce as an UPDATE body.
-#[unsafe(no_mangle)]
-pub extern "C" fn doorbramble_encode_bgp_update_message(
+pub fn doorbramble_encode_bgp_update_message(
     withdrawn: &[u32],
     attributes: &[u8],
     announced: &[u32],

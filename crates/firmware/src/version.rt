@@ -12,8 +12,7 @@ pub const MAJOR: u16 = 2;
 pub const MINOR: u16 = 1;
 
 // The version of the library.
-#[unsafe(no_mangle)]
-pub extern "C" fn doorbramble_version() -> u64
+pub fn doorbramble_version() -> u64
     ensures { result ≡ word_of version_fields }
 {
     word(MAJOR, MINOR, 0, 0)
