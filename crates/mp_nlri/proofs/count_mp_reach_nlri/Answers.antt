@@ -27,7 +27,7 @@ returns-in-Head c =
     let a = c.args in
     let is = c.mp_reach_head.ensures in
     let list = reach_list_lem a.value.now _ is _ _ c.in-Head.is _ c.bytes_after-list.ensures in
-    reach_told a.value.now _ is _ _ c.in-Head.is (λ l. count_list ipv6 l a.mode) _ _ _ list c.count_nlri_list.ensures c.as_reach.ensures
+    reach_told a.value.now _ is _ _ c.in-Head.is (λ l. count_list ipv6 l a.mode) _ _ _ list c.count_nlri_list.ensures.answer c.as_reach.ensures
 
 pub returns-in-Refused : goal.returns-in-Refused
 unfolding count_reach

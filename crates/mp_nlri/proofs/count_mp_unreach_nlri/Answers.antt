@@ -17,4 +17,4 @@ pub returns : goal.returns
 unfolding count_unreach
 returns c =
     let a = c.args in
-    unreach_told a.value.now _ c.pair_fault-fault.ensures (λ l. count_list ipv6 l a.mode) _ _ c.if-fault-ne0.false c.bytes_after.ensures c.count_nlri_list.ensures
+    unreach_told a.value.now _ c.pair_fault-fault.ensures (λ l. count_list ipv6 l a.mode) _ _ c.if-fault-ne0.false c.bytes_after.ensures c.count_nlri_list.ensures.answer

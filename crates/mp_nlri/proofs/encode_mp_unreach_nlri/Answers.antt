@@ -18,21 +18,21 @@ use Rattle.mp_nlri.proofs.encode_mp_unreach_nlri.Goals as goal
 pub returns-in-Bytes : goal.returns-in-Bytes
 unfolding unreach_bytes
 returns-in-Bytes c =
-    let both =
     let a = c.args in
     let list : List ℕ = route_bytes a.rows.now a.form in
     let wrote : write_after 3 a.rows.now (max_of Ipv6) a.form (length a.out.now) ≡ Bytes _ = sym c.encode_nlri_after.ensures.answer ∙ c.in-Bytes.is in
     let w = after_written 3 a.rows.now (max_of Ipv6) a.form (length a.out.now) _ wrote in
     let laid = c.encode_nlri_after.ensures.out ∙ ap (λ (x : WriteAnswer). filled_after (write_meaning x) 3 list a.out.now) c.in-Bytes.is in
-    (sym wrote, pair_put a.out.now _ _ list (omega (arith, w)) laid c.put_octets.ensures) in
-    record { answer = both.0; out = both.1 }
+    record {
+      answer = sym wrote;
+      out = pair_put a.out.now _ _ list (omega (arith, w)) laid c.put_octets.ensures;
+    }
 
 pub returns-in-Refused : goal.returns-in-Refused
 returns-in-Refused c =
-    let both =
     let told = c.in-Refused.is in
-    let a = c.args in (
-      sym told ∙ c.encode_nlri_after.ensures.answer,
-      c.encode_nlri_after.ensures.out ∙ ap (λ (x : WriteAnswer). filled_after (write_meaning x) 3 (route_bytes a.rows.now a.form) a.out.now) told,
-    ) in
-    record { answer = both.0; out = both.1 }
+    let a = c.args in
+    record {
+      answer = sym told ∙ c.encode_nlri_after.ensures.answer;
+      out = c.encode_nlri_after.ensures.out ∙ ap (λ (x : WriteAnswer). filled_after (write_meaning x) 3 (route_bytes a.rows.now a.form) a.out.now) told;
+    }

@@ -1,6 +1,5 @@
 use mathlib.Core.Path.{refl, sym, ◌∙◌}
 use native.Mathlib.Omega.{arith}
-use borrow.Author.Tests.{not-true, not-false}
 use Rattle.mp_nlri.proofs.ValueLaws.{Paired, pair_good, head_refused, head_cut, head_other, head_short, head_by}
 use Rattle.mp_nlri.proofs.mp_reach_head.Goals as goal
 
@@ -18,7 +17,7 @@ overflow_cast-next_hop c = omega (arith, c.type_inv.value 3)
 pub returns-then-not-is_hop_size : goal.returns-then-not-is_hop_size
 returns-then-not-is_hop_size c =
     let paired : Paired c.args.value.now = pair_good _ (sym c.if-fault-ne0.false ∙ c.pair_fault-fault.ensures) in
-    head_other _ paired c.if-value-lt-NEXT_HOP_OFFSET.false (sym (not-true _ c.if-not-is_hop_size.true) ∙ c.is_hop_size.ensures)
+    head_other _ paired c.if-value-lt-NEXT_HOP_OFFSET.false (sym c.if-not-is_hop_size.true ∙ c.is_hop_size.ensures)
 
 pub overflow_add-end : goal.overflow_add-end
 overflow_add-end c = omega (arith, c.type_inv.value 3)
@@ -26,10 +25,10 @@ overflow_add-end c = omega (arith, c.type_inv.value 3)
 pub returns-then-value-end : goal.returns-then-value-end
 returns-then-value-end c =
     let paired : Paired c.args.value.now = pair_good _ (sym c.if-fault-ne0.false ∙ c.pair_fault-fault.ensures) in
-    head_short _ paired c.if-value-lt-NEXT_HOP_OFFSET.false (sym (not-false _ c.if-not-is_hop_size.false) ∙ c.is_hop_size.ensures) c.if-value-end.true
+    head_short _ paired c.if-value-lt-NEXT_HOP_OFFSET.false (sym c.if-not-is_hop_size.false ∙ c.is_hop_size.ensures) c.if-value-end.true
 
 pub returns : goal.returns
 returns c =
     let paired : Paired c.args.value.now = pair_good _ (sym c.if-fault-ne0.false ∙ c.pair_fault-fault.ensures) in
-    let size = sym c.is_hop_size.ensures ∙ not-false _ c.if-not-is_hop_size.false in
+    let size = sym c.is_hop_size.ensures ∙ c.if-not-is_hop_size.false in
     sym (head_by _ _ _ (record { paired = paired; told = refl; sized = size; whole = c.if-value-end.false; flagged = refl }))

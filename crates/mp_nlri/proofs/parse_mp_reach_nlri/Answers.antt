@@ -25,14 +25,13 @@ bytes_after-list-requires c =
 pub returns-in-Head : goal.returns-in-Head
 unfolding read_reach
 returns-in-Head c =
-    let both =
     let a = c.args in
     let is = c.mp_reach_head.ensures in
-    let list = reach_list_lem a.value.now _ is _ _ c.in-Head.is _ c.bytes_after-list.ensures in (
-      reach_told a.value.now _ is _ _ c.in-Head.is (λ l. read_list ipv6 l a.mode (length a.store.now)) _ _ _ list c.parse_nlri_list.ensures.answer c.as_reach.ensures,
-      reach_stored a.value.now a.mode a.store.now _ _ _ _ _ _ list c.parse_nlri_list.ensures.answer c.as_reach.ensures c.parse_nlri_list.ensures.store,
-    ) in
-    record { answer = both.0; store = both.1 }
+    let list = reach_list_lem a.value.now _ is _ _ c.in-Head.is _ c.bytes_after-list.ensures in
+    record {
+      answer = reach_told a.value.now _ is _ _ c.in-Head.is (λ l. read_list ipv6 l a.mode (length a.store.now)) _ _ _ list c.parse_nlri_list.ensures.answer c.as_reach.ensures;
+      store = reach_stored a.value.now a.mode a.store.now _ _ _ _ _ _ list c.parse_nlri_list.ensures.answer c.as_reach.ensures c.parse_nlri_list.ensures.store;
+    }
 
 pub returns-in-Refused : goal.returns-in-Refused
 unfolding read_reach

@@ -21,9 +21,8 @@ bytes_after-requires c = (pair_good _ (sym c.if-fault-ne0.false ∙ c.pair_fault
 pub returns : goal.returns
 unfolding read_unreach
 returns c =
-    let both =
-    let a = c.args in (
-      unreach_told a.value.now _ c.pair_fault-fault.ensures (λ l. read_list ipv6 l a.mode (length a.store.now)) _ _ c.if-fault-ne0.false c.bytes_after.ensures c.parse_nlri_list.ensures.answer,
-      unreach_stored a.value.now a.mode a.store.now _ _ _ c.bytes_after.ensures c.parse_nlri_list.ensures.answer c.parse_nlri_list.ensures.store,
-    ) in
-    record { answer = both.0; store = both.1 }
+    let a = c.args in
+    record {
+      answer = unreach_told a.value.now _ c.pair_fault-fault.ensures (λ l. read_list ipv6 l a.mode (length a.store.now)) _ _ c.if-fault-ne0.false c.bytes_after.ensures c.parse_nlri_list.ensures.answer;
+      store = unreach_stored a.value.now a.mode a.store.now _ _ _ c.bytes_after.ensures c.parse_nlri_list.ensures.answer c.parse_nlri_list.ensures.store;
+    }

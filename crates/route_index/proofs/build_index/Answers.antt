@@ -38,7 +38,7 @@ put_places-requires c =
     let both =
     let a = c.args in
     fits_table _ a.afi c.counts-counts.ensures a.s.now a.form a.places.now _ counted (omega (arith, c.if-places-n.false)) in
-    record { s_len_bound = both.0; fitting = both.1; n_value = both.2 }
+    record { s_len_bound = both.0; fitting = both.1.0; n_value = both.1.1 }
 
 pub returns : goal.returns
 returns c =

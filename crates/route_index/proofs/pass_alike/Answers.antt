@@ -12,7 +12,7 @@ pub overflow_sub-n : goal.overflow_sub-n
 overflow_sub-n c =
     let first : let a = c.args in
     (c.id_size.result + 1 ≤ a.used) × (a.from + a.used ≤ length a.s.now) × (a.most * a.used ≤ 16 * a.used) =
-    let f = first_fits c.args.counts.now c.args.form c.args.s.now c.args.from c.args.used c.args.most c.requires.most_nonzero.0 c.requires.s_len_bound.1 in
+    let f = first_fits c.args.counts.now c.args.form c.args.s.now c.args.from c.args.used c.args.most c.requires.most_nonzero.0 c.requires.form_value in
     (omega (arith, f.0, c.id_size.ensures), f.1, mul-le-mul_right c.args.used c.requires.most_nonzero.1) in
     omega (arith, first.0)
 
@@ -20,7 +20,7 @@ pub overflow_sub-n-2 : goal.overflow_sub-n-2
 overflow_sub-n-2 c =
     let first : let a = c.args in
     (c.id_size.result + 1 ≤ a.used) × (a.from + a.used ≤ length a.s.now) × (a.most * a.used ≤ 16 * a.used) =
-    let f = first_fits c.args.counts.now c.args.form c.args.s.now c.args.from c.args.used c.args.most c.requires.most_nonzero.0 c.requires.s_len_bound.1 in
+    let f = first_fits c.args.counts.now c.args.form c.args.s.now c.args.from c.args.used c.args.most c.requires.most_nonzero.0 c.requires.form_value in
     (omega (arith, f.0, c.id_size.ensures), f.1, mul-le-mul_right c.args.used c.requires.most_nonzero.1) in
     omega (arith, first.0)
 
@@ -28,17 +28,17 @@ pub overflow_mul-most : goal.overflow_mul-most
 overflow_mul-most c =
     let first : let a = c.args in
     (c.id_size.result + 1 ≤ a.used) × (a.from + a.used ≤ length a.s.now) × (a.most * a.used ≤ 16 * a.used) =
-    let f = first_fits c.args.counts.now c.args.form c.args.s.now c.args.from c.args.used c.args.most c.requires.most_nonzero.0 c.requires.s_len_bound.1 in
+    let f = first_fits c.args.counts.now c.args.form c.args.s.now c.args.from c.args.used c.args.most c.requires.most_nonzero.0 c.requires.form_value in
     (omega (arith, f.0, c.id_size.ensures), f.1, mul-le-mul_right c.args.used c.requires.most_nonzero.1) in
-    omega (arith, first, c.requires.s_len_bound.0)
+    omega (arith, first, c.requires.s_len_bound)
 
 pub overflow_add-from : goal.overflow_add-from
 overflow_add-from c =
     let first : let a = c.args in
     (c.id_size.result + 1 ≤ a.used) × (a.from + a.used ≤ length a.s.now) × (a.most * a.used ≤ 16 * a.used) =
-    let f = first_fits c.args.counts.now c.args.form c.args.s.now c.args.from c.args.used c.args.most c.requires.most_nonzero.0 c.requires.s_len_bound.1 in
+    let f = first_fits c.args.counts.now c.args.form c.args.s.now c.args.from c.args.used c.args.most c.requires.most_nonzero.0 c.requires.form_value in
     (omega (arith, f.0, c.id_size.ensures), f.1, mul-le-mul_right c.args.used c.requires.most_nonzero.1) in
-    omega (arith, first, c.requires.s_len_bound.0)
+    omega (arith, first, c.requires.s_len_bound)
 
 pub overflow_sub-last : goal.overflow_sub-last
 overflow_sub-last c =
@@ -46,16 +46,16 @@ overflow_sub-last c =
     (a.used ≤ c.least.result)
     × Alike a.counts.now a.form a.s.now a.used (a.used - c.id_size.result - 1) a.most a.from (c.least.result - a.used) (a.from + a.used) 1 =
     rw c.id_size.ensures
-    (alike_start c.args.counts.now c.args.form c.args.s.now c.args.from c.args.used c.args.most c.requires.most_nonzero.0 c.requires.s_len_bound.1 c.least.result c.least.ensures) in
+    (alike_start c.args.counts.now c.args.form c.args.s.now c.args.from c.args.used c.args.most c.requires.most_nonzero.0 c.requires.form_value c.least.result c.least.ensures) in
     omega (arith, start.0)
 
 pub overflow_add-at : goal.overflow_add-at
 overflow_add-at c =
     let first : let a = c.args in
     (c.id_size.result + 1 ≤ a.used) × (a.from + a.used ≤ length a.s.now) × (a.most * a.used ≤ 16 * a.used) =
-    let f = first_fits c.args.counts.now c.args.form c.args.s.now c.args.from c.args.used c.args.most c.requires.most_nonzero.0 c.requires.s_len_bound.1 in
+    let f = first_fits c.args.counts.now c.args.form c.args.s.now c.args.from c.args.used c.args.most c.requires.most_nonzero.0 c.requires.form_value in
     (omega (arith, f.0, c.id_size.ensures), f.1, mul-le-mul_right c.args.used c.requires.most_nonzero.1) in
-    omega (arith, first.1, c.requires.s_len_bound.0)
+    omega (arith, first.1, c.requires.s_len_bound)
 
 pub loop-at-init : goal.loop-at-init
 loop-at-init c =
@@ -63,21 +63,21 @@ loop-at-init c =
     (a.used ≤ c.least.result)
     × Alike a.counts.now a.form a.s.now a.used (a.used - c.id_size.result - 1) a.most a.from (c.least.result - a.used) (a.from + a.used) 1 =
     rw c.id_size.ensures
-    (alike_start c.args.counts.now c.args.form c.args.s.now c.args.from c.args.used c.args.most c.requires.most_nonzero.0 c.requires.s_len_bound.1 c.least.result c.least.ensures) in
+    (alike_start c.args.counts.now c.args.form c.args.s.now c.args.from c.args.used c.args.most c.requires.most_nonzero.0 c.requires.form_value c.least.result c.least.ensures) in
     start.1
 
 pub overflow_add-at-in-loop-at : goal.overflow_add-at-in-loop-at
 overflow_add-at-in-loop-at c =
     let here : let a = c.args in
     (c.loop-at.at + a.used ≤ length a.s.now) × (id_size a.form + 1 ≤ a.used) × (length a.s.now ≤ 65535) =
-    (omega (arith, c.loop-at-test.true, c.loop-at.invariant.within), omega (arith, c.loop-at.invariant.size), c.requires.s_len_bound.0) in
+    (omega (arith, c.loop-at-test.true, c.loop-at.invariant.within), omega (arith, c.loop-at.invariant.size), c.requires.s_len_bound) in
     omega (arith, here, c.id_size-in-loop-at.ensures)
 
 pub bounds-s-at : goal.bounds-s-at
 bounds-s-at c =
     let here : let a = c.args in
     (c.loop-at.at + a.used ≤ length a.s.now) × (id_size a.form + 1 ≤ a.used) × (length a.s.now ≤ 65535) =
-    (omega (arith, c.loop-at-test.true, c.loop-at.invariant.within), omega (arith, c.loop-at.invariant.size), c.requires.s_len_bound.0) in
+    (omega (arith, c.loop-at-test.true, c.loop-at.invariant.within), omega (arith, c.loop-at.invariant.size), c.requires.s_len_bound) in
     omega (arith, here, c.id_size-in-loop-at.ensures)
 
 pub overflow_sub-result : goal.overflow_sub-result
@@ -90,7 +90,7 @@ pub overflow_add-at-in-loop-at-2 : goal.overflow_add-at-in-loop-at-2
 overflow_add-at-in-loop-at-2 c =
     let here : let a = c.args in
     (c.loop-at.at + a.used ≤ length a.s.now) × (id_size a.form + 1 ≤ a.used) × (length a.s.now ≤ 65535) =
-    (omega (arith, c.loop-at-test.true, c.loop-at.invariant.within), omega (arith, c.loop-at.invariant.size), c.requires.s_len_bound.0) in
+    (omega (arith, c.loop-at-test.true, c.loop-at.invariant.within), omega (arith, c.loop-at.invariant.size), c.requires.s_len_bound) in
     omega (arith, here)
 
 pub overflow_add-passed : goal.overflow_add-passed
@@ -109,7 +109,7 @@ pub loop-at-smaller : goal.loop-at-smaller
 loop-at-smaller c =
     let here : let a = c.args in
     (c.loop-at.at + a.used ≤ length a.s.now) × (id_size a.form + 1 ≤ a.used) × (length a.s.now ≤ 65535) =
-    (omega (arith, c.loop-at-test.true, c.loop-at.invariant.within), omega (arith, c.loop-at.invariant.size), c.requires.s_len_bound.0) in
+    (omega (arith, c.loop-at-test.true, c.loop-at.invariant.within), omega (arith, c.loop-at.invariant.size), c.requires.s_len_bound) in
     omega (arith, here, c.loop-at-test.true)
 
 pub loop-at-preserved : goal.loop-at-preserved

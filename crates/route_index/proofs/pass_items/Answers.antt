@@ -16,11 +16,12 @@ returns-then-s-at c =
 
 pub pass_alike-p-requires : goal.pass_alike-p-requires
 pass_alike-p-requires c =
-    let both =
     let a = c.args in
-    let item = item_here a.counts.now a.form a.s.now c.loop-left.at _ c.form_size.ensures c.in-Item.used c.in-Item.form c.in-Item.is in
-    ((omega (arith, c.loop-left-test.true), omega (arith, c.loop-left.invariant.0, c.requires.0)), (c.requires.1, item)) in
-    record { most_nonzero = both.0; s_len_bound = both.1; form_value = both.2 }
+    record {
+      most_nonzero = (omega (arith, c.loop-left-test.true), omega (arith, c.loop-left.invariant.0, c.requires.0));
+      s_len_bound = c.requires.1;
+      form_value = item_here a.counts.now a.form a.s.now c.loop-left.at _ c.form_size.ensures c.in-Item.used c.in-Item.form c.in-Item.is;
+    }
 
 pub loop-left-smaller : goal.loop-left-smaller
 loop-left-smaller c = c.pass_alike-p.ensures.fewer

@@ -30,12 +30,12 @@ bounds-s-at c =
 
 pub pass_known_alike-p-requires : goal.pass_known_alike-p-requires
 pass_known_alike-p-requires c =
-    let both =
-    let a = c.args in (
-      omega (arith, c.loop-left-test.true),
-      (c.after-n.ensures ∙ ap (λ (i : ℕ). entry a.counts.now (get_or a.s.now (c.loop-left.at + i) 0)) c.id_size.ensures, c.loop-left.invariant.1),
-    ) in
-    record { most_nonzero = both.0; n_value = both.1; remain_2 = both.2 }
+    let a = c.args in
+    record {
+      most_nonzero = omega (arith, c.loop-left-test.true);
+      n_value = c.after-n.ensures ∙ ap (λ (i : ℕ). entry a.counts.now (get_or a.s.now (c.loop-left.at + i) 0)) c.id_size.ensures;
+      remain_2 = c.loop-left.invariant.1;
+    }
 
 pub loop-left-smaller : goal.loop-left-smaller
 loop-left-smaller c = c.pass_known_alike-p.ensures.passes.fewer

@@ -15,7 +15,7 @@ overflow_add-used c =
     let next = a.from + (c.id_size.result + 1 + a.n) in
     (next ≤ length a.s.now) × Passes (by_table a.counts.now) a.form a.s.now a.most a.from (a.most - 1) next × Remain (by_table a.counts.now) a.form a.s.now (a.most - 1) next =
     let a = c.args in
-    known_start a.counts.now a.form a.s.now c.id_size.result a.n a.most a.from c.id_size.ensures c.requires.most_nonzero c.requires.n_value.0 c.requires.n_value.1 in
+    known_start a.counts.now a.form a.s.now c.id_size.result a.n a.most a.from c.id_size.ensures c.requires.most_nonzero c.requires.n_value c.requires.remain_2 in
     omega (arith, start.0)
 
 pub overflow_add-used-2 : goal.overflow_add-used-2
@@ -24,7 +24,7 @@ overflow_add-used-2 c =
     let next = a.from + (c.id_size.result + 1 + a.n) in
     (next ≤ length a.s.now) × Passes (by_table a.counts.now) a.form a.s.now a.most a.from (a.most - 1) next × Remain (by_table a.counts.now) a.form a.s.now (a.most - 1) next =
     let a = c.args in
-    known_start a.counts.now a.form a.s.now c.id_size.result a.n a.most a.from c.id_size.ensures c.requires.most_nonzero c.requires.n_value.0 c.requires.n_value.1 in
+    known_start a.counts.now a.form a.s.now c.id_size.result a.n a.most a.from c.id_size.ensures c.requires.most_nonzero c.requires.n_value c.requires.remain_2 in
     omega (arith, start.0)
 
 pub overflow_add-at : goal.overflow_add-at
@@ -33,7 +33,7 @@ overflow_add-at c =
     let next = a.from + (c.id_size.result + 1 + a.n) in
     (next ≤ length a.s.now) × Passes (by_table a.counts.now) a.form a.s.now a.most a.from (a.most - 1) next × Remain (by_table a.counts.now) a.form a.s.now (a.most - 1) next =
     let a = c.args in
-    known_start a.counts.now a.form a.s.now c.id_size.result a.n a.most a.from c.id_size.ensures c.requires.most_nonzero c.requires.n_value.0 c.requires.n_value.1 in
+    known_start a.counts.now a.form a.s.now c.id_size.result a.n a.most a.from c.id_size.ensures c.requires.most_nonzero c.requires.n_value c.requires.remain_2 in
     omega (arith, start.0)
 
 pub overflow_sub-left : goal.overflow_sub-left
@@ -45,7 +45,7 @@ loop-left-init c =
     let next = a.from + (c.id_size.result + 1 + a.n) in
     (next ≤ length a.s.now) × Passes (by_table a.counts.now) a.form a.s.now a.most a.from (a.most - 1) next × Remain (by_table a.counts.now) a.form a.s.now (a.most - 1) next =
     let a = c.args in
-    known_start a.counts.now a.form a.s.now c.id_size.result a.n a.most a.from c.id_size.ensures c.requires.most_nonzero c.requires.n_value.0 c.requires.n_value.1 in
+    known_start a.counts.now a.form a.s.now c.id_size.result a.n a.most a.from c.id_size.ensures c.requires.most_nonzero c.requires.n_value c.requires.remain_2 in
     (start.1, start.2)
 
 pub overflow_add-at-in-loop-left : goal.overflow_add-at-in-loop-left

@@ -68,11 +68,10 @@ returns-else-s-at c =
     record {
       answer =
           let a = c.args in
-          let at = c.at-1.given in
           c.try_parse_prefix.ensures
-          ∙ ap (λ (t : List ℕ). route_of t (max_of a.afi) a.form) (rest a.s.now at.0.0)
-          ∙ found_some (up_to (max_of a.afi)) a.form a.s.now at.0.0 (omega (arith, c.if-s-at.false))
-          ∙ ap (found (up_to (max_of a.afi)) a.form a.s.now) (sym at.1)
+          ∙ ap (λ (t : List ℕ). route_of t (max_of a.afi) a.form) (rest a.s.now c.in-At.at)
+          ∙ found_some (up_to (max_of a.afi)) a.form a.s.now c.in-At.at (omega (arith, c.if-s-at.false))
+          ∙ ap (found (up_to (max_of a.afi)) a.form a.s.now) (sym c.in-At.is)
           ∙ reached;
     }
 

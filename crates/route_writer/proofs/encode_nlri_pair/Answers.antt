@@ -52,13 +52,12 @@ put_list-requires-in-Lists c =
 
 pub returns-in-Lists : goal.returns-in-Lists
 returns-in-Lists c =
-    let both =
     let a = c.args in
-    let at = a.start + c.in-Lists.a + a.between in (
-      sym c.in-Lists.is ∙ c.measure_pair.ensures,
-      c.put_list-in-Lists.ensures ∙ ap (λ (l : List ℕ). laid l at (bytes_of a.second.now (max_of a.afi) a.form)) c.put_list.ensures,
-    ) in
-    record { answer = both.0; out = both.1 }
+    let at = a.start + c.in-Lists.a + a.between in
+    record {
+      answer = sym c.in-Lists.is ∙ c.measure_pair.ensures;
+      out = c.put_list-in-Lists.ensures ∙ ap (λ (l : List ℕ). laid l at (bytes_of a.second.now (max_of a.afi) a.form)) c.put_list.ensures;
+    }
 
 pub returns-in-Refused : goal.returns-in-Refused
 returns-in-Refused c =

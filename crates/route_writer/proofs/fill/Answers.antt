@@ -16,12 +16,13 @@ loop-at-init c = λ max d₀ h. h
 pub put_row_by_form-n-requires : goal.put_row_by_form-n-requires
 put_row_by_form-n-requires c =
     let here : let a = c.args in Ahead (max_of a.afi) a.form a.rows.now a.out.now c.loop-at.at c.loop-at.to c.loop-at.out = let a = c.args in c.loop-at.invariant (max_of a.afi) a.out.now c.fill_ahead-r.ensures in
-    let both =
     let a = c.args in
     let r = ahead_row (max_of a.afi) a.form a.rows.now a.out.now c.loop-at.at c.loop-at.to c.loop-at.out here c.loop-at-test.true in
     let e = ahead_room (max_of a.afi) a.form a.rows.now a.out.now c.loop-at.at c.loop-at.to c.loop-at.out here in
-    ((r.0, omega (arith, r.2, e.1)), (r.1.mark, omega (arith, r.1.fits, max_small a.afi))) in
-    record { at_in_bounds = both.0; form_bound = both.1 }
+    record {
+      at_in_bounds = (r.0, omega (arith, r.2, e.1));
+      form_bound = (r.1.mark, omega (arith, r.1.fits, max_small a.afi));
+    }
 
 pub overflow_add-at : goal.overflow_add-at
 overflow_add-at c =
@@ -29,13 +30,13 @@ overflow_add-at c =
     let next :
     let a = c.args in
     (max : ℕ) (d₀ : List ℕ) → Ahead max a.form a.rows.now d₀ c.loop-at.at c.loop-at.to c.loop-at.out
-    → Ahead max a.form a.rows.now d₀ (c.loop-at.at + 6) (c.loop-at.to + c.put_row_by_form-n.result) c.put_row_by_form-n.new.1.1.1.0 = λ max d₀ h.
+    → Ahead max a.form a.rows.now d₀ (c.loop-at.at + 6) (c.loop-at.to + c.put_row_by_form-n.result) c.put_row_by_form-n.new.out = λ max d₀ h.
     let a = c.args in
     let e = c.put_row_by_form-n.ensures in
-    rw (e.0, e.1) (ahead_next max a.form a.rows.now d₀ c.loop-at.at c.loop-at.to c.loop-at.out h c.loop-at-test.true) in
+    rw (e.size, e.out) (ahead_next max a.form a.rows.now d₀ c.loop-at.at c.loop-at.to c.loop-at.out h c.loop-at-test.true) in
     let again :
     let a = c.args in
-    Ahead (max_of a.afi) a.form a.rows.now a.out.now (c.loop-at.at + 6) (c.loop-at.to + c.put_row_by_form-n.result) c.put_row_by_form-n.new.1.1.1.0 = next _ _ here in
+    Ahead (max_of a.afi) a.form a.rows.now a.out.now (c.loop-at.at + 6) (c.loop-at.to + c.put_row_by_form-n.result) c.put_row_by_form-n.new.out = next _ _ here in
     omega (arith, again.filled.within)
 
 pub overflow_add-to : goal.overflow_add-to
@@ -44,13 +45,13 @@ overflow_add-to c =
     let next :
     let a = c.args in
     (max : ℕ) (d₀ : List ℕ) → Ahead max a.form a.rows.now d₀ c.loop-at.at c.loop-at.to c.loop-at.out
-    → Ahead max a.form a.rows.now d₀ (c.loop-at.at + 6) (c.loop-at.to + c.put_row_by_form-n.result) c.put_row_by_form-n.new.1.1.1.0 = λ max d₀ h.
+    → Ahead max a.form a.rows.now d₀ (c.loop-at.at + 6) (c.loop-at.to + c.put_row_by_form-n.result) c.put_row_by_form-n.new.out = λ max d₀ h.
     let a = c.args in
     let e = c.put_row_by_form-n.ensures in
-    rw (e.0, e.1) (ahead_next max a.form a.rows.now d₀ c.loop-at.at c.loop-at.to c.loop-at.out h c.loop-at-test.true) in
+    rw (e.size, e.out) (ahead_next max a.form a.rows.now d₀ c.loop-at.at c.loop-at.to c.loop-at.out h c.loop-at-test.true) in
     let again :
     let a = c.args in
-    Ahead (max_of a.afi) a.form a.rows.now a.out.now (c.loop-at.at + 6) (c.loop-at.to + c.put_row_by_form-n.result) c.put_row_by_form-n.new.1.1.1.0 = next _ _ here in
+    Ahead (max_of a.afi) a.form a.rows.now a.out.now (c.loop-at.at + 6) (c.loop-at.to + c.put_row_by_form-n.result) c.put_row_by_form-n.new.out = next _ _ here in
     omega (arith, again.filled.room)
 
 pub loop-at-smaller : goal.loop-at-smaller
@@ -59,13 +60,13 @@ loop-at-smaller c =
     let next :
     let a = c.args in
     (max : ℕ) (d₀ : List ℕ) → Ahead max a.form a.rows.now d₀ c.loop-at.at c.loop-at.to c.loop-at.out
-    → Ahead max a.form a.rows.now d₀ (c.loop-at.at + 6) (c.loop-at.to + c.put_row_by_form-n.result) c.put_row_by_form-n.new.1.1.1.0 = λ max d₀ h.
+    → Ahead max a.form a.rows.now d₀ (c.loop-at.at + 6) (c.loop-at.to + c.put_row_by_form-n.result) c.put_row_by_form-n.new.out = λ max d₀ h.
     let a = c.args in
     let e = c.put_row_by_form-n.ensures in
-    rw (e.0, e.1) (ahead_next max a.form a.rows.now d₀ c.loop-at.at c.loop-at.to c.loop-at.out h c.loop-at-test.true) in
+    rw (e.size, e.out) (ahead_next max a.form a.rows.now d₀ c.loop-at.at c.loop-at.to c.loop-at.out h c.loop-at-test.true) in
     let again :
     let a = c.args in
-    Ahead (max_of a.afi) a.form a.rows.now a.out.now (c.loop-at.at + 6) (c.loop-at.to + c.put_row_by_form-n.result) c.put_row_by_form-n.new.1.1.1.0 = next _ _ here in
+    Ahead (max_of a.afi) a.form a.rows.now a.out.now (c.loop-at.at + 6) (c.loop-at.to + c.put_row_by_form-n.result) c.put_row_by_form-n.new.out = next _ _ here in
     omega (arith, again.filled.within)
 
 pub loop-at-preserved : goal.loop-at-preserved
@@ -73,10 +74,10 @@ loop-at-preserved c =
     let next :
     let a = c.args in
     (max : ℕ) (d₀ : List ℕ) → Ahead max a.form a.rows.now d₀ c.loop-at.at c.loop-at.to c.loop-at.out
-    → Ahead max a.form a.rows.now d₀ (c.loop-at.at + 6) (c.loop-at.to + c.put_row_by_form-n.result) c.put_row_by_form-n.new.1.1.1.0 = λ max d₀ h.
+    → Ahead max a.form a.rows.now d₀ (c.loop-at.at + 6) (c.loop-at.to + c.put_row_by_form-n.result) c.put_row_by_form-n.new.out = λ max d₀ h.
     let a = c.args in
     let e = c.put_row_by_form-n.ensures in
-    rw (e.0, e.1) (ahead_next max a.form a.rows.now d₀ c.loop-at.at c.loop-at.to c.loop-at.out h c.loop-at-test.true) in
+    rw (e.size, e.out) (ahead_next max a.form a.rows.now d₀ c.loop-at.at c.loop-at.to c.loop-at.out h c.loop-at-test.true) in
     λ max d₀ h. next max d₀ (c.loop-at.invariant max d₀ h)
 
 pub shape_of-out : goal.shape_of-out

@@ -240,7 +240,7 @@ loop-to-preserved c =
       id = c.id_size-k.ensures;
       fits = omega (arith, c.loop-to-test.true);
     } in
-    let h = c.put_head-len.ensures in whole_turn turn _ _ _ _ h.0 c.octet_count.ensures h.1 c.put_word.ensures
+    let h = c.put_head-len.ensures in whole_turn turn _ _ _ _ h.length c.octet_count.ensures h.out c.put_word.ensures
 
 pub shape_of-out : goal.shape_of-out
 shape_of-out c =

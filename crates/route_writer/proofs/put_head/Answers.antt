@@ -12,13 +12,14 @@ put_id-requires c = (omega arith, rw length-set (omega (arith, c.id_size.ensures
 
 pub returns : goal.returns
 returns c =
-    let both =
     let a = c.args in
     let len = ap (λ (x : ℕ). get_or a.rows.now a.at 0 - x) c.mark_of.ensures in
-    (len, c.put_id.ensures ∙ head_laid a.form (row_at a.rows.now a.at) a.out.now a.to c.id_size.result _ c.id_size.ensures len c.requires.at_in_bounds.1) in
-    record { length = both.0; out = both.1 }
+    record {
+      length = len;
+      out = c.put_id.ensures ∙ head_laid a.form (row_at a.rows.now a.at) a.out.now a.to c.id_size.result _ c.id_size.ensures len c.requires.at_in_bounds.1;
+    }
 
 pub shape_of-out : goal.shape_of-out
 shape_of-out c =
     let a = c.args in
-    ap length (returns c).1 ∙ length_laid a.out.now a.to (head_bytes a.form (row_at a.rows.now a.at)) (omega (arith, head_length a.form (row_at a.rows.now a.at), c.requires.at_in_bounds.1))
+    ap length (returns c).out ∙ length_laid a.out.now a.to (head_bytes a.form (row_at a.rows.now a.at)) (omega (arith, head_length a.form (row_at a.rows.now a.at), c.requires.at_in_bounds.1))

@@ -11,10 +11,11 @@ use Rattle.route_writer.proofs.put_row.Goals as goal
 
 pub put_head-len-requires : goal.put_head-len-requires
 put_head-len-requires c =
-    let both =
     let a = c.args in
-    ((c.requires.at_in_bounds.0, omega (arith, row_size a.form (row_at a.rows.now a.at) c.requires.form_bound.1)), (c.requires.form_bound.0, c.requires.form_bound.1)) in
-    record { at_in_bounds = both.0; form_bound = both.1 }
+    record {
+      at_in_bounds = (c.requires.at_in_bounds.0, omega (arith, row_size a.form (row_at a.rows.now a.at) c.requires.form_bound.1));
+      form_bound = c.requires.form_bound;
+    }
 
 pub overflow_add-to : goal.overflow_add-to
 overflow_add-to c =
