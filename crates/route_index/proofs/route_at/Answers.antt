@@ -68,7 +68,7 @@ returns-else-s-at c =
     record {
       answer =
           let a = c.args in
-          c.try_parse_prefix.ensures
+          c.try_parse_prefix.ensures.answer
           ∙ ap (λ (t : List ℕ). route_of t (max_of a.afi) a.form) (rest a.s.now c.in-At.at)
           ∙ found_some (up_to (max_of a.afi)) a.form a.s.now c.in-At.at (omega (arith, c.if-s-at.false))
           ∙ ap (found (up_to (max_of a.afi)) a.form a.s.now) (sym c.in-At.is)
