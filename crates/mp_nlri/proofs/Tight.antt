@@ -27,23 +27,23 @@ tight_count_mp_reach_nlri κs a z z' e e' p q = p ∙ sym q
 -- what each of those after this leaves goes by the answer
 pub tight_parse_mp_reach_nlri : (κs : _) (a : _) (z z' : _) (e e' : _) → parse_mp_reach_nlri.Learnt κs a z e → parse_mp_reach_nlri.Learnt κs a z' e' → (z ≡ z') × (e.1.1.0.now ≡ e'.1.1.0.now)
 tight_parse_mp_reach_nlri κs a z z' e e' p q =
-    let same : z ≡ z' = p.answer ∙ sym q.answer in
-    (same, p.store ∙ ap (λ x. reach_after x a.0.now a.1.0 a.1.1.0.now) same ∙ sym q.store)
+    let same : z ≡ z' = p.0 ∙ sym q.0 in
+    (same, p.1 ∙ ap (λ x. reach_after x a.0.now a.1.0 a.1.1.0.now) same ∙ sym q.1)
 
 pub tight_count_mp_unreach_nlri : (κs : _) (a : _) (z z' : _) (e e' : _) → count_mp_unreach_nlri.Learnt κs a z e → count_mp_unreach_nlri.Learnt κs a z' e' → z ≡ z'
 tight_count_mp_unreach_nlri κs a z z' e e' p q = p ∙ sym q
 
 pub tight_parse_mp_unreach_nlri : (κs : _) (a : _) (z z' : _) (e e' : _) → parse_mp_unreach_nlri.Learnt κs a z e → parse_mp_unreach_nlri.Learnt κs a z' e' → (z ≡ z') × (e.1.1.0.now ≡ e'.1.1.0.now)
 tight_parse_mp_unreach_nlri κs a z z' e e' p q =
-    let same : z ≡ z' = p.answer ∙ sym q.answer in
-    (same, p.store ∙ ap (λ x. unreach_after x a.0.now a.1.0 a.1.1.0.now) same ∙ sym q.store)
+    let same : z ≡ z' = p.0 ∙ sym q.0 in
+    (same, p.1 ∙ ap (λ x. unreach_after x a.0.now a.1.0 a.1.1.0.now) same ∙ sym q.1)
 
 pub tight_encode_mp_reach_nlri : (κs : _) (a : _) (z z' : _) (e e' : _) → encode_mp_reach_nlri.Learnt κs a z e → encode_mp_reach_nlri.Learnt κs a z' e' → (z ≡ z') × (e.1.1.1.0.now ≡ e'.1.1.1.0.now)
 tight_encode_mp_reach_nlri κs a z z' e e' p q =
-    let same : z ≡ z' = p.answer ∙ sym q.answer in
-    (same, p.out ∙ ap (λ x. filled (write_meaning x) (reach_bytes a.0.now (route_bytes a.1.0.now a.1.1.0)) a.1.1.1.0.now) same ∙ sym q.out)
+    let same : z ≡ z' = p.0 ∙ sym q.0 in
+    (same, p.1 ∙ ap (λ x. filled (write_meaning x) (reach_bytes a.0.now (route_bytes a.1.0.now a.1.1.0)) a.1.1.1.0.now) same ∙ sym q.1)
 
 pub tight_encode_mp_unreach_nlri : (κs : _) (a : _) (z z' : _) (e e' : _) → encode_mp_unreach_nlri.Learnt κs a z e → encode_mp_unreach_nlri.Learnt κs a z' e' → (z ≡ z') × (e.1.1.0.now ≡ e'.1.1.0.now)
 tight_encode_mp_unreach_nlri κs a z z' e e' p q =
-    let same : z ≡ z' = p.answer ∙ sym q.answer in
-    (same, p.out ∙ ap (λ x. filled (write_meaning x) (unreach_bytes (route_bytes a.0.now a.1.0)) a.1.1.0.now) same ∙ sym q.out)
+    let same : z ≡ z' = p.0 ∙ sym q.0 in
+    (same, p.1 ∙ ap (λ x. filled (write_meaning x) (unreach_bytes (route_bytes a.0.now a.1.0)) a.1.1.0.now) same ∙ sym q.1)

@@ -17,21 +17,21 @@ use Rattle.route_writer.proofs.encode_nlri_pair.Reads as encode_nlri_pair
 pub tight_encode_nlri_after : (κs : _) (a : _) (z z' : _) (e e' : _) → encode_nlri_after.Learnt κs a z e → encode_nlri_after.Learnt κs a z' e'
     → (z ≡ z') × (e.1.1.1.1.0.now ≡ e'.1.1.1.1.0.now)
 tight_encode_nlri_after κs a z z' e e' p q =
-    let same = p.answer ∙ sym q.answer in
+    let same = p.0 ∙ sym q.0 in
     let left : WriteAnswer → List ℕ = λ x. filled_after (write_meaning x) a.0 (bytes_of a.1.0.now (max_of a.1.1.0) a.1.1.1.0) a.1.1.1.1.0.now in
-    (same, p.out ∙ ap left same ∙ sym q.out)
+    (same, p.1 ∙ ap left same ∙ sym q.1)
 
 pub tight_encode_nlri_prefixes : (κs : _) (a : _) (z z' : _) (e e' : _) → encode_nlri_prefixes.Learnt κs a z e → encode_nlri_prefixes.Learnt κs a z' e'
     → (z ≡ z') × (e.1.1.1.0.now ≡ e'.1.1.1.0.now)
-tight_encode_nlri_prefixes κs a z z' e e' p q = (p.answer ∙ sym q.answer, p.out ∙ sym q.out)
+tight_encode_nlri_prefixes κs a z z' e e' p q = (p.0 ∙ sym q.0, p.1 ∙ sym q.1)
 
 -- as here
 pub tight_encode_nlri_pair : (κs : _) (a : _) (z z' : _) (e e' : _) → encode_nlri_pair.Learnt κs a z e → encode_nlri_pair.Learnt κs a z' e'
     → (z ≡ z') × (e.1.1.1.1.1.1.1.0.now ≡ e'.1.1.1.1.1.1.1.0.now)
 tight_encode_nlri_pair κs a z z' e e' p q =
-    let same = p.answer ∙ sym q.answer in
+    let same = p.0 ∙ sym q.0 in
     let max = max_of a.1.1.0 in
     let form = a.1.1.1.0 in
     let left : ListsAnswer → List ℕ = λ x.
     write_pair_after (lists_meaning x) a.1.1.1.1.0 a.1.1.1.1.1.0 (bytes_of a.0.now max form) (bytes_of a.1.0.now max form) a.1.1.1.1.1.1.1.0.now in
-    (same, p.out ∙ ap left same ∙ sym q.out)
+    (same, p.1 ∙ ap left same ∙ sym q.1)
