@@ -1,4 +1,3 @@
-use Prim.Native.Nat.{◌-◌}
 use Rattle.routes.specs.ByTable.{by_table}
 use Rattle.route_index.specs.Private.{Passes, Remain}
 use Rattle.route_index.proofs.pass_known_alike.Given as goal
