@@ -10,17 +10,18 @@ use Rattle.route_reader.proofs.fill_counted.Goals as goal
 
 pub fill_rows-requires : goal.fill_rows-requires
 fill_rows-requires c =
-    let both =
     let a = c.args in
     let told = c.in-Rows.is in
-    (counted_fits a.s.now (max_of a.afi) a.mode a.store.now _ (sym c.requires.counted_value.0 ∙ told) (sym (ap (λ (x : ListAnswer). has_room x (length a.store.now)) told) ∙ c.requires.counted_value.1), c.requires.counts_value) in
-    record { fitting = both.0; counts_value = both.1 }
+    record {
+      fitting = counted_fits a.s.now (max_of a.afi) a.mode a.store.now _ (sym c.requires.counted_value ∙ told) (sym (ap (λ (x : ListAnswer). has_room x (length a.store.now)) told) ∙ c.requires.store_value);
+      counts_value = c.requires.counts_value;
+    }
 
 pub returns-in-Rows : goal.returns-in-Rows
 returns-in-Rows c =
     let a = c.args in
     let told = c.in-Rows.is in
-    let same = section_counted (up_to (max_of a.afi)) a.s.now a.mode _ (sym c.requires.counted_value.0 ∙ told) in
+    let same = section_counted (up_to (max_of a.afi)) a.s.now a.mode _ (sym c.requires.counted_value ∙ told) in
     rw (told, same) c.fill_rows.ensures
 
 pub returns-in-Refused : goal.returns-in-Refused

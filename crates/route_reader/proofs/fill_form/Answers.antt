@@ -2,18 +2,15 @@ use Rattle.route_reader.proofs.fill_form.Goals as goal
 
 pub fill_short-requires : goal.fill_short-requires
 fill_short-requires c =
-    let both = rw (c.in-Plain.is, c.in-Ipv4.is) at c.requires in
-    record { fitting = both.0; counts_value = both.1 }
+    rw (c.in-Plain.is, c.in-Ipv4.is) at c.requires
 
 pub fill_short-requires-in-Tagged : goal.fill_short-requires-in-Tagged
 fill_short-requires-in-Tagged c =
-    let both = rw (c.in-Tagged.is, c.in-Ipv4.is) at c.requires in
-    record { fitting = both.0; counts_value = both.1 }
+    rw (c.in-Tagged.is, c.in-Ipv4.is) at c.requires
 
 pub fill_long-requires : goal.fill_long-requires
 fill_long-requires c =
-    let both = rw c.in-Ipv6.is at c.requires in
-    record { fitting = both.0; counts_value = both.1 }
+    rw c.in-Ipv6.is at c.requires
 
 pub returns-in-Plain : goal.returns-in-Plain
 returns-in-Plain c = rw (c.in-Plain.is, c.in-Ipv4.is) c.fill_short.ensures

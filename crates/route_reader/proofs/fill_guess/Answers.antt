@@ -2,13 +2,11 @@ use Rattle.route_reader.proofs.fill_guess.Goals as goal
 
 pub guess_short-requires : goal.guess_short-requires
 guess_short-requires c =
-    let both = rw c.in-Ipv4.is at c.requires in
-    record { fitting = both.0; counts_value = both.1 }
+    rw c.in-Ipv4.is at c.requires
 
 pub guess_long-requires : goal.guess_long-requires
 guess_long-requires c =
-    let both = rw c.in-Ipv6.is at c.requires in
-    record { fitting = both.0; counts_value = both.1 }
+    rw c.in-Ipv6.is at c.requires
 
 pub returns-in-Ipv4 : goal.returns-in-Ipv4
 returns-in-Ipv4 c = rw c.in-Ipv4.is c.guess_short.ensures

@@ -119,8 +119,7 @@ put_long-requires c =
     let says = c.after-next.ensures ∙ ap (λ (k : ℕ). entry a.counts.now (get_or c.loop-n.rest.now (c.loop-n.n + k) 0)) c.id_size.ensures in
     turn_form (max_of Ipv6) a.form a.s.now a.store.now c.loop-n.rest.now c.loop-n.n c.loop-n.to c.loop-n.store c.loop-n.invariant c.loop-n-test.true (omega arith) a.counts.now c.requires.counts_value _ _
     (ap (λ (k : ℕ). k + 1) c.id_size-b.ensures) says in
-    let both = (item.more _ _ c.put_head.ensures, (item.leaves.spot 16 (omega arith), refl)) in
-    record { to_in_bounds = both.0; octets = both.1; table_value = both.2 }
+    record { to_in_bounds = item.more _ _ c.put_head.ensures; octets = item.leaves.spot 16 (omega arith); table_value = refl }
 
 pub overflow_add-to-in-loop-n : goal.overflow_add-to-in-loop-n
 overflow_add-to-in-loop-n c =

@@ -12,6 +12,7 @@ use Rattle.families.specs.declared.Form.TheVariants.{Plain}
 use Rattle.routes.specs.List.{list_by}
 use Rattle.route_reader.proofs.FillLaws.{Left, Turn, held_start, held_done, turn_step, step_never}
 use Rattle.route_reader.proofs.guess_long.Goals as goal
+use Rattle.route_reader.proofs.guess_long.Goals.{in-Plain, in-Tagged}
 
 pub loop-n-init : goal.loop-n-init
 unfolding list_by
@@ -163,12 +164,11 @@ put_long-requires c =
     Turn (max_of Ipv6) Guess Plain a.s.now a.store.now c.loop-n.rest.now c.loop-n.n c.loop-n.to c.loop-n.store form (id_size form + 1) (c.in-Item.used - (id_size form + 1)) = (turn _ refl).1 in
     let leaves :
     let a = c.args in
-    Left (max_of Ipv6) Guess Plain a.s.now a.store.now c.loop-n.rest.now c.loop-n.n c.loop-n.to c.loop-n.store c.in-Item.next c.match-next.rest.now c.match-next.n = ⊎_elim
-    (λ w. rw (w.3, w.4) (turn 1 (sym (ap (λ (form : Form). id_size form + 1) w.1.given.1))).1.leaves)
-    (λ w. rw (w.3, w.4) (turn 5 (sym (ap (λ (form : Form). id_size form + 1) w.1.given.1))).1.leaves)
-    c.match-next.branch in
-    let both = (item.more _ _ c.put_head.ensures, (leaves.spot 16 (omega arith), refl)) in
-    record { to_in_bounds = both.0; octets = both.1; table_value = both.2 }
+    Left (max_of Ipv6) Guess Plain a.s.now a.store.now c.loop-n.rest.now c.loop-n.n c.loop-n.to c.loop-n.store c.in-Item.next c.match-next.rest.now c.match-next.n = elim c.match-next.branch [
+      in-Plain w ↦ rw (w.rest-is, w.n-is) (turn 1 (sym (ap (λ (form : Form). id_size form + 1) w.in-Plain.is))).1.leaves
+    | in-Tagged w ↦ rw (w.rest-is, w.n-is) (turn 5 (sym (ap (λ (form : Form). id_size form + 1) w.in-Tagged.is))).1.leaves
+    ] in
+    record { to_in_bounds = item.more _ _ c.put_head.ensures; octets = leaves.spot 16 (omega arith); table_value = refl }
 
 pub overflow_add-to-in-Item : goal.overflow_add-to-in-Item
 overflow_add-to-in-Item c =
@@ -192,10 +192,10 @@ loop-n-smaller c =
     turn_step Ipv6 Guess Plain c.args.s.now c.args.store.now c.loop-n.rest.now c.loop-n.n c.loop-n.form c.loop-n.to c.loop-n.store c.loop-n.invariant c.args.counts.now c.requires.counts_value _ c.guess_step.ensures _ _ c.in-Item.is b bytes in
     let leaves :
     let a = c.args in
-    Left (max_of Ipv6) Guess Plain a.s.now a.store.now c.loop-n.rest.now c.loop-n.n c.loop-n.to c.loop-n.store c.in-Item.next c.match-next.rest.now c.match-next.n = ⊎_elim
-    (λ w. rw (w.3, w.4) (turn 1 (sym (ap (λ (form : Form). id_size form + 1) w.1.given.1))).1.leaves)
-    (λ w. rw (w.3, w.4) (turn 5 (sym (ap (λ (form : Form). id_size form + 1) w.1.given.1))).1.leaves)
-    c.match-next.branch in
+    Left (max_of Ipv6) Guess Plain a.s.now a.store.now c.loop-n.rest.now c.loop-n.n c.loop-n.to c.loop-n.store c.in-Item.next c.match-next.rest.now c.match-next.n = elim c.match-next.branch [
+      in-Plain w ↦ rw (w.rest-is, w.n-is) (turn 1 (sym (ap (λ (form : Form). id_size form + 1) w.in-Plain.is))).1.leaves
+    | in-Tagged w ↦ rw (w.rest-is, w.n-is) (turn 5 (sym (ap (λ (form : Form). id_size form + 1) w.in-Tagged.is))).1.leaves
+    ] in
     leaves.less
 
 pub loop-n-preserved : goal.loop-n-preserved
@@ -207,10 +207,10 @@ loop-n-preserved c =
     turn_step Ipv6 Guess Plain c.args.s.now c.args.store.now c.loop-n.rest.now c.loop-n.n c.loop-n.form c.loop-n.to c.loop-n.store c.loop-n.invariant c.args.counts.now c.requires.counts_value _ c.guess_step.ensures _ _ c.in-Item.is b bytes in
     let leaves :
     let a = c.args in
-    Left (max_of Ipv6) Guess Plain a.s.now a.store.now c.loop-n.rest.now c.loop-n.n c.loop-n.to c.loop-n.store c.in-Item.next c.match-next.rest.now c.match-next.n = ⊎_elim
-    (λ w. rw (w.3, w.4) (turn 1 (sym (ap (λ (form : Form). id_size form + 1) w.1.given.1))).1.leaves)
-    (λ w. rw (w.3, w.4) (turn 5 (sym (ap (λ (form : Form). id_size form + 1) w.1.given.1))).1.leaves)
-    c.match-next.branch in
+    Left (max_of Ipv6) Guess Plain a.s.now a.store.now c.loop-n.rest.now c.loop-n.n c.loop-n.to c.loop-n.store c.in-Item.next c.match-next.rest.now c.match-next.n = elim c.match-next.branch [
+      in-Plain w ↦ rw (w.rest-is, w.n-is) (turn 1 (sym (ap (λ (form : Form). id_size form + 1) w.in-Plain.is))).1.leaves
+    | in-Tagged w ↦ rw (w.rest-is, w.n-is) (turn 5 (sym (ap (λ (form : Form). id_size form + 1) w.in-Tagged.is))).1.leaves
+    ] in
     leaves.next _ c.guess_mark.ensures _ _ c.put_head.ensures c.put_long.ensures
 
 pub shape_of-store-in-Refused : goal.shape_of-store-in-Refused

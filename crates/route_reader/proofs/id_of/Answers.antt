@@ -6,13 +6,12 @@ use Rattle.route_reader.proofs.id_of.Goals as goal
 
 pub slice_bounds-u32_at-end : goal.slice_bounds-u32_at-end
 slice_bounds-u32_at-end c =
-    let g = c.before in
-    let four = g.requires in
-    sym (length-take-le 4 g.args.s.now (rw c.enum-told2.given.1 at four))
+    let four = c.requires in
+    sym (length-take-le 4 c.args.s.now (rw c.in-Tagged.is at four))
 
 pub returns-in-Plain : goal.returns-in-Plain
 unfolding be_at
 returns-in-Plain c = rw c.in-Plain.is
 
 pub returns-in-Tagged : goal.returns-in-Tagged
-returns-in-Tagged c = rw c.enum-told2.given.1 (c.u32_at.ensures ∙ be_between c.before.args.s.now 0 4 4 refl)
+returns-in-Tagged c = rw c.in-Tagged.is (c.u32_at.ensures ∙ be_between c.args.s.now 0 4 4 refl)

@@ -8,14 +8,14 @@ use Rattle.route_reader.proofs.WordsLaws.{address_first}
 use Rattle.route_reader.proofs.put_short.Goals as goal
 
 pub slice_bounds-put_exact-end : goal.slice_bounds-put_exact-end
-slice_bounds-put_exact-end c = let g = c.before in sym (length-take-le g.args.n g.args.s.now g.requires.1.there)
+slice_bounds-put_exact-end c = let g = c in sym (length-take-le g.args.n g.args.s.now g.requires.octets.there)
 
 pub put_exact-requires : goal.put_exact-requires
-put_exact-requires c = let g = c.before in (g.requires.0, omega (arith, g.requires.1.few, length-take g.args.n g.args.s.now))
+put_exact-requires c = let g = c in (g.requires.to_in_bounds, omega (arith, g.requires.octets.few, length-take g.args.n g.args.s.now))
 
 pub returns : goal.returns
 returns c =
     let a = c.args in
     let w = c.first_word.result in
-    let put : c.put_words.new.0 ≡ laid a.store.now a.to (w ∷ 0 ∷ 0 ∷ 0 ∷ []) = c.put_words.ensures in
+    let put : c.put_words.new.store ≡ laid a.store.now a.to (w ∷ 0 ∷ 0 ∷ 0 ∷ []) = c.put_words.ensures in
     put ∙ ap (laid a.store.now a.to) (address_first _ w (omega (arith, c.requires.octets.few, length-take a.n a.s.now)) c.first_word.ensures)

@@ -16,7 +16,6 @@ returns-then-is_strange c =
 
 pub returns : goal.returns
 returns c =
-    let both = let a = c.args in
+    let a = c.args in
     let list = sym c.is_strange.ensures ∙ c.if-is_strange.false in
-    rw (section_list (up_to (max_of a.afi)) a.s.now a.mode list) c.parse_nlri_list.ensures in
-    record { answer = both.0; store = both.1 }
+    rw (section_list (up_to (max_of a.afi)) a.s.now a.mode list) c.parse_nlri_list.ensures

@@ -1,5 +1,4 @@
 use mathlib.Core.Path.{◌≡◌, refl, sym, ◌∙◌}
-use borrow.Author.Tests.{not-true, not-false}
 use Rattle.families.specs.Family.{max_of}
 use Rattle.routes.specs.List.{up_to, hosts_of, section_of}
 use Rattle.routes.specs.Promises.{count_answer, count_section}
@@ -15,12 +14,15 @@ returns-then-not-has_room c =
     let counted : let a = c.args in
     (c.counted-a.result ≡ count_section (up_to (max_of a.afi)) a.s.now a.mode) × (c.counted-b.result ≡ count_section (up_to (max_of a.afi)) a.t.now a.mode) = let a = c.args in
     let table = c.put_counts.ensures refl in (
-      c.counted-a.ensures ∙ c.count_section_by.ensures ∙ count_section_family _ a.afi table a.s.now a.mode,
-      c.counted-b.ensures ∙ c.count_section_by-2.ensures ∙ count_section_family _ a.afi table a.t.now a.mode,
+      c.counted-a.ensures.answer ∙ c.count_section_by.ensures.answer ∙ count_section_family _ a.afi table a.s.now a.mode,
+      c.counted-b.ensures.answer ∙ c.count_section_by-2.ensures.answer ∙ count_section_family _ a.afi table a.t.now a.mode,
     ) in
-    let both = let both = counted in
-    (rw (← both.0, ← both.1) (sym (pair_first _ _ _ _ (sym c.has_room.ensures ∙ not-true _ c.if-not-has_room.true))), (refl, refl)) in
-    record { answer = both.0; first = both.1; second = both.2 }
+    let both = counted in
+    record {
+      answer = rw (← both.0, ← both.1) (sym (pair_first _ _ _ _ (sym c.has_room.ensures ∙ c.if-not-has_room.true)));
+      first = refl;
+      second = refl;
+    }
 
 pub returns-then-not-has_room-2 : goal.returns-then-not-has_room-2
 unfolding read_pair
@@ -28,40 +30,47 @@ returns-then-not-has_room-2 c =
     let counted : let a = c.args in
     (c.counted-a.result ≡ count_section (up_to (max_of a.afi)) a.s.now a.mode) × (c.counted-b.result ≡ count_section (up_to (max_of a.afi)) a.t.now a.mode) = let a = c.args in
     let table = c.put_counts.ensures refl in (
-      c.counted-a.ensures ∙ c.count_section_by.ensures ∙ count_section_family _ a.afi table a.s.now a.mode,
-      c.counted-b.ensures ∙ c.count_section_by-2.ensures ∙ count_section_family _ a.afi table a.t.now a.mode,
+      c.counted-a.ensures.answer ∙ c.count_section_by.ensures.answer ∙ count_section_family _ a.afi table a.s.now a.mode,
+      c.counted-b.ensures.answer ∙ c.count_section_by-2.ensures.answer ∙ count_section_family _ a.afi table a.t.now a.mode,
     ) in
-    let both = let both = counted in
-    (rw (← both.0, ← both.1) (sym (pair_second _ _ _ _ (sym c.has_room.ensures ∙ not-false _ c.if-not-has_room.false) (sym c.has_room-2.ensures ∙ not-true _ c.if-not-has_room-2.true))), (refl, refl)) in
-    record { answer = both.0; first = both.1; second = both.2 }
+    let both = counted in
+    record {
+      answer = rw (← both.0, ← both.1) (sym (pair_second _ _ _ _ (sym c.has_room.ensures ∙ c.if-not-has_room.false) (sym c.has_room-2.ensures ∙ c.if-not-has_room-2.true)));
+      first = refl;
+      second = refl;
+    }
 
 pub fill_counted-requires : goal.fill_counted-requires
 fill_counted-requires c =
     let counted : let a = c.args in
     (c.counted-a.result ≡ count_section (up_to (max_of a.afi)) a.s.now a.mode) × (c.counted-b.result ≡ count_section (up_to (max_of a.afi)) a.t.now a.mode) = let a = c.args in
     let table = c.put_counts.ensures refl in (
-      c.counted-a.ensures ∙ c.count_section_by.ensures ∙ count_section_family _ a.afi table a.s.now a.mode,
-      c.counted-b.ensures ∙ c.count_section_by-2.ensures ∙ count_section_family _ a.afi table a.t.now a.mode,
+      c.counted-a.ensures.answer ∙ c.count_section_by.ensures.answer ∙ count_section_family _ a.afi table a.s.now a.mode,
+      c.counted-b.ensures.answer ∙ c.count_section_by-2.ensures.answer ∙ count_section_family _ a.afi table a.t.now a.mode,
     ) in
-    let both =
     let a = c.args in
     let count = count_answer a.s.now (section_of a.s.now (max_of a.afi) a.mode) in
-    (c.put_counts.ensures refl, (told_list count (hosts_of a.s.now (max_of a.afi) a.mode) _ counted.0, sym c.has_room.ensures ∙ not-false _ c.if-not-has_room.false)) in
-    record { counts_value = both.0; counted_value = both.1; store_value = both.2 }
+    record {
+      counts_value = c.put_counts.ensures refl;
+      counted_value = told_list count (hosts_of a.s.now (max_of a.afi) a.mode) _ counted.0;
+      store_value = sym c.has_room.ensures ∙ c.if-not-has_room.false;
+    }
 
 pub fill_counted-requires-2 : goal.fill_counted-requires-2
 fill_counted-requires-2 c =
     let counted : let a = c.args in
     (c.counted-a.result ≡ count_section (up_to (max_of a.afi)) a.s.now a.mode) × (c.counted-b.result ≡ count_section (up_to (max_of a.afi)) a.t.now a.mode) = let a = c.args in
     let table = c.put_counts.ensures refl in (
-      c.counted-a.ensures ∙ c.count_section_by.ensures ∙ count_section_family _ a.afi table a.s.now a.mode,
-      c.counted-b.ensures ∙ c.count_section_by-2.ensures ∙ count_section_family _ a.afi table a.t.now a.mode,
+      c.counted-a.ensures.answer ∙ c.count_section_by.ensures.answer ∙ count_section_family _ a.afi table a.s.now a.mode,
+      c.counted-b.ensures.answer ∙ c.count_section_by-2.ensures.answer ∙ count_section_family _ a.afi table a.t.now a.mode,
     ) in
-    let both =
     let a = c.args in
     let count = count_answer a.t.now (section_of a.t.now (max_of a.afi) a.mode) in
-    (c.put_counts.ensures refl, (told_list count (hosts_of a.t.now (max_of a.afi) a.mode) _ counted.1, sym c.has_room-2.ensures ∙ not-false _ c.if-not-has_room-2.false)) in
-    record { counts_value = both.0; counted_value = both.1; store_value = both.2 }
+    record {
+      counts_value = c.put_counts.ensures refl;
+      counted_value = told_list count (hosts_of a.t.now (max_of a.afi) a.mode) _ counted.1;
+      store_value = sym c.has_room-2.ensures ∙ c.if-not-has_room-2.false;
+    }
 
 pub returns : goal.returns
 unfolding read_pair
@@ -69,11 +78,14 @@ returns c =
     let counted : let a = c.args in
     (c.counted-a.result ≡ count_section (up_to (max_of a.afi)) a.s.now a.mode) × (c.counted-b.result ≡ count_section (up_to (max_of a.afi)) a.t.now a.mode) = let a = c.args in
     let table = c.put_counts.ensures refl in (
-      c.counted-a.ensures ∙ c.count_section_by.ensures ∙ count_section_family _ a.afi table a.s.now a.mode,
-      c.counted-b.ensures ∙ c.count_section_by-2.ensures ∙ count_section_family _ a.afi table a.t.now a.mode,
+      c.counted-a.ensures.answer ∙ c.count_section_by.ensures.answer ∙ count_section_family _ a.afi table a.s.now a.mode,
+      c.counted-b.ensures.answer ∙ c.count_section_by-2.ensures.answer ∙ count_section_family _ a.afi table a.t.now a.mode,
     ) in
-    let both = let both = counted in
-    let one = sym c.has_room.ensures ∙ not-false _ c.if-not-has_room.false in
-    let two = sym c.has_room-2.ensures ∙ not-false _ c.if-not-has_room-2.false in
-    (rw (← both.0, ← both.1) (sym (pair_both _ _ _ _ one two)), (c.fill_counted.ensures, c.fill_counted-2.ensures)) in
-    record { answer = both.0; first = both.1; second = both.2 }
+    let both = counted in
+    let one = sym c.has_room.ensures ∙ c.if-not-has_room.false in
+    let two = sym c.has_room-2.ensures ∙ c.if-not-has_room-2.false in
+    record {
+      answer = rw (← both.0, ← both.1) (sym (pair_both _ _ _ _ one two));
+      first = c.fill_counted.ensures;
+      second = c.fill_counted-2.ensures;
+    }
