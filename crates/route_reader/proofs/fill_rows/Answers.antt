@@ -1,4 +1,3 @@
-use mathlib.Core.Logic.{⊎_elim}
 use mathlib.Core.Path.{◌≡◌, sym, ap, ◌∙◌}
 use Rattle.routes.specs.List.{fixed}
 use Rattle.route_reader.proofs.fill_rows.Goals as goal
@@ -14,15 +13,15 @@ returns-in-Guess c = rw c.in-Guess.is c.fill_guess.ensures
 pub fill_form-requires : goal.fill_form-requires
 fill_form-requires c =
     let chosen : c.args.mode ≡ fixed c.match-mode.form = elim c.match-mode.branch [
-      in-On w ↦ w.in-On.is ∙ ap fixed (sym w.form-is)
-    | in-Off w ↦ w.in-Off.is ∙ ap fixed (sym w.form-is)
+      | in-On w ↦ w.in-On.is ∙ ap fixed (sym w.form-is)
+      | in-Off w ↦ w.in-Off.is ∙ ap fixed (sym w.form-is)
     ] in
     rw chosen at c.requires
 
 pub returns : goal.returns
 returns c =
     let chosen : c.args.mode ≡ fixed c.match-mode.form = elim c.match-mode.branch [
-      in-On w ↦ w.in-On.is ∙ ap fixed (sym w.form-is)
-    | in-Off w ↦ w.in-Off.is ∙ ap fixed (sym w.form-is)
+      | in-On w ↦ w.in-On.is ∙ ap fixed (sym w.form-is)
+      | in-Off w ↦ w.in-Off.is ∙ ap fixed (sym w.form-is)
     ] in
     rw chosen c.fill_form.ensures

@@ -1,5 +1,4 @@
 use Prim.Native.Nat.{ℕ, ◌+◌, ◌-◌, ◌≤◌}
-use mathlib.Core.Logic.{⊎_elim}
 use mathlib.Core.Path.{◌≡◌, refl, sym, ap}
 use native.Mathlib.Omega.{arith}
 use lib.ListN.{length}
@@ -162,8 +161,8 @@ put_short-requires c =
     let leaves :
     let a = c.args in
     Left (max_of Ipv4) Guess Plain a.s.now a.store.now c.loop-n.rest.now c.loop-n.n c.loop-n.to c.loop-n.store c.in-Item.next c.match-next.rest.now c.match-next.n = elim c.match-next.branch [
-      in-Plain w ↦ rw (w.rest-is, w.n-is) (turn 1 (sym (ap (λ (form : Form). id_size form + 1) w.in-Plain.is))).1.leaves
-    | in-Tagged w ↦ rw (w.rest-is, w.n-is) (turn 5 (sym (ap (λ (form : Form). id_size form + 1) w.in-Tagged.is))).1.leaves
+      | in-Plain w ↦ rw (w.rest-is, w.n-is) (turn 1 (sym (ap (λ (form : Form). id_size form + 1) w.in-Plain.is))).1.leaves
+      | in-Tagged w ↦ rw (w.rest-is, w.n-is) (turn 5 (sym (ap (λ (form : Form). id_size form + 1) w.in-Tagged.is))).1.leaves
     ] in
     record {
       to_in_bounds = item.more _ _ c.put_head.ensures;
@@ -193,8 +192,8 @@ loop-n-smaller c =
     let leaves :
     let a = c.args in
     Left (max_of Ipv4) Guess Plain a.s.now a.store.now c.loop-n.rest.now c.loop-n.n c.loop-n.to c.loop-n.store c.in-Item.next c.match-next.rest.now c.match-next.n = elim c.match-next.branch [
-      in-Plain w ↦ rw (w.rest-is, w.n-is) (turn 1 (sym (ap (λ (form : Form). id_size form + 1) w.in-Plain.is))).1.leaves
-    | in-Tagged w ↦ rw (w.rest-is, w.n-is) (turn 5 (sym (ap (λ (form : Form). id_size form + 1) w.in-Tagged.is))).1.leaves
+      | in-Plain w ↦ rw (w.rest-is, w.n-is) (turn 1 (sym (ap (λ (form : Form). id_size form + 1) w.in-Plain.is))).1.leaves
+      | in-Tagged w ↦ rw (w.rest-is, w.n-is) (turn 5 (sym (ap (λ (form : Form). id_size form + 1) w.in-Tagged.is))).1.leaves
     ] in
     leaves.less
 
@@ -208,8 +207,8 @@ loop-n-preserved c =
     let leaves :
     let a = c.args in
     Left (max_of Ipv4) Guess Plain a.s.now a.store.now c.loop-n.rest.now c.loop-n.n c.loop-n.to c.loop-n.store c.in-Item.next c.match-next.rest.now c.match-next.n = elim c.match-next.branch [
-      in-Plain w ↦ rw (w.rest-is, w.n-is) (turn 1 (sym (ap (λ (form : Form). id_size form + 1) w.in-Plain.is))).1.leaves
-    | in-Tagged w ↦ rw (w.rest-is, w.n-is) (turn 5 (sym (ap (λ (form : Form). id_size form + 1) w.in-Tagged.is))).1.leaves
+      | in-Plain w ↦ rw (w.rest-is, w.n-is) (turn 1 (sym (ap (λ (form : Form). id_size form + 1) w.in-Plain.is))).1.leaves
+      | in-Tagged w ↦ rw (w.rest-is, w.n-is) (turn 5 (sym (ap (λ (form : Form). id_size form + 1) w.in-Tagged.is))).1.leaves
     ] in
     leaves.next _ c.guess_mark.ensures _ _ c.put_head.ensures c.put_short.ensures
 
