@@ -1,4 +1,3 @@
-use borrow.Author.Tests.{not-true, not-false}
 use mathlib.Core.Path.{◌≡◌, sym, ap, ap₂, ◌∙◌}
 use mathlib.Core.List.{List}
 use Prim.Native.Nat.{ℕ, ◌+◌, ◌≤◌}
@@ -14,7 +13,7 @@ use Rattle.asns.proofs.encode_in.Goals as goal
 
 pub returns-then-not-fits_width : goal.returns-then-not-fits_width
 returns-then-not-fits_width c =
-    let both = let a = c.args in leave a.asn a.identifier a.width a.out.now _ (too_wide a.asn a.identifier a.width (length a.out.now) (sym c.fits_width.ensures ∙ not-true _ c.if-not-fits_width.true)) in
+    let both = let a = c.args in leave a.asn a.identifier a.width a.out.now _ (too_wide a.asn a.identifier a.width (length a.out.now) (sym c.fits_width.ensures ∙ c.if-not-fits_width.true)) in
     record { answer = both.0; out = both.1 }
 
 pub overflow_add-w : goal.overflow_add-w
@@ -24,14 +23,14 @@ pub returns-then-out-w : goal.returns-then-out-w
 returns-then-out-w c =
     let both = let a = c.args in
     leave a.asn a.identifier a.width a.out.now _
-    (no_place a.asn a.identifier a.width (length a.out.now) (sym c.fits_width.ensures ∙ not-false _ c.if-not-fits_width.false) (omega (arith, c.if-out-w.true, c.asn_bytes-w.ensures))) in
+    (no_place a.asn a.identifier a.width (length a.out.now) (sym c.fits_width.ensures ∙ c.if-not-fits_width.false) (omega (arith, c.if-out-w.true, c.asn_bytes-w.ensures))) in
     record { answer = both.0; out = both.1 }
 
 pub returns : goal.returns
 returns c =
     let a = c.args in
     let w : c.asn_bytes-w.result ≡ width_of a.width = c.asn_bytes-w.ensures in
-    let e = sym c.fits_width.ensures ∙ not-false _ c.if-not-fits_width.false in
+    let e = sym c.fits_width.ensures ∙ c.if-not-fits_width.false in
     let room : width_of a.width + 4 ≤ length a.out.now = omega (arith, w, c.if-out-w.false) in
     let h = leave a.asn a.identifier a.width a.out.now _ (all_written a.asn a.identifier a.width (length a.out.now) e room) in record {
       answer = ap (λ (k : ℕ). W.Bytes (k + 4)) w ∙ h.0;

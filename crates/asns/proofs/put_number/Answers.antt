@@ -1,4 +1,3 @@
-use borrow.Author.Tests.{not-true, not-false}
 use mathlib.Core.Path.{◌≡◌, sym, ap, ◌∙◌}
 use native.Mathlib.Omega.{arith}
 use Prim.Native.Nat.{ℕ, ◌<◌}
@@ -17,15 +16,15 @@ narrow : (asn : ℕ) (width : AsnLength) → width ≡ Bits16 → fits_width asn
 narrow asn width e f = rw e at (fits_lt asn width f)
 
 pub returns-then-not-fits_width : goal.returns-then-not-fits_width
-returns-then-not-fits_width c = let a = c.args in put_not a.out.now a.to a.asn a.width (sym c.fits_width.ensures ∙ not-true _ c.if-not-fits_width.true)
+returns-then-not-fits_width c = let a = c.args in put_not a.out.now a.to a.asn a.width (sym c.fits_width.ensures ∙ c.if-not-fits_width.true)
 
 pub overflow_cast-asn : goal.overflow_cast-asn
-overflow_cast-asn c = let a = c.args in record { fits = omega (arith, narrow a.asn a.width c.in-Bits16.is (sym c.fits_width.ensures ∙ not-false _ c.if-not-fits_width.false)) }
+overflow_cast-asn c = let a = c.args in record { fits = omega (arith, narrow a.asn a.width c.in-Bits16.is (sym c.fits_width.ensures ∙ c.if-not-fits_width.false)) }
 
 pub returns-in-Bits16 : goal.returns-in-Bits16
 returns-in-Bits16 c =
     let a = c.args in
-    let e = sym c.fits_width.ensures ∙ not-false _ c.if-not-fits_width.false in
+    let e = sym c.fits_width.ensures ∙ c.if-not-fits_width.false in
     c.put_u16.ensures
     ∙ ap (λ (w : AsnLength). placed a.out.now a.to (to_be (width_of w) a.asn)) (sym c.in-Bits16.is)
     ∙ put_fits a.out.now a.to a.asn a.width e
@@ -33,7 +32,7 @@ returns-in-Bits16 c =
 pub returns-in-Bits32 : goal.returns-in-Bits32
 returns-in-Bits32 c =
     let a = c.args in
-    let e = sym c.fits_width.ensures ∙ not-false _ c.if-not-fits_width.false in
+    let e = sym c.fits_width.ensures ∙ c.if-not-fits_width.false in
     c.put_octets.ensures
     ∙ ap (placed a.out.now a.to) (take_all 4 (to_be 4 a.asn) (omega arith))
     ∙ ap (λ (w : AsnLength). placed a.out.now a.to (to_be (width_of w) a.asn)) (sym c.in-Bits32.is)

@@ -7,10 +7,10 @@ use Rattle.wire.proofs.ExtentLaws.{clipped_fits, clipped_not, empty_part}
 use Rattle.wire.proofs.part.Goals as goal
 
 pub returns-then-s-start : goal.returns-then-s-start
-returns-then-s-start c = let a = c.before.args in rw (clipped_not (extent a.start a.size) (length a.s.now) (omega arith)) (empty_part a.s _ refl refl)
+returns-then-s-start c = let a = c.args in rw (clipped_not (extent a.start a.size) (length a.s.now) (omega arith)) (empty_part a.s _ refl refl)
 
 pub returns-then-s-start-2 : goal.returns-then-s-start-2
-returns-then-s-start-2 c = let a = c.before.args in rw (clipped_not (extent a.start a.size) (length a.s.now) (omega arith)) (empty_part a.s _ refl refl)
+returns-then-s-start-2 c = let a = c.args in rw (clipped_not (extent a.start a.size) (length a.s.now) (omega arith)) (empty_part a.s _ refl refl)
 
 pub returns : goal.returns
 returns c =
