@@ -5,7 +5,7 @@ use Rattle.std.specs.Prelude.{◌≡◌, refl, true, take, ltb}
 use Rattle.std.proofs.Math.Path.{sym, ap, ap₂}
 use Rattle.std.proofs.Common.{subst, ◌∙◌, zero-add, arith, lt-ltb, ltb-true, take_all, length-take-le}
 use mathlib.Core.List.{List, [], ◌∷◌}
-use Rattle.std.specs.Borrow.{Bor}
+use Rattle.std.specs.Borrow.{Bor, MutBor}
 use Rattle.std.proofs.Math.ListN.{length}
 use Rattle.std.proofs.Math.Seq.{take_at}
 use Rattle.wire.specs.Cutting.{Each}
@@ -70,10 +70,10 @@ first given = given.1.1.0.now
 abbrev pub second : {A B C R : Type 0} → A × (B × (C × (Bor (List ℕ) × R))) → List ℕ
 second given = given.1.1.1.0.now
 
-abbrev pub pairs : {A B C D R : Type 0} → A × (B × (C × (D × (Bor (List ℕ) × R)))) → List ℕ
+abbrev pub pairs : {A B C D R : Type 0} → A × (B × (C × (D × (MutBor (List ℕ) × R)))) → List ℕ
 pairs given = given.1.1.1.1.0.now
 
-abbrev pub numbers : {A B C D E R : Type 0} → A × (B × (C × (D × (E × (Bor (List ℕ) × R))))) → List ℕ
+abbrev pub numbers : {A B C D E R : Type 0} → A × (B × (C × (D × (E × (MutBor (List ℕ) × R))))) → List ℕ
 numbers given = given.1.1.1.1.1.0.now
 
 -- ---- 1. The AGGREGATOR that stands is handed back itself, one of the two values and no copy; a refusal hands back nothing.

@@ -4,7 +4,7 @@ use Prim.Native.Nat.{ℕ, ◌+◌, ◌*◌, ◌/◌, ◌%◌, ◌≤◌, ◌<◌
 use Rattle.std.specs.Prelude.{◌≡◌, refl, List, map, Bool, true, false, get_or, take}
 use Rattle.std.proofs.Math.Path.{sym, ap}
 use Rattle.std.proofs.Common.{ap₂, ◌∙◌, arith, eqb-true}
-use Rattle.std.specs.Borrow.{Bor}
+use Rattle.std.specs.Borrow.{MutBor}
 use Rattle.std.proofs.Math.ListN.{length}
 use Rattle.wire.specs.Answer.{flag, filled, write_meaning}
 use Rattle.wire.specs.Cutting.{Each}
@@ -70,7 +70,7 @@ use Rattle.demands.specs.MpNlri as Mp
 -- ---- the words of the statements
 
 -- the call that takes the marks off: the store that it is lent
-abbrev pub lent : {R : Type 0} → Bor (List ℕ) × R → List ℕ
+abbrev pub lent : {R : Type 0} → MutBor (List ℕ) × R → List ℕ
 lent given = given.0.now
 
 -- the rows and the refusal of a list as they were read before there was a mark, and its rows with a host bit

@@ -3,7 +3,7 @@
 -- Assumes nothing.
 use Rattle.std.specs.Prelude.{ℕ, ◌+◌, ◌*◌, ◌/◌, ◌≤◌, ◌≡◌, refl, List, map, Bool, false, length, take}
 use Rattle.std.proofs.Common.{sym, ap, ap₂, subst, ◌∙◌, arith}
-use Rattle.std.specs.Borrow.{Bor}
+use Rattle.std.specs.Borrow.{Bor, MutBor}
 use Rattle.wire.specs.Answer.{filled, write_meaning}
 use Rattle.wire.specs.Extent.{PartOf}
 use Rattle.wire.specs.Number.{Bytes, Words}
@@ -51,7 +51,7 @@ value given = given.0.now
 abbrev pub setting : {A R : Type 0} → A × (AddPath × R) → AddPath
 setting given = given.1.0
 
-abbrev pub store : {A B R : Type 0} → A × (B × (Bor (List ℕ) × R)) → List ℕ
+abbrev pub store : {A B R : Type 0} → A × (B × (MutBor (List ℕ) × R)) → List ℕ
 store given = given.1.1.0.now
 
 -- the call that writes MP_UNREACH_NLRI: the rows, the form and the output
@@ -61,7 +61,7 @@ rows given = given.0.now
 abbrev pub form : {A R : Type 0} → A × (Form × R) → Form
 form given = given.1.0
 
-abbrev pub out : {A B R : Type 0} → A × (B × (Bor (List ℕ) × R)) → List ℕ
+abbrev pub out : {A B R : Type 0} → A × (B × (MutBor (List ℕ) × R)) → List ℕ
 out given = given.1.1.0.now
 
 -- the one that writes MP_REACH_NLRI: the next hop before them
@@ -123,7 +123,7 @@ one_shape = Reading.one_shape
 -- the next hop that is handed back is that of the shape, at the fifth octet, whatever the routes are
 module _ (κs : _) (given : _) (part : _) (exit : _) (call : next_hop_part.Learnt κs given part exit) where
   pub next_hop_is : (hop : List ℕ) (reserved : ℕ) (list : List ℕ) → ReachFormed hop reserved list (value given) → length (value given) ≤ list_limit
-      → (part.now ≡ hop) × (part.ref_ptr ≡ (given.0.ptr.0, hop_start + given.0.ptr.1))
+      → (part.now ≡ hop) × (part.ref_ptr ≡ (given.0.ref_ptr.0, hop_start + given.0.ref_ptr.1))
   next_hop_is hop reserved list h short =
       let head = head_by (value given) _ _ (Reading.formed_head hop reserved list (value given) h short) in
       let is = subst (λ (a : HeadAnswer). PartOf given.0 (next_hop_at a) part) head call in

@@ -1,6 +1,7 @@
 -- The tables of octet counts, of the calls themselves: what a family's table says of each length; and that a call which is lent it answers as one that is given the family.
 -- Assumes nothing.
 use Rattle.std.specs.Prelude.{ℕ, ◌≤◌, ◌<◌, ◌≡◌, List, length}
+use Rattle.std.specs.Borrow.{Bor}
 use Rattle.std.proofs.Common.{sym, ap, ◌∙◌, arith}
 use Rattle.families.specs.Family.{max_of, octets}
 use Rattle.families.specs.Octets.{refused_length, table_of, entry}
@@ -19,7 +20,7 @@ use Rattle.routes.proofs.count_nlri_list.Reads as count_nlri_list
 use Rattle.routes.proofs.count_nlri.Reads as count_nlri
 
 -- a table that was taken of a family, and is lent
-module _ (afi : Afi) (κt : _) (table : _) (exit : _) (made : counts.Learnt κt (afi, tt) table exit) (lent : _) (same : lent.now ≡ table) where
+module _ (afi : Afi) (κt : _) (table : _) (exit : _) (made : counts.Learnt κt (afi, tt) table exit) (lent : Bor (List ℕ)) (same : lent.now ≡ table) where
   -- ---- what it says of a length
 
   module _ (length : ℕ) (κs : _) (said : _) (left : _) (asked : after.Learnt κs (lent, (length, tt)) said left) where

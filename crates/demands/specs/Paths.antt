@@ -3,7 +3,7 @@
 -- Assumes nothing.
 use Rattle.std.specs.Prelude.{ℕ, ◌*◌, ◌/◌, ◌≤◌, ◌≡◌, List, length, take}
 use Rattle.std.proofs.Common.{sym, ap, ap₂, ◌∙◌}
-use Rattle.std.specs.Borrow.{Bor}
+use Rattle.std.specs.Borrow.{Bor, MutBor}
 use Rattle.wire.specs.Cutting.{Some, Cutting}
 use Rattle.wire.specs.Number.{Bytes}
 use Rattle.wire.specs.Refusal.{empty_segment, list_limit}
@@ -45,10 +45,10 @@ width given = given.1.0
 abbrev pub rule : {A B R : Type 0} → A × (B × (PathRule × R)) → PathRule
 rule given = given.1.1.0
 
-abbrev pub pairs : {A B C R : Type 0} → A × (B × (C × (Bor (List ℕ) × R))) → List ℕ
+abbrev pub pairs : {A B C R : Type 0} → A × (B × (C × (MutBor (List ℕ) × R))) → List ℕ
 pairs given = given.1.1.1.0.now
 
-abbrev pub numbers : {A B C D R : Type 0} → A × (B × (C × (D × (Bor (List ℕ) × R)))) → List ℕ
+abbrev pub numbers : {A B C D R : Type 0} → A × (B × (C × (D × (MutBor (List ℕ) × R)))) → List ℕ
 numbers given = given.1.1.1.1.0.now
 
 -- the writing call: the pairs, the numbers, the width, the rule and the output
@@ -64,7 +64,7 @@ width_asked given = given.1.1.0
 abbrev pub rule_asked : {A B C R : Type 0} → A × (B × (C × (PathRule × R))) → PathRule
 rule_asked given = given.1.1.1.0
 
-abbrev pub output : {A B C D R : Type 0} → A × (B × (C × (D × (Bor (List ℕ) × R)))) → List ℕ
+abbrev pub output : {A B C D R : Type 0} → A × (B × (C × (D × (MutBor (List ℕ) × R)))) → List ℕ
 output given = given.1.1.1.1.0.now
 
 -- a cutting of bytes into segments that are well-formed by a rule, with AS numbers of a width

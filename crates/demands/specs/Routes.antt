@@ -3,7 +3,7 @@
 -- Assumes nothing.
 use Rattle.std.specs.Prelude.{ℕ, ◌*◌, ◌/◌, ◌≤◌, ◌≡◌, List, map, length, take}
 use Rattle.std.proofs.Common.{sym, ap, ap₂, ◌∙◌}
-use Rattle.std.specs.Borrow.{Bor}
+use Rattle.std.specs.Borrow.{Bor, MutBor}
 use Rattle.wire.specs.Cutting.{Cutting}
 use Rattle.wire.specs.Number.{Bytes, Words}
 use Rattle.wire.specs.Refusal.{list_limit}
@@ -47,7 +47,7 @@ family given = given.1.0
 abbrev pub setting : {A B R : Type 0} → A × (B × (AddPath × R)) → AddPath
 setting given = given.1.1.0
 
-abbrev pub store : {A B C R : Type 0} → A × (B × (C × (Bor (List ℕ) × R))) → List ℕ
+abbrev pub store : {A B C R : Type 0} → A × (B × (C × (MutBor (List ℕ) × R))) → List ℕ
 store given = given.1.1.1.0.now
 
 -- the writing call: the rows, the family, the form and the output
@@ -57,7 +57,7 @@ rows given = given.0.now
 abbrev pub form_asked : {A B R : Type 0} → A × (B × (Form × R)) → Form
 form_asked given = given.1.1.0
 
-abbrev pub output : {A B C R : Type 0} → A × (B × (C × (Bor (List ℕ) × R))) → List ℕ
+abbrev pub output : {A B C R : Type 0} → A × (B × (C × (MutBor (List ℕ) × R))) → List ℕ
 output given = given.1.1.1.0.now
 
 -- what a reading call answers: of its rows or its refusal are the statements here, and of its rows with a host bit those of HostBits
