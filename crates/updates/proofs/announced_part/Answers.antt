@@ -1,38 +1,27 @@
-use mathlib.Core.Path.{◌≡◌, sym, ◌∙◌}
-use Prim.Native.Nat.{◌+◌, ◌≤◌}
+use mathlib.Core.Path.{sym, ◌∙◌}
 use native.Mathlib.Omega.{arith}
-use lib.ListN.{length}
-use Rattle.wire.specs.Refusal.{body_limit}
-use Rattle.updates.specs.Body.{length_size, announced_at}
+use Rattle.updates.specs.Body.{announced_at}
 use Rattle.updates.proofs.BodyLaws.{parts_add_up, part_told}
 use Rattle.updates.proofs.announced_part.Goals as goal
 
 pub overflow_add-withdrawn : goal.overflow_add-withdrawn
 overflow_add-withdrawn c =
-    let sums : let w = c.withdrawn-1.given.0 in
-    let b = c.args.body.now in
-    (w.0 + w.1.0 + w.1.1.0 + (length_size + length_size) ≡ length b) × (length b ≤ body_limit) = parts_add_up c.args.body.now _ _ _ (sym c.update_parts.ensures ∙ c.in-Parts.is) in
+    let sums = parts_add_up c.args.body.now _ _ _ (sym c.update_parts.ensures ∙ c.in-Parts.is) in
     omega (arith, sums)
 
 pub overflow_add-withdrawn-in-Parts : goal.overflow_add-withdrawn-in-Parts
 overflow_add-withdrawn-in-Parts c =
-    let sums : let w = c.withdrawn-1.given.0 in
-    let b = c.args.body.now in
-    (w.0 + w.1.0 + w.1.1.0 + (length_size + length_size) ≡ length b) × (length b ≤ body_limit) = parts_add_up c.args.body.now _ _ _ (sym c.update_parts.ensures ∙ c.in-Parts.is) in
+    let sums = parts_add_up c.args.body.now _ _ _ (sym c.update_parts.ensures ∙ c.in-Parts.is) in
     omega (arith, sums)
 
 pub overflow_add-withdrawn-in-Parts-2 : goal.overflow_add-withdrawn-in-Parts-2
 overflow_add-withdrawn-in-Parts-2 c =
-    let sums : let w = c.withdrawn-1.given.0 in
-    let b = c.args.body.now in
-    (w.0 + w.1.0 + w.1.1.0 + (length_size + length_size) ≡ length b) × (length b ≤ body_limit) = parts_add_up c.args.body.now _ _ _ (sym c.update_parts.ensures ∙ c.in-Parts.is) in
+    let sums = parts_add_up c.args.body.now _ _ _ (sym c.update_parts.ensures ∙ c.in-Parts.is) in
     omega (arith, sums)
 
 pub returns-in-Parts : goal.returns-in-Parts
 returns-in-Parts c =
-    let sums : let w = c.withdrawn-1.given.0 in
-    let b = c.args.body.now in
-    (w.0 + w.1.0 + w.1.1.0 + (length_size + length_size) ≡ length b) × (length b ≤ body_limit) = parts_add_up c.args.body.now _ _ _ (sym c.update_parts.ensures ∙ c.in-Parts.is) in
+    let sums = parts_add_up c.args.body.now _ _ _ (sym c.update_parts.ensures ∙ c.in-Parts.is) in
     part_told announced_at c.args.body _ _ _ c.update_parts.ensures c.in-Parts.is (omega (arith, sums)) c.part.ensures
 
 pub returns-in-Refused : goal.returns-in-Refused

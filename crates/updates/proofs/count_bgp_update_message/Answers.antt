@@ -17,8 +17,8 @@ returns-in-Parts c =
     let a = holds_announced g.body _ second.ensures in
     rw (sym c.update_parts.ensures ∙ c.in-Parts.is, ← w, ← a)
     (ap₂ Update
-    (c.counted.ensures ∙ c.count_section_by-first.ensures ∙ count_section_family _ Ipv4 table first.result.now g.mode)
-    (c.counted-in-Parts.ensures ∙ c.count_section_by-second.ensures ∙ count_section_family _ Ipv4 table second.result.now g.mode))
+    (c.counted.ensures.answer ∙ c.count_section_by-first.ensures.answer ∙ count_section_family _ Ipv4 table first.result.now g.mode)
+    (c.counted-in-Parts.ensures.answer ∙ c.count_section_by-second.ensures.answer ∙ count_section_family _ Ipv4 table second.result.now g.mode))
 
 pub returns-in-Refused : goal.returns-in-Refused
 unfolding count_update
