@@ -2,7 +2,7 @@
 -- Assumes nothing.
 use Prim.Native.Nat.{ℕ, zero, suc, ◌≤◌, ◌<◌}
 use mathlib.Core.Path.{◌≡◌, refl, sym, ap, subst, ◌∙◌}
-use mathlib.Core.List.{List, ◌∷◌, ◌++◌}
+use mathlib.Core.List.{List, [], ◌∷◌, ◌++◌}
 use mathlib.Core.Logic.{◌⊎◌, inl, inr, ⊎_elim}
 use native.Mathlib.Omega.{arith}
 use lib.ListN.{length, get_or}
@@ -74,6 +74,7 @@ module _ (w : ℕ) where
 
   -- an empty segment is in no path that the strict rule accepts
   never_empty : (items : List (List ℕ)) → Each (WellFormed NonEmpty w) items → Some Empty items → ⊥
+  never_empty [] _ none = elim none [ ]
   never_empty (item ∷ items) (one f fs) (here e) = let zero_count : f.count ≡ 0 = sym (ap (λ (l : List ℕ). get_or l 1 0) f.parts) ∙ e in omega (arith, zero_count, f.meant.1)
   never_empty (item ∷ items) (one f fs) (later e) = never_empty items fs e
 

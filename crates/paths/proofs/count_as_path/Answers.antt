@@ -1,6 +1,6 @@
 use Rattle.paths.proofs.PathTurn.{CountedPath, path_start, path_at, path_next, path_stop, path_done}
 use native.Mathlib.Omega.{arith}
-use Prim.Native.Nat.{◌+◌, ◌-◌, ◌≤◌}
+use Prim.Native.Nat.{◌+◌, ◌≤◌}
 use lib.ListN.{length}
 use Rattle.asns.specs.Asn.{width_of}
 use Rattle.paths.specs.Segment.{rule_of}

@@ -1,5 +1,5 @@
 use native.Mathlib.Omega.{arith}
-use Prim.Native.Nat.{ℕ, ◌+◌, ◌-◌, ◌≤◌}
+use Prim.Native.Nat.{ℕ, ◌+◌, ◌≤◌}
 use mathlib.Core.Path.{◌≡◌, ap₂, ◌∙◌}
 use mathlib.Core.List.{List, [], ◌∷◌}
 use lib.ListN.{length, get_or}
@@ -13,7 +13,7 @@ pub loop-at-init : goal.loop-at-init
 loop-at-init c =
     let a = c.args in
     let p = c.requires in
-    ahead_start known_type (width_of a.width) a.value.now a.pairs.now a.numbers.now a.total p.0 p.1.0 p.1.1.0 p.1.1.1
+    ahead_start known_type (width_of a.width) a.value.now a.pairs.now a.numbers.now a.total p.value_value p.value_in_bounds p.value_len p.total_in_bounds
 
 pub overflow_add-count : goal.overflow_add-count
 overflow_add-count c =
@@ -118,9 +118,7 @@ put_ahead-requires c =
     let a = c.args in
     let f = ahead_fits known_type (width_of a.width) a.value.now a.pairs.now a.numbers.now a.total c.loop-at.at c.loop-at.pair c.loop-at.to c.loop-at.pairs c.loop-at.numbers c.loop-at.invariant c.loop-at-test.true in
     (f.0, f.1, f.2, long.2, long.0, long.1) in
-    let both = let f = fits in
-    (omega (arith, f), (f.2, f.3)) in
-    record { n_in_bounds = both.0; n_bound = both.1; total_in_bounds = both.2 }
+    record { n_in_bounds = omega (arith, fits); n_bound = fits.2; total_in_bounds = fits.3 }
 
 pub overflow_cast-count-in-loop-at : goal.overflow_cast-count-in-loop-at
 overflow_cast-count-in-loop-at c = omega (arith, c.shared_slice_known-in-loop-at-1.given (c.loop-at.at + 1))
@@ -234,7 +232,7 @@ pub loop-at-preserved : goal.loop-at-preserved
 loop-at-preserved c =
     let a = c.args in
     let two : List ℕ = get_or a.value.now c.loop-at.at 0 ∷ get_or a.value.now (c.loop-at.at + 1) 0 ∷ [] in
-    let p : c.put_pair.new.0 ≡ laid c.loop-at.pairs c.loop-at.pair two = c.put_pair.ensures ∙ ap₂ (λ (x y : ℕ). laid c.loop-at.pairs c.loop-at.pair (x ∷ y ∷ [])) c.wide.ensures c.wide-in-loop-at.ensures in
+    let p : c.put_pair.new.pairs ≡ laid c.loop-at.pairs c.loop-at.pair two = c.put_pair.ensures ∙ ap₂ (λ (x y : ℕ). laid c.loop-at.pairs c.loop-at.pair (x ∷ y ∷ [])) c.wide.ensures c.wide-in-loop-at.ensures in
     rw (p, c.numbers_size.ensures)
     (ahead_next known_type (width_of a.width) a.value.now a.pairs.now a.numbers.now a.total c.loop-at.at c.loop-at.pair c.loop-at.to c.loop-at.pairs c.loop-at.numbers c.loop-at.invariant c.loop-at-test.true _ c.put_ahead.ensures)
 

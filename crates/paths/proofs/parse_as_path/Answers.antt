@@ -18,7 +18,7 @@ returns-then-pairs-segments c =
     let both =
     let a = c.args in
     leave a.value.now _ a.pairs.now a.numbers.now _ _ counted (no_pairs c.in-Path.segments c.in-Path.n (length a.pairs.now) (length a.numbers.now) c.if-pairs-segments.true) in
-    record { answer = both.0; pairs = both.1; numbers = both.2 }
+    record { answer = both.0; pairs = both.1.0; numbers = both.1.1 }
 
 pub returns-then-numbers-n : goal.returns-then-numbers-n
 returns-then-numbers-n c =
@@ -27,7 +27,7 @@ returns-then-numbers-n c =
     let both =
     let a = c.args in
     leave a.value.now _ a.pairs.now a.numbers.now _ _ counted (no_numbers c.in-Path.segments c.in-Path.n (length a.pairs.now) (length a.numbers.now) c.if-pairs-segments.false c.if-numbers-n.true) in
-    record { answer = both.0; pairs = both.1; numbers = both.2 }
+    record { answer = both.0; pairs = both.1.0; numbers = both.1.1 }
 
 pub fill-requires : goal.fill-requires
 fill-requires c =
@@ -36,13 +36,14 @@ fill-requires c =
     let alike : let a = c.args in
     path_of known_type (width_of a.width) a.value.now ≡ path_of (rule_of a.rule) (width_of a.width) a.value.now = let a = c.args in
     sym (path_alike a.rule (width_of a.width) a.value.now (count_path a.value.now _ _ _ counted).1) in
-    let both =
     let a = c.args in
     let h = count_path a.value.now _ _ _ counted in
-    let e = alike in
-    let two = ap (λ (r : Reading Segment). length (flat pair_of r.rows)) e ∙ pairs_length (path_of (rule_of a.rule) (width_of a.width) a.value.now).rows in
-    (ap (λ (r : Reading Segment). r.verdict) e ∙ h.1, (omega (arith, h.2, c.if-pairs-segments.false, two), (ap (λ (r : Reading Segment). length (flat asns_of r.rows)) e ∙ h.3, c.if-numbers-n.false))) in
-    record { value_value = both.0; value_in_bounds = both.1; value_len = both.2; total_in_bounds = both.3 }
+    let two = ap (λ (r : Reading Segment). length (flat pair_of r.rows)) alike ∙ pairs_length (path_of (rule_of a.rule) (width_of a.width) a.value.now).rows in record {
+      value_value = ap (λ (r : Reading Segment). r.verdict) alike ∙ h.1;
+      value_in_bounds = omega (arith, h.2, c.if-pairs-segments.false, two);
+      value_len = ap (λ (r : Reading Segment). length (flat asns_of r.rows)) alike ∙ h.3;
+      total_in_bounds = c.if-numbers-n.false;
+    }
 
 pub returns-else-numbers-n : goal.returns-else-numbers-n
 returns-else-numbers-n c =
@@ -51,16 +52,16 @@ returns-else-numbers-n c =
     let alike : let a = c.args in
     path_of known_type (width_of a.width) a.value.now ≡ path_of (rule_of a.rule) (width_of a.width) a.value.now = let a = c.args in
     sym (path_alike a.rule (width_of a.width) a.value.now (count_path a.value.now _ _ _ counted).1) in
-    let both =
     let a = c.args in
     let h = leave a.value.now _ a.pairs.now a.numbers.now _ _ counted (room c.in-Path.segments c.in-Path.n (length a.pairs.now) (length a.numbers.now) c.if-pairs-segments.false c.if-numbers-n.false) in
-    let e = alike in
-    let left = c.fill.ensures in
-    (h.0, (left.0 ∙ ap (λ (r : Reading Segment). laid a.pairs.now 0 (flat pair_of r.rows)) e ∙ h.1.0, left.1 ∙ ap (λ (r : Reading Segment). laid a.numbers.now 0 (flat asns_of r.rows)) e ∙ h.1.1)) in
-    record { answer = both.0; pairs = both.1; numbers = both.2 }
+    record {
+      answer = h.0;
+      pairs = c.fill.ensures.pairs ∙ ap (λ (r : Reading Segment). laid a.pairs.now 0 (flat pair_of r.rows)) alike ∙ h.1.0;
+      numbers = c.fill.ensures.numbers ∙ ap (λ (r : Reading Segment). laid a.numbers.now 0 (flat asns_of r.rows)) alike ∙ h.1.1;
+    }
 
 pub returns-in-Refused : goal.returns-in-Refused
 returns-in-Refused c =
     let both = let a = c.args in
     leave a.value.now _ a.pairs.now a.numbers.now _ _ (sym c.count_as_path.ensures ∙ c.in-Refused.is) refl in
-    record { answer = both.0; pairs = both.1; numbers = both.2 }
+    record { answer = both.0; pairs = both.1.0; numbers = both.1.1 }

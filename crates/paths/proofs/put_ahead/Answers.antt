@@ -17,8 +17,8 @@ put_numbers-requires c =
     let e = eight in
     let p = c.requires in
     record {
-      n_in_bounds = omega (arith, e, p.0);
-      n_in_bounds_2 = omega (arith, e, p.1);
+      n_in_bounds = omega (arith, e, p.n_in_bounds);
+      n_in_bounds_2 = omega (arith, e, p.n_bound, p.total_in_bounds);
     }
 
 pub returns-then-eight_for : goal.returns-then-eight_for

@@ -10,8 +10,7 @@ use Rattle.paths.proofs.put_full.Goals as goal
 
 pub put_singles-requires : goal.put_singles-requires
 put_singles-requires c =
-    let both = c.requires in
-    record { n_in_bounds = both.0; n_in_bounds_2 = both.1 }
+    record { n_in_bounds = c.requires.n_in_bounds; n_in_bounds_2 = c.requires.n_in_bounds_2 }
 
 pub returns-then-n-lt4 : goal.returns-then-n-lt4
 returns-then-n-lt4 c = c.put_singles.ensures
@@ -105,7 +104,7 @@ shape_of-numbers c =
     let sized : let a = c.args in
     (4 ≤ a.n) × (a.from + 4 * a.n ≤ length a.s.now) × (a.start + a.n ≤ length c.loop-done.numbers) =
     (c.if-n-lt4.false, omega (arith, c.requires.n_in_bounds, span_is 4 c.args.n), omega (arith, c.requires.n_in_bounds_2, c.loop-done.invariant.long)) in
-    let full : let a = c.args in BlocksTo a.s.now a.from a.n a.numbers.now a.start (a.n - 4 + 4) c.put_four-2.new.1.1.0 =
+    let full : let a = c.args in BlocksTo a.s.now a.from a.n a.numbers.now a.start (a.n - 4 + 4) c.put_four-2.new.numbers =
     let a = c.args in
     blocks_put a.s.now a.from a.n a.numbers.now a.start c.requires.n_in_bounds_2 c.loop-done.done (a.n - 4) _ _ c.loop-done.invariant c.loop-done-test.false
     (omega (arith, c.loop-done.invariant.few, sized.0)) (omega (arith, sized.0)) c.put_four-2.ensures in
@@ -116,7 +115,7 @@ returns c =
     let sized : let a = c.args in
     (4 ≤ a.n) × (a.from + 4 * a.n ≤ length a.s.now) × (a.start + a.n ≤ length c.loop-done.numbers) =
     (c.if-n-lt4.false, omega (arith, c.requires.n_in_bounds, span_is 4 c.args.n), omega (arith, c.requires.n_in_bounds_2, c.loop-done.invariant.long)) in
-    let full : let a = c.args in BlocksTo a.s.now a.from a.n a.numbers.now a.start (a.n - 4 + 4) c.put_four-2.new.1.1.0 =
+    let full : let a = c.args in BlocksTo a.s.now a.from a.n a.numbers.now a.start (a.n - 4 + 4) c.put_four-2.new.numbers =
     let a = c.args in
     blocks_put a.s.now a.from a.n a.numbers.now a.start c.requires.n_in_bounds_2 c.loop-done.done (a.n - 4) _ _ c.loop-done.invariant c.loop-done-test.false
     (omega (arith, c.loop-done.invariant.few, sized.0)) (omega (arith, sized.0)) c.put_four-2.ensures in

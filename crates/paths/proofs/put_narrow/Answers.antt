@@ -12,7 +12,7 @@ pub loop-left-init : goal.loop-left-init
 loop-left-init c =
     let a = c.args in
     let p = c.requires in
-    numbering_start a.s.now a.from 2 a.n a.numbers.now a.start p.1 p.0
+    numbering_start a.s.now a.from 2 a.n a.numbers.now a.start p.n_in_bounds_2 p.n_in_bounds
 
 pub overflow_add-middle : goal.overflow_add-middle
 overflow_add-middle c =

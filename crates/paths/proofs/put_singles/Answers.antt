@@ -11,7 +11,7 @@ pub loop-left-init : goal.loop-left-init
 loop-left-init c =
     let a = c.args in
     let p = c.requires in
-    numbering_start a.s.now a.from 4 a.n a.numbers.now a.start p.1 p.0
+    numbering_start a.s.now a.from 4 a.n a.numbers.now a.start p.n_in_bounds_2 p.n_in_bounds
 
 pub low_first-requires : goal.low_first-requires
 low_first-requires c =

@@ -1,4 +1,3 @@
-use Prim.Native.Nat.{◌-◌}
 use Rattle.paths.proofs.NumberTurn.{Numbering}
 use Rattle.paths.proofs.put_singles.Given as goal
 
