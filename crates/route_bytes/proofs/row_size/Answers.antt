@@ -3,7 +3,6 @@ use Rattle.families.proofs.FamilyLaws.{id_small, mark_small}
 use Rattle.route_bytes.proofs.EncodeLaws.{far_length, strange_id, set_octets, front_writable}
 use Rattle.route_bytes.specs.Encode.{four_words, all_zero}
 use Rattle.wire.specs.declared.WriteAnswer.TheVariants.{Bytes}
-use borrow.Author.Tests.{not-true, not-false}
 use Rattle.families.specs.Family.{mark_of, octets}
 use Rattle.route_bytes.proofs.PromiseLaws.{size_refused, size_good}
 use Rattle.route_bytes.proofs.row_size.Goals as goal
@@ -18,7 +17,7 @@ returns-then-wide-len c =
 pub returns-then-not-id_fits : goal.returns-then-not-id_fits
 returns-then-not-id_fits c =
     let a = c.args in
-    size_refused a.ws.now a.max a.form (strange_id a.ws.now a.max a.form (sym c.id_fits.ensures ∙ not-true _ c.if-not-id_fits.true))
+    size_refused a.ws.now a.max a.form (strange_id a.ws.now a.max a.form (sym c.id_fits.ensures ∙ c.if-not-id_fits.true))
 
 pub returns-then-not-clear_past : goal.returns-then-not-clear_past
 returns-then-not-clear_past c =
@@ -37,7 +36,7 @@ returns-then-not-clear_past c =
     let s = c.args.ws.now in
     ap (λ (j : ℕ). all_zero (drop j (four_words (get_or s 2 0) (get_or s 3 0) (get_or s 4 0) (get_or s 5 0)))) (sym octets_are) ∙ sym c.clear_past.ensures in
     let a = c.args in
-    size_refused a.ws.now a.max a.form (set_octets a.ws.now a.max a.form (past_are ∙ not-true _ c.if-not-clear_past.true))
+    size_refused a.ws.now a.max a.form (set_octets a.ws.now a.max a.form (past_are ∙ c.if-not-clear_past.true))
 
 pub overflow_add-result : goal.overflow_add-result
 overflow_add-result c = omega (arith, c.id_size.ensures, id_small c.args.form)
@@ -64,6 +63,6 @@ returns c =
     let r = in_range in
     let a = c.args in
     let good = front_writable a.ws.now a.max a.form r.0 (omega (arith, r.1, r.2))
-    (sym c.id_fits.ensures ∙ not-false _ c.if-not-id_fits.false)
-    (past_are ∙ not-false _ c.if-not-clear_past.false) in
+    (sym c.id_fits.ensures ∙ c.if-not-id_fits.false)
+    (past_are ∙ c.if-not-clear_past.false) in
     ap₂ (λ (x y : ℕ). Bytes (x + 1 + y)) c.id_size.ensures octets_are ∙ size_good a.ws.now a.max a.form c.requires.0 c.requires.1 good

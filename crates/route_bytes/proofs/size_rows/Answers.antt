@@ -1,4 +1,4 @@
-use Rattle.std.proofs.Common.{◌+◌, ◌-◌, refl, arith, length-drop, length-take}
+use Rattle.std.proofs.Common.{◌+◌, refl, arith, length-drop, length-take}
 use Rattle.route_bytes.proofs.PromiseLaws.{Sizing, sizing_start, sizing_step, sizing_refused, sizing_cut, sizing_done}
 use Rattle.route_bytes.proofs.size_rows.Goals as goal
 

@@ -1,4 +1,4 @@
-use Prim.Native.Nat.{ℕ, ◌+◌, ◌-◌, ◌/◌, ◌≤◌}
+use Prim.Native.Nat.{ℕ, ◌+◌, ◌/◌, ◌≤◌}
 use mathlib.Core.Path.{ap, ◌∙◌}
 use native.Mathlib.Omega.{arith}
 use lib.ListN.{length, set}
@@ -43,10 +43,9 @@ shape_of-store c = c.loop-at.invariant.long
 
 pub returns : goal.returns
 returns c =
-    let both =
     let ws = c.args.store.now in
-    let whole = clear_whole ws (omega (arith, c.if-store-ne0.false)) in (
-      ap (λ (n : ℕ). L.Rows (n / 6)) c.loop-at.invariant.long ∙ whole.0,
-      clearing_done ws c.loop-at.store c.loop-at.at c.loop-at.invariant c.loop-at-test.false ∙ whole.1,
-    ) in
-    record { answer = both.0; store = both.1 }
+    let whole = clear_whole ws (omega (arith, c.if-store-ne0.false)) in
+    record {
+      answer = ap (λ (n : ℕ). L.Rows (n / 6)) c.loop-at.invariant.long ∙ whole.0;
+      store = clearing_done ws c.loop-at.store c.loop-at.at c.loop-at.invariant c.loop-at-test.false ∙ whole.1;
+    }
