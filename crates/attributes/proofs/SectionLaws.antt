@@ -13,7 +13,7 @@ use lib.Dec.{eqb}
 use Rattle.wire.specs.Answer.{flag}
 use Rattle.wire.specs.Cutting.{Each, none, one, joined, Cutting}
 use Rattle.wire.specs.Refusal.{too_long, truncated, repeated_mp_nlri, list_limit}
-use Rattle.wire.specs.Walk.{took, stop, Reading, whole, refused, more, read_all, tally}
+use Rattle.wire.specs.Walk.{stop, Reading, whole, refused, more, read_all, tally}
 use Rattle.wire.proofs.ChoiceLaws.{pick_eqb}
 use Rattle.wire.proofs.CuttingLaws.{joined_append, item_long, front_read, cut_read, read_front}
 use Rattle.wire.proofs.WalkLaws.{tally_append, all_ind}

@@ -1,5 +1,4 @@
 use lib.ListN.{length}
-use Rattle.wire.proofs.Turn.{rest}
 use Rattle.attributes.proofs.SearchTurn.{Search}
 use Rattle.attributes.proofs.find_attribute.Given as goal
 

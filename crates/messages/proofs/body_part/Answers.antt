@@ -24,4 +24,4 @@ pub returns-in-Message : goal.returns-in-Message
 returns-in-Message c = rw c.in-Message.is (record { holds = refl; lies = refl })
 
 pub returns-in-Refused : goal.returns-in-Refused
-returns-in-Refused c = rw c.enum_told.given.1 (empty_part c.before.args.s _ refl refl)
+returns-in-Refused c = rw c.in-Refused.is (empty_part c.args.s _ refl refl)

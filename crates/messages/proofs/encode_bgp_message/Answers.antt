@@ -34,20 +34,22 @@ returns-then-body-gt-EXTENDED_LIMIT c =
 pub returns-then-misfit : goal.returns-then-misfit
 returns-then-misfit c =
     let known : is_unknown c.args.kind ≡ false = sym c.unknown.ensures ∙ c.if-unknown.false in
-    let both =
     let a = c.args in
     let e = write_misfit a.kind a.body.now (length a.out.now) known (sym c.misfit.ensures ∙ c.if-misfit.true) in
-    (sym e, sym (out_by a.kind a.body.now a.out.now (Refused message_length) e)) in
-    record { answer = both.0; output = both.1 }
+    record {
+      answer = sym e;
+      output = sym (out_by a.kind a.body.now a.out.now (Refused message_length) e);
+    }
 
 pub returns-then-out-total : goal.returns-then-out-total
 returns-then-out-total c =
     let known : is_unknown c.args.kind ≡ false = sym c.unknown.ensures ∙ c.if-unknown.false in
-    let both =
     let a = c.args in
     let e = write_full a.kind a.body.now (length a.out.now) known (sym c.misfit.ensures ∙ c.if-misfit.false) c.if-out-total.true in
-    (sym e, sym (out_by a.kind a.body.now a.out.now (Refused no_room) e)) in
-    record { answer = both.0; output = both.1 }
+    record {
+      answer = sym e;
+      output = sym (out_by a.kind a.body.now a.out.now (Refused no_room) e);
+    }
 
 pub put_header-requires : goal.put_header-requires
 put_header-requires c =
@@ -58,11 +60,10 @@ put_header-requires c =
 pub returns : goal.returns
 returns c =
     let known : is_unknown c.args.kind ≡ false = sym c.unknown.ensures ∙ c.if-unknown.false in
-    let both =
     let a = c.args in
-    let e = write_fits a.kind a.body.now (length a.out.now) known (sym c.misfit.ensures ∙ c.if-misfit.false) c.if-out-total.false in (
-      sym e,
-      body_put a.kind a.body.now a.out.now _ _ c.if-out-total.false c.put_header.ensures c.copy_at.ensures
-          ∙ sym (out_by a.kind a.body.now a.out.now (Bytes (total_of a.body.now)) e),
-    ) in
-    record { answer = both.0; output = both.1 }
+    let e = write_fits a.kind a.body.now (length a.out.now) known (sym c.misfit.ensures ∙ c.if-misfit.false) c.if-out-total.false in
+    record {
+      answer = sym e;
+      output = body_put a.kind a.body.now a.out.now _ _ c.if-out-total.false c.put_header.ensures c.copy_at.ensures
+          ∙ sym (out_by a.kind a.body.now a.out.now (Bytes (total_of a.body.now)) e);
+    }
