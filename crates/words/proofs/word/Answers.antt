@@ -1,0 +1,7 @@
+use mathlib.Core.Path.{refl}
+use Rattle.words.specs.Word.{word_of}
+use Rattle.words.proofs.word.Goals as goal
+
+pub returns : goal.returns
+unfolding word_of
+returns c = refl
