@@ -10,6 +10,6 @@ pub returns : goal.returns
 returns c =
     let e = rw (c.family_of.ensures, c.form_of.ensures) at c.build_index.ensures in
     record {
-      answer = told_in index_meaning c.index_word.ensures e.0;
-      places = e.1;
+      answer = told_in index_meaning c.index_word.ensures e.answer;
+      places = e.store;
     }

@@ -5,19 +5,19 @@ use Rattle.firmware.proofs.ListBounds.{count_list_narrow}
 use Rattle.firmware.proofs.list.doorbramble_count_nlri_list.Goals as goal
 
 pub list_word-requires : goal.list_word-requires
-list_word-requires c = rw c.count_nlri_list.ensures (count_list_narrow _ _ _)
+list_word-requires c = rw c.count_nlri_list.ensures.answer (count_list_narrow _ _ _)
 
 pub list_word-requires-in-Ipv6 : goal.list_word-requires-in-Ipv6
-list_word-requires-in-Ipv6 c = rw c.count_nlri_list-in-Ipv6.ensures (count_list_narrow _ _ _)
+list_word-requires-in-Ipv6 c = rw c.count_nlri_list-in-Ipv6.ensures.answer (count_list_narrow _ _ _)
 
 pub returns-in-Ipv4 : goal.returns-in-Ipv4
 returns-in-Ipv4 c =
     let family = sym c.family_of.ensures ∙ c.in-Ipv4.is in
-    let e = rw c.mode_of-mode.ensures at c.count_nlri_list.ensures in
+    let e = rw c.mode_of-mode.ensures at c.count_nlri_list.ensures.answer in
     rw family (told_in routes_meaning c.list_word.ensures e)
 
 pub returns-in-Ipv6 : goal.returns-in-Ipv6
 returns-in-Ipv6 c =
     let family = sym c.family_of.ensures ∙ c.in-Ipv6.is in
-    let e = rw c.mode_of-mode.ensures at c.count_nlri_list-in-Ipv6.ensures in
+    let e = rw c.mode_of-mode.ensures at c.count_nlri_list-in-Ipv6.ensures.answer in
     rw family (told_in routes_meaning c.list_word-in-Ipv6.ensures e)

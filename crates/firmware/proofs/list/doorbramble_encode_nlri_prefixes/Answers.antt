@@ -10,6 +10,6 @@ pub returns : goal.returns
 returns c =
     let e = rw (c.family_of.ensures, c.form_of.ensures) at c.encode_nlri_prefixes.ensures in
     record {
-      answer = told_in write_meaning c.write_word.ensures e.0;
-      out = e.1;
+      answer = told_in write_meaning c.write_word.ensures e.answer;
+      out = e.out;
     }

@@ -12,14 +12,12 @@ list_word-requires-in-Ipv6 c = rw c.parse_nlri_list-in-Ipv6.ensures.answer (read
 
 pub returns-in-Ipv4 : goal.returns-in-Ipv4
 returns-in-Ipv4 c =
-    let both = let family = sym c.family_of.ensures ∙ c.in-Ipv4.is in
+    let family = sym c.family_of.ensures ∙ c.in-Ipv4.is in
     let e = rw c.mode_of-mode.ensures at c.parse_nlri_list.ensures in
-    rw family (told_in routes_meaning c.list_word.ensures e.0, e.1) in
-    record { answer = both.0; store = both.1 }
+    rw family record { answer = told_in routes_meaning c.list_word.ensures e.answer; store = e.store }
 
 pub returns-in-Ipv6 : goal.returns-in-Ipv6
 returns-in-Ipv6 c =
-    let both = let family = sym c.family_of.ensures ∙ c.in-Ipv6.is in
+    let family = sym c.family_of.ensures ∙ c.in-Ipv6.is in
     let e = rw c.mode_of-mode.ensures at c.parse_nlri_list-in-Ipv6.ensures in
-    rw family (told_in routes_meaning c.list_word-in-Ipv6.ensures e.0, e.1) in
-    record { answer = both.0; store = both.1 }
+    rw family record { answer = told_in routes_meaning c.list_word-in-Ipv6.ensures e.answer; store = e.store }

@@ -6,6 +6,9 @@ path_word-requires c = rw c.merge_as_path.ensures.answer (merge_narrow _ _ _ _ _
 
 pub returns : goal.returns
 returns c =
-    let both = let e = c.merge_as_path.ensures in
-    (rw (← e.0) c.path_word.ensures, (e.1.0, e.1.1)) in
-    record { answer = both.0; pairs = both.1; numbers = both.2 }
+    let e = c.merge_as_path.ensures in
+    record {
+      answer = rw (← e.answer) c.path_word.ensures;
+      pairs = e.pairs;
+      numbers = e.numbers;
+    }

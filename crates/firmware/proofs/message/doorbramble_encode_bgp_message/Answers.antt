@@ -9,6 +9,6 @@ write_word-requires c = rw c.encode_bgp_message.ensures.answer (write_message_na
 pub returns : goal.returns
 returns c =
     let e = c.encode_bgp_message.ensures in record {
-      answer = told_in write_meaning c.write_word.ensures e.0;
-      out = e.1;
+      answer = told_in write_meaning c.write_word.ensures e.answer;
+      out = e.output;
     }

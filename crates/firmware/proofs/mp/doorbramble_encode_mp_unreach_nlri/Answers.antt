@@ -12,8 +12,9 @@ write_word-requires c = rw c.encode_mp_unreach_nlri.ensures.answer (write_unreac
 
 pub returns : goal.returns
 returns c =
-    let both =
     let a = c.args in
     let e = rw c.form_of.ensures at c.encode_mp_unreach_nlri.ensures in
-    (told_in write_meaning c.write_word.ensures e.0, e.1 ∙ ap (λ x. filled (write_meaning x) (unreach_bytes (route_bytes a.rows.now (form_of a.add-path))) a.out.now) e.0) in
-    record { answer = both.0; out = both.1 }
+    record {
+      answer = told_in write_meaning c.write_word.ensures e.answer;
+      out = e.out ∙ ap (λ x. filled (write_meaning x) (unreach_bytes (route_bytes a.rows.now (form_of a.add_path))) a.out.now) e.answer;
+    }

@@ -11,8 +11,9 @@ reach_word-requires c = rw c.parse_mp_reach_nlri.ensures.answer (read_reach_narr
 
 pub returns : goal.returns
 returns c =
-    let both =
     let a = c.args in
     let e = rw c.mode_of.ensures at c.parse_mp_reach_nlri.ensures in
-    (told reach_fields c.reach_word.ensures e.0, e.1 ∙ ap (λ x. reach_after x a.value.now (mode_of a.settings) a.store.now) e.0) in
-    record { answer = both.0; store = both.1 }
+    record {
+      answer = told reach_fields c.reach_word.ensures e.answer;
+      store = e.store ∙ ap (λ x. reach_after x a.value.now (mode_of a.settings) a.store.now) e.answer;
+    }

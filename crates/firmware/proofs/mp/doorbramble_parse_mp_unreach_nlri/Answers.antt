@@ -11,8 +11,9 @@ list_word-requires c = rw c.parse_mp_unreach_nlri.ensures.answer (read_unreach_n
 
 pub returns : goal.returns
 returns c =
-    let both =
     let a = c.args in
     let e = rw c.mode_of.ensures at c.parse_mp_unreach_nlri.ensures in
-    (told_in routes_meaning c.list_word.ensures e.0, e.1 ∙ ap (λ x. unreach_after x a.value.now (mode_of a.settings) a.store.now) e.0) in
-    record { answer = both.0; store = both.1 }
+    record {
+      answer = told_in routes_meaning c.list_word.ensures e.answer;
+      store = e.store ∙ ap (λ x. unreach_after x a.value.now (mode_of a.settings) a.store.now) e.answer;
+    }

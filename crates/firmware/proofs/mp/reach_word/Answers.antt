@@ -1,32 +1,21 @@
 use native.Mathlib.Omega.{arith}
-use Rattle.mp_nlri.specs.declared.ReachAnswer.TheVariants.{Reach}
-use Rattle.words.specs.Word.{Narrow}
 use Rattle.words.proofs.FlagLaws.{flag_byte, byte_small}
-use Rattle.firmware.specs.Fields.{reach_fields}
 use Rattle.firmware.proofs.mp.reach_word.Goals as goal
 
 pub overflow_cast-rows : goal.overflow_cast-rows
-overflow_cast-rows c =
-    let narrow : let g = c.a-1.given.0 in Narrow (reach_fields (Reach g.0 g.1.0 g.1.1.0 g.1.1.1.0)) = rw c.in-Reach.is at c.requires in
-    omega (arith, narrow.a)
+overflow_cast-rows c = omega (arith, (rw c.in-Reach.is at c.requires).a)
 
 pub overflow_cast-hosts : goal.overflow_cast-hosts
-overflow_cast-hosts c =
-    let narrow : let g = c.a-1.given.0 in Narrow (reach_fields (Reach g.0 g.1.0 g.1.1.0 g.1.1.1.0)) = rw c.in-Reach.is at c.requires in
-    omega (arith, narrow.b)
+overflow_cast-hosts c = omega (arith, (rw c.in-Reach.is at c.requires).b)
 
 pub overflow_cast-next_hop : goal.overflow_cast-next_hop
-overflow_cast-next_hop c =
-    let narrow : let g = c.a-1.given.0 in Narrow (reach_fields (Reach g.0 g.1.0 g.1.1.0 g.1.1.1.0)) = rw c.in-Reach.is at c.requires in
-    omega (arith, narrow.c)
+overflow_cast-next_hop c = omega (arith, (rw c.in-Reach.is at c.requires).c)
 
 pub overflow_mul-reserved : goal.overflow_mul-reserved
 overflow_mul-reserved c = omega (arith, byte_small c.in-Reach.reserved)
 
 pub overflow_add-next_hop : goal.overflow_add-next_hop
-overflow_add-next_hop c =
-    let narrow : let g = c.a-1.given.0 in Narrow (reach_fields (Reach g.0 g.1.0 g.1.1.0 g.1.1.1.0)) = rw c.in-Reach.is at c.requires in
-    omega (arith, narrow.c, flag_byte c.in-Reach.reserved)
+overflow_add-next_hop c = omega (arith, (rw c.in-Reach.is at c.requires).c, flag_byte c.in-Reach.reserved)
 
 pub returns-in-Reach : goal.returns-in-Reach
 returns-in-Reach c = rw (c.in-Reach.is, ← flag_byte c.in-Reach.reserved) c.word.ensures

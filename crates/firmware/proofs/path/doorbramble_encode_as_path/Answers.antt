@@ -6,9 +6,8 @@ use Rattle.firmware.proofs.path.doorbramble_encode_as_path.Goals as goal
 
 pub returns : goal.returns
 returns c =
-    let both =
     let a = c.args in
     let h = how_crate a.four_bytes (omega arith) in
     let e = c.encode_by.ensures in
-    write_told a.pairs.now a.numbers.now _ _ _ Crate a.out.now _ _ c.encode_by.result h.1 h.0 e.0 refl e.1 in
-    record { answer = both.0; out = both.1 }
+    let told = write_told a.pairs.now a.numbers.now _ _ _ Crate a.out.now _ _ c.encode_by.result h.1 h.0 e.answer refl e.out in
+    record { answer = told.0; out = told.1 }

@@ -6,9 +6,8 @@ use Rattle.firmware.proofs.path.doorbramble_parse_as_path_strict.Goals as goal
 
 pub returns : goal.returns
 returns c =
-    let both =
     let a = c.args in
     let h = how_strict a.four_bytes (omega arith) in
     let e = c.parse_by.ensures in
-    read_told a.value.now _ _ _ Strict a.pairs.now a.numbers.now _ _ _ c.parse_by.result h.1 h.0 e.0 refl e.1.0 e.1.1 in
-    record { answer = both.0; pairs = both.1; numbers = both.2 }
+    let told = read_told a.value.now _ _ _ Strict a.pairs.now a.numbers.now _ _ _ c.parse_by.result h.1 h.0 e.answer refl e.pairs e.numbers in
+    record { answer = told.0; pairs = told.1.0; numbers = told.1.1 }

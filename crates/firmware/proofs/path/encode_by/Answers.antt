@@ -9,9 +9,8 @@ write_word-requires c = rw c.encode_as_path.ensures.answer (write_path_narrow _ 
 
 pub returns : goal.returns
 returns c =
-    let both =
     let a = c.args in
     let e = c.encode_as_path.ensures in
-    write_told a.pairs.now a.numbers.now c.asn_length_of.result (asn_length_of (a.how % 256)) c.rule_in.result (rule_in a.how) a.out.now _ c.encode_as_path.result c.write_word.result
-    c.asn_length_of.ensures c.rule_in.ensures c.write_word.ensures e.0 e.1 in
-    record { answer = both.0; out = both.1 }
+    let told = write_told a.pairs.now a.numbers.now c.asn_length_of.result (asn_length_of (a.how % 256)) c.rule_in.result (rule_in a.how) a.out.now _ c.encode_as_path.result c.write_word.result
+    c.asn_length_of.ensures c.rule_in.ensures c.write_word.ensures e.answer e.out in
+    record { answer = told.0; out = told.1 }

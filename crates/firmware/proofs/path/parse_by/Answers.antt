@@ -9,9 +9,8 @@ path_word-requires c = rw c.parse_as_path.ensures.answer (read_path_narrow _ c.a
 
 pub returns : goal.returns
 returns c =
-    let both =
     let a = c.args in
     let e = c.parse_as_path.ensures in
-    read_told a.value.now c.asn_length_of.result (asn_length_of (a.how % 256)) c.rule_in.result (rule_in a.how) a.pairs.now a.numbers.now _ _ c.parse_as_path.result c.path_word.result
-    c.asn_length_of.ensures c.rule_in.ensures c.path_word.ensures e.0 e.1.0 e.1.1 in
-    record { answer = both.0; pairs = both.1; numbers = both.2 }
+    let told = read_told a.value.now c.asn_length_of.result (asn_length_of (a.how % 256)) c.rule_in.result (rule_in a.how) a.pairs.now a.numbers.now _ _ c.parse_as_path.result c.path_word.result
+    c.asn_length_of.ensures c.rule_in.ensures c.path_word.ensures e.answer e.pairs e.numbers in
+    record { answer = told.0; pairs = told.1.0; numbers = told.1.1 }

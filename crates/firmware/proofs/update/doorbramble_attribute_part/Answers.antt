@@ -1,31 +1,20 @@
 use mathlib.Core.Path.{sym, ◌∙◌}
 use native.Mathlib.Omega.{arith}
 use Rattle.updates.specs.Body.{attributes_at}
-use Rattle.updates.specs.declared.PartsAnswer.TheVariants.{Parts}
-use Rattle.words.specs.Word.{Narrow}
-use Rattle.firmware.specs.Fields.{part_fields}
 use Rattle.firmware.proofs.UpdateBounds.{part_narrow}
 use Rattle.firmware.proofs.update.doorbramble_attribute_part.Goals as goal
 
 pub overflow_add-withdrawn : goal.overflow_add-withdrawn
-overflow_add-withdrawn c =
-    let narrow : let p = c.withdrawn-1.given.0 in Narrow (part_fields attributes_at (Parts p.0 p.1.0 p.1.1.0)) = part_narrow attributes_at _ _ _ _ _ (omega arith) c.update_parts.ensures c.in-Parts.is in
-    omega (arith, narrow)
+overflow_add-withdrawn c = omega (arith, part_narrow attributes_at _ _ _ _ _ (omega arith) c.update_parts.ensures c.in-Parts.is)
 
 pub overflow_add-withdrawn-in-Parts : goal.overflow_add-withdrawn-in-Parts
-overflow_add-withdrawn-in-Parts c =
-    let narrow : let p = c.withdrawn-1.given.0 in Narrow (part_fields attributes_at (Parts p.0 p.1.0 p.1.1.0)) = part_narrow attributes_at _ _ _ _ _ (omega arith) c.update_parts.ensures c.in-Parts.is in
-    omega (arith, narrow)
+overflow_add-withdrawn-in-Parts c = omega (arith, part_narrow attributes_at _ _ _ _ _ (omega arith) c.update_parts.ensures c.in-Parts.is)
 
 pub overflow_cast-withdrawn : goal.overflow_cast-withdrawn
-overflow_cast-withdrawn c =
-    let narrow : let p = c.withdrawn-1.given.0 in Narrow (part_fields attributes_at (Parts p.0 p.1.0 p.1.1.0)) = part_narrow attributes_at _ _ _ _ _ (omega arith) c.update_parts.ensures c.in-Parts.is in
-    omega (arith, narrow)
+overflow_cast-withdrawn c = omega (arith, part_narrow attributes_at _ _ _ _ _ (omega arith) c.update_parts.ensures c.in-Parts.is)
 
 pub overflow_cast-attributes : goal.overflow_cast-attributes
-overflow_cast-attributes c =
-    let narrow : let p = c.withdrawn-1.given.0 in Narrow (part_fields attributes_at (Parts p.0 p.1.0 p.1.1.0)) = part_narrow attributes_at _ _ _ _ _ (omega arith) c.update_parts.ensures c.in-Parts.is in
-    omega (arith, narrow)
+overflow_cast-attributes c = omega (arith, part_narrow attributes_at _ _ _ _ _ (omega arith) c.update_parts.ensures c.in-Parts.is)
 
 pub returns-in-Parts : goal.returns-in-Parts
 returns-in-Parts c = rw (sym c.update_parts.ensures ∙ c.in-Parts.is) c.word.ensures

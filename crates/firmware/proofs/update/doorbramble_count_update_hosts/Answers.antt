@@ -16,8 +16,8 @@ overflow_cast-hosts_in c =
     let part = c.withdrawn_part in
     let table = c.put_counts.ensures refl in
     c.hosts_in.ensures
-    ∙ ap hosts_in c.counted.ensures
-    ∙ section_hosts_lem _ table part.result.now _ c.mode_of-mode.result _ _ c.count_section_by-first.ensures (holds_withdrawn c.args.body _ part.ensures) c.mode_of-mode.ensures in
+    ∙ ap hosts_in c.counted.ensures.answer
+    ∙ section_hosts_lem _ table part.result.now _ c.mode_of-mode.result _ _ c.count_section_by-first.ensures.answer (holds_withdrawn c.args.body _ part.ensures) c.mode_of-mode.ensures in
     let a = c.args in omega (arith, first, section_hosts_few (withdrawn_of a.body.now) (mode_of a.settings))
 
 pub overflow_cast-hosts_in-in-Parts : goal.overflow_cast-hosts_in-in-Parts
@@ -26,8 +26,8 @@ overflow_cast-hosts_in-in-Parts c =
     let part = c.announced_part in
     let table = c.put_counts.ensures refl in
     c.hosts_in-in-Parts.ensures
-    ∙ ap hosts_in c.counted-in-Parts.ensures
-    ∙ section_hosts_lem _ table part.result.now _ c.mode_of-mode.result _ _ c.count_section_by-second.ensures (holds_announced c.args.body _ part.ensures) c.mode_of-mode.ensures in
+    ∙ ap hosts_in c.counted-in-Parts.ensures.answer
+    ∙ section_hosts_lem _ table part.result.now _ c.mode_of-mode.result _ _ c.count_section_by-second.ensures.answer (holds_announced c.args.body _ part.ensures) c.mode_of-mode.ensures in
     let a = c.args in omega (arith, second, section_hosts_few (announced_of a.body.now) (mode_of a.settings))
 
 pub returns-in-Parts : goal.returns-in-Parts
@@ -37,14 +37,14 @@ returns-in-Parts c =
     let part = c.withdrawn_part in
     let table = c.put_counts.ensures refl in
     c.hosts_in.ensures
-    ∙ ap hosts_in c.counted.ensures
-    ∙ section_hosts_lem _ table part.result.now _ c.mode_of-mode.result _ _ c.count_section_by-first.ensures (holds_withdrawn c.args.body _ part.ensures) c.mode_of-mode.ensures in
+    ∙ ap hosts_in c.counted.ensures.answer
+    ∙ section_hosts_lem _ table part.result.now _ c.mode_of-mode.result _ _ c.count_section_by-first.ensures.answer (holds_withdrawn c.args.body _ part.ensures) c.mode_of-mode.ensures in
     let second : let a = c.args in c.hosts_in-in-Parts.result ≡ hosts_in (counted (announced_of a.body.now) (mode_of a.settings)) =
     let part = c.announced_part in
     let table = c.put_counts.ensures refl in
     c.hosts_in-in-Parts.ensures
-    ∙ ap hosts_in c.counted-in-Parts.ensures
-    ∙ section_hosts_lem _ table part.result.now _ c.mode_of-mode.result _ _ c.count_section_by-second.ensures (holds_announced c.args.body _ part.ensures) c.mode_of-mode.ensures in
+    ∙ ap hosts_in c.counted-in-Parts.ensures.answer
+    ∙ section_hosts_lem _ table part.result.now _ c.mode_of-mode.result _ _ c.count_section_by-second.ensures.answer (holds_announced c.args.body _ part.ensures) c.mode_of-mode.ensures in
     rw (sym c.update_parts.ensures ∙ c.in-Parts.is)
     (c.word.ensures ∙ ap₂ (λ (w a : ℕ). word_of (fields w a 0 0)) first second)
 

@@ -7,9 +7,8 @@ write_word-requires c = rw c.encode_bgp_update_message.ensures.answer (write_upd
 
 pub returns : goal.returns
 returns c =
-    let both =
     let a = c.args in
     let e = c.encode_bgp_update_message.ensures in
-    write_told a.withdrawn.now a.attributes.now a.announced.now c.form_of.result (form_of a.add-path) a.out.now _ c.encode_bgp_update_message.result c.write_word.result
-    c.form_of.ensures c.write_word.ensures e.0 e.1 in
-    record { answer = both.0; out = both.1 }
+    let told = write_told a.withdrawn.now a.attributes.now a.announced.now c.form_of.result (form_of a.add_path) a.out.now _ c.encode_bgp_update_message.result c.write_word.result
+    c.form_of.ensures c.write_word.ensures e.answer e.out in
+    record { answer = told.0; out = told.1 }

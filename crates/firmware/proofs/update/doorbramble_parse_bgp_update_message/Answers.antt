@@ -7,9 +7,8 @@ update_word-requires c = rw c.parse_bgp_update_message.ensures.answer (read_upda
 
 pub returns : goal.returns
 returns c =
-    let both =
     let a = c.args in
     let e = c.parse_bgp_update_message.ensures in
-    read_told a.body.now c.mode_of.result (mode_of a.settings) a.withdrawn.now a.announced.now _ _ c.parse_bgp_update_message.result c.update_word.result
-    c.mode_of.ensures c.update_word.ensures e.0 e.1.0 e.1.1 in
-    record { answer = both.0; withdrawn = both.1; announced = both.2 }
+    let told = read_told a.body.now c.mode_of.result (mode_of a.settings) a.withdrawn.now a.announced.now _ _ c.parse_bgp_update_message.result c.update_word.result
+    c.mode_of.ensures c.update_word.ensures e.answer e.withdrawn e.announced in
+    record { answer = told.0; withdrawn = told.1.0; announced = told.1.1 }
