@@ -2,7 +2,7 @@
  * AS_PATH and AGGREGATOR read and written; a route of a list found by its number; AS_PATH and AS4_PATH merged; the mark of guessed path ids
  * taken off rows.
  *
- * The functions are those of the static library that `rt staticlib firmware` writes, target/staticlib/libfirmware.a. Each is proved to
+ * The functions are those of the static library that `tools/staticlib` writes, target/staticlib/libfirmware.a. Each is proved to
  * give the answer that its contract in crates/firmware/src names, for every input, and to end. None keeps a pointer, allocates, or
  * has state of its own.
  *

@@ -3,8 +3,8 @@
 # Finds the kit by `rt` on the PATH: sets kit and tools. Fails where there is no kit.
 find_kit() {
     rt=$(command -v rt) || return 1
-    kit=${RATTLE_HOME:-$(dirname -- "$(dirname -- "$(readlink -f -- "$rt")")")}
-    tools=$kit/on/$(uname -m)/toolchain
+    kit=$(dirname -- "$(dirname -- "$(readlink -f -- "$rt")")")
+    tools=$kit/toolchain
 }
 
 # Finds what a program for x86-64 runs with: the kit's loader and C library, with no kit the system's; on other processors an emulator too.
@@ -43,26 +43,31 @@ crates_of() {
             print crate
         }
         { sub(/#.*/, "") }
-        split($0, half, ":") == 2 { gsub(/[ \t]/, "", half[1]); needs[half[1]] = half[2] }
+        split($0, half, ":") == 2 { split(half[1], words, " "); needs[words[1]] = half[2] }
         END { visit(name) }' "$root/crates.txt"
 }
 
-# LOG NAME COMMAND..: runs a command of rt that proves NAME, says how far it is, line by line, and shows all that it said where it fails.
+# LOG NAME COMMAND..: runs a command of rt that proves NAME, in its folder, says how far it is, crate by crate, and shows all that it said where it
+# fails. What was proved before is not told again.
 prove() {
     log=$1 wanted=$2 all=$(crates_of "$2" | wc -l)
     shift 2
     (: >"$log") 2>/dev/null || die "$log cannot be written"
     {
         status=0
-        (cd "$root" && "$@") </dev/null 2>&1 || status=$?
+        (cd "$root/crates/$wanted" && "$@") </dev/null 2>&1 || status=$?
         echo "=ended $status"
     } | {
-        ended=2 proved=0
+        ended=2 proved=0 name=''
         while IFS= read -r line; do
             case $line in
             '=ended '*) ended=${line#=ended } && break ;;
-            'rt: '*' proved ('*) proved=$((proved + 1)) && name=${line#rt: } && say "proved ${name%% *}, $proved of $((all))" ;;
-            'rt: target/staticlib/'*' has '*) say "proved $wanted, $((all)) of $((all))" ;;
+            'crate '*': modules '*) name=${line#crate } && name=${name%%:*} ;;
+            'logic=proved '*)
+                proved=$((proved + 1))
+                [ "$name" != "$wanted" ] || proved=$((all))
+                say "proved $name, $proved of $((all))"
+                ;;
             esac
             printf '%s\n' "$line" >>"$log"
         done
