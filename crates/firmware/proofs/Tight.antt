@@ -50,7 +50,7 @@ pub tight_parse_bgp_message_by_edition : (κs : _) (a : _) (z z' : _) (e e' : _)
 tight_parse_bgp_message_by_edition κs a z z' e e' p q = p ∙ sym q
 
 pub tight_encode_bgp_message : (κs : _) (a : _) (z z' : _) (e e' : _) → encode_bgp_message.Learnt κs a z e → encode_bgp_message.Learnt κs a z' e' → (z ≡ z') × (e.1.1.0.now ≡ e'.1.1.0.now)
-tight_encode_bgp_message κs a z z' e e' p q = (p.answer ∙ sym q.answer, p.out ∙ sym q.out)
+tight_encode_bgp_message κs a z z' e e' p q = (p.0 ∙ sym q.0, p.1 ∙ sym q.1)
 
 pub tight_withdrawn_part : (κs : _) (a : _) (z z' : _) (e e' : _) → withdrawn_part.Learnt κs a z e → withdrawn_part.Learnt κs a z' e' → z ≡ z'
 tight_withdrawn_part κs a z z' e e' p q = p ∙ sym q
@@ -68,10 +68,10 @@ pub tight_count_update_hosts : (κs : _) (a : _) (z z' : _) (e e' : _) → count
 tight_count_update_hosts κs a z z' e e' p q = p ∙ sym q
 
 pub tight_parse_bgp_update_message : (κs : _) (a : _) (z z' : _) (e e' : _) → parse_bgp_update_message.Learnt κs a z e → parse_bgp_update_message.Learnt κs a z' e' → (z ≡ z') × (e.1.1.0.now ≡ e'.1.1.0.now) × (e.1.1.1.0.now ≡ e'.1.1.1.0.now)
-tight_parse_bgp_update_message κs a z z' e e' p q = (p.answer ∙ sym q.answer, p.withdrawn ∙ sym q.withdrawn, p.announced ∙ sym q.announced)
+tight_parse_bgp_update_message κs a z z' e e' p q = (p.0 ∙ sym q.0, p.1.0 ∙ sym q.1.0, p.1.1 ∙ sym q.1.1)
 
 pub tight_encode_bgp_update_message : (κs : _) (a : _) (z z' : _) (e e' : _) → encode_bgp_update_message.Learnt κs a z e → encode_bgp_update_message.Learnt κs a z' e' → (z ≡ z') × (e.1.1.1.1.0.now ≡ e'.1.1.1.1.0.now)
-tight_encode_bgp_update_message κs a z z' e e' p q = (p.answer ∙ sym q.answer, p.out ∙ sym q.out)
+tight_encode_bgp_update_message κs a z z' e e' p q = (p.0 ∙ sym q.0, p.1 ∙ sym q.1)
 
 pub tight_attribute_at : (κs : _) (a : _) (z z' : _) (e e' : _) → attribute_at.Learnt κs a z e → attribute_at.Learnt κs a z' e' → z ≡ z'
 tight_attribute_at κs a z z' e e' p q = p ∙ sym q
@@ -83,64 +83,64 @@ pub tight_count_nlri_list : (κs : _) (a : _) (z z' : _) (e e' : _) → count_nl
 tight_count_nlri_list κs a z z' e e' p q = p ∙ sym q
 
 pub tight_parse_nlri_list : (κs : _) (a : _) (z z' : _) (e e' : _) → parse_nlri_list.Learnt κs a z e → parse_nlri_list.Learnt κs a z' e' → (z ≡ z') × (e.1.1.1.0.now ≡ e'.1.1.1.0.now)
-tight_parse_nlri_list κs a z z' e e' p q = (p.answer ∙ sym q.answer, p.store ∙ sym q.store)
+tight_parse_nlri_list κs a z z' e e' p q = (p.0 ∙ sym q.0, p.1 ∙ sym q.1)
 
 pub tight_encode_nlri_prefixes : (κs : _) (a : _) (z z' : _) (e e' : _) → encode_nlri_prefixes.Learnt κs a z e → encode_nlri_prefixes.Learnt κs a z' e' → (z ≡ z') × (e.1.1.1.0.now ≡ e'.1.1.1.0.now)
-tight_encode_nlri_prefixes κs a z z' e e' p q = (p.answer ∙ sym q.answer, p.out ∙ sym q.out)
+tight_encode_nlri_prefixes κs a z z' e e' p q = (p.0 ∙ sym q.0, p.1 ∙ sym q.1)
 
 pub tight_clear_guessed : (κs : _) (a : _) (z z' : _) (e e' : _) → clear_guessed.Learnt κs a z e → clear_guessed.Learnt κs a z' e' → (z ≡ z') × (e.0.now ≡ e'.0.now)
-tight_clear_guessed κs a z z' e e' p q = (p.answer ∙ sym q.answer, p.store ∙ sym q.store)
+tight_clear_guessed κs a z z' e e' p q = (p.0 ∙ sym q.0, p.1 ∙ sym q.1)
 
 pub tight_count_index : (κs : _) (a : _) (z z' : _) (e e' : _) → count_index.Learnt κs a z e → count_index.Learnt κs a z' e' → z ≡ z'
 tight_count_index κs a z z' e e' p q = p ∙ sym q
 
 pub tight_build_index : (κs : _) (a : _) (z z' : _) (e e' : _) → build_index.Learnt κs a z e → build_index.Learnt κs a z' e' → (z ≡ z') × (e.1.1.1.0.now ≡ e'.1.1.1.0.now)
-tight_build_index κs a z z' e e' p q = (p.answer ∙ sym q.answer, p.places ∙ sym q.places)
+tight_build_index κs a z z' e e' p q = (p.0 ∙ sym q.0, p.1 ∙ sym q.1)
 
 pub tight_route_at : (κs : _) (a : _) (z z' : _) (e e' : _) → route_at.Learnt κs a z e → route_at.Learnt κs a z' e' → (z ≡ z') × (e.1.1.1.1.1.0.now ≡ e'.1.1.1.1.1.0.now)
-tight_route_at κs a z z' e e' p q = (p.answer ∙ sym q.answer, p.row ∙ sym q.row)
+tight_route_at κs a z z' e e' p q = (p.0 ∙ sym q.0, p.1 ∙ sym q.1)
 
 pub tight_count_mp_reach_nlri : (κs : _) (a : _) (z z' : _) (e e' : _) → count_mp_reach_nlri.Learnt κs a z e → count_mp_reach_nlri.Learnt κs a z' e' → z ≡ z'
 tight_count_mp_reach_nlri κs a z z' e e' p q = p ∙ sym q
 
 pub tight_parse_mp_reach_nlri : (κs : _) (a : _) (z z' : _) (e e' : _) → parse_mp_reach_nlri.Learnt κs a z e → parse_mp_reach_nlri.Learnt κs a z' e' → (z ≡ z') × (e.1.1.0.now ≡ e'.1.1.0.now)
-tight_parse_mp_reach_nlri κs a z z' e e' p q = (p.answer ∙ sym q.answer, p.store ∙ sym q.store)
+tight_parse_mp_reach_nlri κs a z z' e e' p q = (p.0 ∙ sym q.0, p.1 ∙ sym q.1)
 
 pub tight_encode_mp_reach_nlri : (κs : _) (a : _) (z z' : _) (e e' : _) → encode_mp_reach_nlri.Learnt κs a z e → encode_mp_reach_nlri.Learnt κs a z' e' → (z ≡ z') × (e.1.1.1.0.now ≡ e'.1.1.1.0.now)
-tight_encode_mp_reach_nlri κs a z z' e e' p q = (p.answer ∙ sym q.answer, p.out ∙ sym q.out)
+tight_encode_mp_reach_nlri κs a z z' e e' p q = (p.0 ∙ sym q.0, p.1 ∙ sym q.1)
 
 pub tight_count_mp_unreach_nlri : (κs : _) (a : _) (z z' : _) (e e' : _) → count_mp_unreach_nlri.Learnt κs a z e → count_mp_unreach_nlri.Learnt κs a z' e' → z ≡ z'
 tight_count_mp_unreach_nlri κs a z z' e e' p q = p ∙ sym q
 
 pub tight_parse_mp_unreach_nlri : (κs : _) (a : _) (z z' : _) (e e' : _) → parse_mp_unreach_nlri.Learnt κs a z e → parse_mp_unreach_nlri.Learnt κs a z' e' → (z ≡ z') × (e.1.1.0.now ≡ e'.1.1.0.now)
-tight_parse_mp_unreach_nlri κs a z z' e e' p q = (p.answer ∙ sym q.answer, p.store ∙ sym q.store)
+tight_parse_mp_unreach_nlri κs a z z' e e' p q = (p.0 ∙ sym q.0, p.1 ∙ sym q.1)
 
 pub tight_encode_mp_unreach_nlri : (κs : _) (a : _) (z z' : _) (e e' : _) → encode_mp_unreach_nlri.Learnt κs a z e → encode_mp_unreach_nlri.Learnt κs a z' e' → (z ≡ z') × (e.1.1.0.now ≡ e'.1.1.0.now)
-tight_encode_mp_unreach_nlri κs a z z' e e' p q = (p.answer ∙ sym q.answer, p.out ∙ sym q.out)
+tight_encode_mp_unreach_nlri κs a z z' e e' p q = (p.0 ∙ sym q.0, p.1 ∙ sym q.1)
 
 pub tight_count_as_path : (κs : _) (a : _) (z z' : _) (e e' : _) → count_as_path.Learnt κs a z e → count_as_path.Learnt κs a z' e' → z ≡ z'
 tight_count_as_path κs a z z' e e' p q = p ∙ sym q
 
 pub tight_parse_as_path : (κs : _) (a : _) (z z' : _) (e e' : _) → parse_as_path.Learnt κs a z e → parse_as_path.Learnt κs a z' e' → (z ≡ z') × (e.1.1.0.now ≡ e'.1.1.0.now) × (e.1.1.1.0.now ≡ e'.1.1.1.0.now)
-tight_parse_as_path κs a z z' e e' p q = (p.answer ∙ sym q.answer, p.pairs ∙ sym q.pairs, p.numbers ∙ sym q.numbers)
+tight_parse_as_path κs a z z' e e' p q = (p.0 ∙ sym q.0, p.1.0 ∙ sym q.1.0, p.1.1 ∙ sym q.1.1)
 
 pub tight_encode_as_path : (κs : _) (a : _) (z z' : _) (e e' : _) → encode_as_path.Learnt κs a z e → encode_as_path.Learnt κs a z' e' → (z ≡ z') × (e.1.1.1.0.now ≡ e'.1.1.1.0.now)
-tight_encode_as_path κs a z z' e e' p q = (p.answer ∙ sym q.answer, p.out ∙ sym q.out)
+tight_encode_as_path κs a z z' e e' p q = (p.0 ∙ sym q.0, p.1 ∙ sym q.1)
 
 pub tight_count_as_path_strict : (κs : _) (a : _) (z z' : _) (e e' : _) → count_as_path_strict.Learnt κs a z e → count_as_path_strict.Learnt κs a z' e' → z ≡ z'
 tight_count_as_path_strict κs a z z' e e' p q = p ∙ sym q
 
 pub tight_parse_as_path_strict : (κs : _) (a : _) (z z' : _) (e e' : _) → parse_as_path_strict.Learnt κs a z e → parse_as_path_strict.Learnt κs a z' e' → (z ≡ z') × (e.1.1.0.now ≡ e'.1.1.0.now) × (e.1.1.1.0.now ≡ e'.1.1.1.0.now)
-tight_parse_as_path_strict κs a z z' e e' p q = (p.answer ∙ sym q.answer, p.pairs ∙ sym q.pairs, p.numbers ∙ sym q.numbers)
+tight_parse_as_path_strict κs a z z' e e' p q = (p.0 ∙ sym q.0, p.1.0 ∙ sym q.1.0, p.1.1 ∙ sym q.1.1)
 
 pub tight_encode_as_path_strict : (κs : _) (a : _) (z z' : _) (e e' : _) → encode_as_path_strict.Learnt κs a z e → encode_as_path_strict.Learnt κs a z' e' → (z ≡ z') × (e.1.1.1.0.now ≡ e'.1.1.1.0.now)
-tight_encode_as_path_strict κs a z z' e e' p q = (p.answer ∙ sym q.answer, p.out ∙ sym q.out)
+tight_encode_as_path_strict κs a z z' e e' p q = (p.0 ∙ sym q.0, p.1 ∙ sym q.1)
 
 pub tight_parse_aggregator : (κs : _) (a : _) (z z' : _) (e e' : _) → parse_aggregator.Learnt κs a z e → parse_aggregator.Learnt κs a z' e' → (z ≡ z') × (e.1.1.0.now ≡ e'.1.1.0.now)
-tight_parse_aggregator κs a z z' e e' p q = (p.answer ∙ sym q.answer, p.words ∙ sym q.words)
+tight_parse_aggregator κs a z z' e e' p q = (p.0 ∙ sym q.0, p.1 ∙ sym q.1)
 
 pub tight_encode_aggregator : (κs : _) (a : _) (z z' : _) (e e' : _) → encode_aggregator.Learnt κs a z e → encode_aggregator.Learnt κs a z' e' → (z ≡ z') × (e.1.1.1.0.now ≡ e'.1.1.1.0.now)
-tight_encode_aggregator κs a z z' e e' p q = (p.answer ∙ sym q.answer, p.out ∙ sym q.out)
+tight_encode_aggregator κs a z z' e e' p q = (p.0 ∙ sym q.0, p.1 ∙ sym q.1)
 
 pub tight_standing_aggregator : (κs : _) (a : _) (z z' : _) (e e' : _) → standing_aggregator.Learnt κs a z e → standing_aggregator.Learnt κs a z' e' → z ≡ z'
 tight_standing_aggregator κs a z z' e e' p q = p ∙ sym q
@@ -149,7 +149,7 @@ pub tight_count_merged_as_path : (κs : _) (a : _) (z z' : _) (e e' : _) → cou
 tight_count_merged_as_path κs a z z' e e' p q = p ∙ sym q
 
 pub tight_merge_as_path : (κs : _) (a : _) (z z' : _) (e e' : _) → merge_as_path.Learnt κs a z e → merge_as_path.Learnt κs a z' e' → (z ≡ z') × (e.1.1.1.1.0.now ≡ e'.1.1.1.1.0.now) × (e.1.1.1.1.1.0.now ≡ e'.1.1.1.1.1.0.now)
-tight_merge_as_path κs a z z' e e' p q = (p.answer ∙ sym q.answer, p.pairs ∙ sym q.pairs, p.numbers ∙ sym q.numbers)
+tight_merge_as_path κs a z z' e e' p q = (p.0 ∙ sym q.0, p.1.0 ∙ sym q.1.0, p.1.1 ∙ sym q.1.1)
 
 pub tight_next_slot : (κs : _) (a : _) (z z' : _) (e e' : _) → next_slot.Learnt κs a z e → next_slot.Learnt κs a z' e' → z ≡ z'
 tight_next_slot κs a z z' e e' p q = p ∙ sym q
