@@ -104,7 +104,6 @@ returns-in-Lists c =
     let a = c.args in
     write_pair_fits length_size (length_size + length a.attributes.now) body_limit (length a.out.now) _ _ a.withdrawn.now a.announced.now (max_of Ipv4) a.form
     (sym c.encode_nlri_pair.ensures.answer ∙ c.in-Lists.is) in
-    let both =
     let a = c.args in
     let e = c.encode_nlri_pair.ensures in
     let f = fits in
@@ -112,20 +111,19 @@ returns-in-Lists c =
     let n : List ℕ = bytes_of a.announced.now (max_of Ipv4) a.form in
     let size = (measured_bytes a.withdrawn.now (max_of Ipv4) a.form _ f.first).1 in
     let last = (measured_bytes a.announced.now (max_of Ipv4) a.form _ f.second).1 in
-    let lists = e.1 ∙ ap (λ (x : ListsAnswer). write_pair_after (lists_meaning x) length_size (length_size + length a.attributes.now) w n a.out.now) c.in-Lists.is in (
-      ap (body_by (length a.attributes.now)) (sym c.in-Lists.is ∙ e.0) ∙ sym (body_by_lem a.withdrawn.now a.attributes.now a.announced.now a.form (length a.out.now)),
-      sections_put a.out.now _ _ _ _ w a.attributes.now n _ size (omega (arith, f.room, last)) lists c.put_u16.ensures c.put_u16-in-Lists.ensures c.copy_at.ensures,
-    ) in
-    record { answer = both.0; out = both.1 }
+    let lists = e.out ∙ ap (λ (x : ListsAnswer). write_pair_after (lists_meaning x) length_size (length_size + length a.attributes.now) w n a.out.now) c.in-Lists.is in
+    record {
+      answer = ap (body_by (length a.attributes.now)) (sym c.in-Lists.is ∙ e.answer) ∙ sym (body_by_lem a.withdrawn.now a.attributes.now a.announced.now a.form (length a.out.now));
+      out = sections_put a.out.now _ _ _ _ w a.attributes.now n _ size (omega (arith, f.room, last)) lists c.put_u16.ensures c.put_u16-in-Lists.ensures c.copy_at.ensures;
+    }
 
 pub returns-in-Refused : goal.returns-in-Refused
 returns-in-Refused c =
-    let both =
     let a = c.args in
     let e = c.encode_nlri_pair.ensures in
     let w : List ℕ = bytes_of a.withdrawn.now (max_of Ipv4) a.form in
-    let n : List ℕ = bytes_of a.announced.now (max_of Ipv4) a.form in (
-      ap (body_by (length a.attributes.now)) (sym c.in-Refused.is ∙ e.0) ∙ sym (body_by_lem a.withdrawn.now a.attributes.now a.announced.now a.form (length a.out.now)),
-      e.1 ∙ ap (λ (x : ListsAnswer). write_pair_after (lists_meaning x) length_size (length_size + length a.attributes.now) w n a.out.now) c.in-Refused.is,
-    ) in
-    record { answer = both.0; out = both.1 }
+    let n : List ℕ = bytes_of a.announced.now (max_of Ipv4) a.form in
+    record {
+      answer = ap (body_by (length a.attributes.now)) (sym c.in-Refused.is ∙ e.answer) ∙ sym (body_by_lem a.withdrawn.now a.attributes.now a.announced.now a.form (length a.out.now));
+      out = e.out ∙ ap (λ (x : ListsAnswer). write_pair_after (lists_meaning x) length_size (length_size + length a.attributes.now) w n a.out.now) c.in-Refused.is;
+    }
