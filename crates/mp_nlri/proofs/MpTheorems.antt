@@ -29,14 +29,13 @@ use Rattle.routes.specs.declared.ListAnswer.TheVariants as L
 use Rattle.routes.specs.declared.RoutesAnswer.{RoutesAnswer}
 use Rattle.routes.proofs.CuttingLaws.{cut_hosts}
 use Rattle.routes.proofs.ListLaws.{beside}
-use Rattle.route_bytes.specs.Encode.{writing}
 use Rattle.route_writer.proofs.RouteTheorems as Lists
 use Rattle.mp_nlri.specs.Value.{is_pair, is_hop_size, hop_start, hop_size, reserved_at, pair_fault, head_of}
 use Rattle.mp_nlri.specs.Read.{ipv6, reach_list, unreach_list, rows_of, with_head, if_head, count_reach, read_reach, no_routes, count_unreach, read_unreach}
 use Rattle.mp_nlri.specs.WellFormed.{HopSize, global, both, ReachFormed, RoutesFormed, ReachAccepted, UnreachAccepted}
 use Rattle.mp_nlri.specs.declared.HeadAnswer.{HeadAnswer}
 use Rattle.mp_nlri.specs.declared.HeadAnswer.TheVariants as H
-use Rattle.mp_nlri.specs.declared.ReachAnswer.TheVariants.{Reach, Refused}
+use Rattle.mp_nlri.specs.declared.ReachAnswer.TheVariants.{Reach}
 use Rattle.mp_nlri.proofs.ValueLaws.{Paired, Headed, pair_cases, pair_by, head_by, head_good, hop_cases}
 
 -- ---- the shape
