@@ -1,4 +1,4 @@
-use Prim.Native.Nat.{ℕ, ◌+◌, ◌-◌, ◌≤◌}
+use Prim.Native.Nat.{ℕ, ◌+◌, ◌≤◌}
 use mathlib.Core.Path.{◌≡◌, subst}
 use mathlib.Core.List.{List}
 use native.Mathlib.Omega.{arith}
@@ -16,12 +16,12 @@ pub loop-at-init : goal.loop-at-init
 loop-at-init c =
     let a = c.args in
     let p = c.requires in
-    (filled_start pair_of 4 a.as4-path.now a.pairs.now p.0 p.1.0, filled_start asns_of 4 a.as4-path.now a.numbers.now p.0 p.1.1)
+    (filled_start pair_of 4 a.as4_path.now a.pairs.now p.as4_path_value p.as4_path_in_bounds, filled_start asns_of 4 a.as4_path.now a.numbers.now p.as4_path_value p.as4_path_in_bounds_2)
 
 pub overflow_add-n : goal.overflow_add-n
 overflow_add-n c =
     let fits :
-    let s = c.args.as4-path.now in
+    let s = c.args.as4_path.now in
     let n = get_or s (c.loop-at.at + 1) 0 in
     (c.loop-at.at + (2 + span 4 n) ≤ length s)
     × (c.loop-at.pair + kept_count (get_or s c.loop-at.at 0) 2 ≤ length c.loop-at.pairs)
@@ -29,7 +29,7 @@ overflow_add-n c =
     × (length c.loop-at.pairs ≡ length c.args.pairs.now)
     × (length c.loop-at.numbers ≡ length c.args.numbers.now) =
     let a = c.args in
-    let s = a.as4-path.now in
+    let s = a.as4_path.now in
     let at = c.loop-at.at in
     let lt = c.loop-at-test.true in
     let p = filled_fits pair_of 4 s a.pairs.now at c.loop-at.pair c.loop-at.pairs c.loop-at.invariant.0 lt _ (pair_is 4 s at) in
@@ -40,7 +40,7 @@ overflow_add-n c =
 pub bounds-as4_path-at-in-loop-at : goal.bounds-as4_path-at-in-loop-at
 bounds-as4_path-at-in-loop-at c =
     let fits :
-    let s = c.args.as4-path.now in
+    let s = c.args.as4_path.now in
     let n = get_or s (c.loop-at.at + 1) 0 in
     (c.loop-at.at + (2 + span 4 n) ≤ length s)
     × (c.loop-at.pair + kept_count (get_or s c.loop-at.at 0) 2 ≤ length c.loop-at.pairs)
@@ -48,7 +48,7 @@ bounds-as4_path-at-in-loop-at c =
     × (length c.loop-at.pairs ≡ length c.args.pairs.now)
     × (length c.loop-at.numbers ≡ length c.args.numbers.now) =
     let a = c.args in
-    let s = a.as4-path.now in
+    let s = a.as4_path.now in
     let at = c.loop-at.at in
     let lt = c.loop-at-test.true in
     let p = filled_fits pair_of 4 s a.pairs.now at c.loop-at.pair c.loop-at.pairs c.loop-at.invariant.0 lt _ (pair_is 4 s at) in
@@ -59,7 +59,7 @@ bounds-as4_path-at-in-loop-at c =
 pub put_kept-requires : goal.put_kept-requires
 put_kept-requires c =
     let fits :
-    let s = c.args.as4-path.now in
+    let s = c.args.as4_path.now in
     let n = get_or s (c.loop-at.at + 1) 0 in
     (c.loop-at.at + (2 + span 4 n) ≤ length s)
     × (c.loop-at.pair + kept_count (get_or s c.loop-at.at 0) 2 ≤ length c.loop-at.pairs)
@@ -67,14 +67,13 @@ put_kept-requires c =
     × (length c.loop-at.pairs ≡ length c.args.pairs.now)
     × (length c.loop-at.numbers ≡ length c.args.numbers.now) =
     let a = c.args in
-    let s = a.as4-path.now in
+    let s = a.as4_path.now in
     let at = c.loop-at.at in
     let lt = c.loop-at-test.true in
     let p = filled_fits pair_of 4 s a.pairs.now at c.loop-at.pair c.loop-at.pairs c.loop-at.invariant.0 lt _ (pair_is 4 s at) in
     let n = filled_fits asns_of 4 s a.numbers.now at c.loop-at.to c.loop-at.numbers c.loop-at.invariant.1 lt _ (asns_is 4 s at) in
     (p.0, p.1, rw (length_numbers 4 (get_or s (at + 1) 0) (drop (at + 2) s)) at n.1, c.loop-at.invariant.0.long, c.loop-at.invariant.1.long) in
-    let both = let f = fits in (f.0, (f.1, f.2)) in
-    record { n_in_bounds = both.0; at_in_bounds = both.1; n_in_bounds_2 = both.2 }
+    record { n_in_bounds = fits.0; at_in_bounds = fits.1; n_in_bounds_2 = fits.2 }
 
 pub overflow_cast-n : goal.overflow_cast-n
 overflow_cast-n c = omega (arith, c.type_inv.as4_path (c.loop-at.at + 1))
@@ -82,7 +81,7 @@ overflow_cast-n c = omega (arith, c.type_inv.as4_path (c.loop-at.at + 1))
 pub overflow_add-at : goal.overflow_add-at
 overflow_add-at c =
     let fits :
-    let s = c.args.as4-path.now in
+    let s = c.args.as4_path.now in
     let n = get_or s (c.loop-at.at + 1) 0 in
     (c.loop-at.at + (2 + span 4 n) ≤ length s)
     × (c.loop-at.pair + kept_count (get_or s c.loop-at.at 0) 2 ≤ length c.loop-at.pairs)
@@ -90,7 +89,7 @@ overflow_add-at c =
     × (length c.loop-at.pairs ≡ length c.args.pairs.now)
     × (length c.loop-at.numbers ≡ length c.args.numbers.now) =
     let a = c.args in
-    let s = a.as4-path.now in
+    let s = a.as4_path.now in
     let at = c.loop-at.at in
     let lt = c.loop-at-test.true in
     let p = filled_fits pair_of 4 s a.pairs.now at c.loop-at.pair c.loop-at.pairs c.loop-at.invariant.0 lt _ (pair_is 4 s at) in
@@ -101,7 +100,7 @@ overflow_add-at c =
 pub overflow_add-at-in-loop-at : goal.overflow_add-at-in-loop-at
 overflow_add-at-in-loop-at c =
     let fits :
-    let s = c.args.as4-path.now in
+    let s = c.args.as4_path.now in
     let n = get_or s (c.loop-at.at + 1) 0 in
     (c.loop-at.at + (2 + span 4 n) ≤ length s)
     × (c.loop-at.pair + kept_count (get_or s c.loop-at.at 0) 2 ≤ length c.loop-at.pairs)
@@ -109,7 +108,7 @@ overflow_add-at-in-loop-at c =
     × (length c.loop-at.pairs ≡ length c.args.pairs.now)
     × (length c.loop-at.numbers ≡ length c.args.numbers.now) =
     let a = c.args in
-    let s = a.as4-path.now in
+    let s = a.as4_path.now in
     let at = c.loop-at.at in
     let lt = c.loop-at-test.true in
     let p = filled_fits pair_of 4 s a.pairs.now at c.loop-at.pair c.loop-at.pairs c.loop-at.invariant.0 lt _ (pair_is 4 s at) in
@@ -120,7 +119,7 @@ overflow_add-at-in-loop-at c =
 pub overflow_add-pair : goal.overflow_add-pair
 overflow_add-pair c =
     let fits :
-    let s = c.args.as4-path.now in
+    let s = c.args.as4_path.now in
     let n = get_or s (c.loop-at.at + 1) 0 in
     (c.loop-at.at + (2 + span 4 n) ≤ length s)
     × (c.loop-at.pair + kept_count (get_or s c.loop-at.at 0) 2 ≤ length c.loop-at.pairs)
@@ -128,7 +127,7 @@ overflow_add-pair c =
     × (length c.loop-at.pairs ≡ length c.args.pairs.now)
     × (length c.loop-at.numbers ≡ length c.args.numbers.now) =
     let a = c.args in
-    let s = a.as4-path.now in
+    let s = a.as4_path.now in
     let at = c.loop-at.at in
     let lt = c.loop-at-test.true in
     let p = filled_fits pair_of 4 s a.pairs.now at c.loop-at.pair c.loop-at.pairs c.loop-at.invariant.0 lt _ (pair_is 4 s at) in
@@ -142,7 +141,7 @@ overflow_cast-n-in-loop-at c = omega (arith, c.type_inv.as4_path (c.loop-at.at +
 pub overflow_add-to : goal.overflow_add-to
 overflow_add-to c =
     let fits :
-    let s = c.args.as4-path.now in
+    let s = c.args.as4_path.now in
     let n = get_or s (c.loop-at.at + 1) 0 in
     (c.loop-at.at + (2 + span 4 n) ≤ length s)
     × (c.loop-at.pair + kept_count (get_or s c.loop-at.at 0) 2 ≤ length c.loop-at.pairs)
@@ -150,7 +149,7 @@ overflow_add-to c =
     × (length c.loop-at.pairs ≡ length c.args.pairs.now)
     × (length c.loop-at.numbers ≡ length c.args.numbers.now) =
     let a = c.args in
-    let s = a.as4-path.now in
+    let s = a.as4_path.now in
     let at = c.loop-at.at in
     let lt = c.loop-at-test.true in
     let p = filled_fits pair_of 4 s a.pairs.now at c.loop-at.pair c.loop-at.pairs c.loop-at.invariant.0 lt _ (pair_is 4 s at) in
@@ -161,7 +160,7 @@ overflow_add-to c =
 pub loop-at-smaller : goal.loop-at-smaller
 loop-at-smaller c =
     let fits :
-    let s = c.args.as4-path.now in
+    let s = c.args.as4_path.now in
     let n = get_or s (c.loop-at.at + 1) 0 in
     (c.loop-at.at + (2 + span 4 n) ≤ length s)
     × (c.loop-at.pair + kept_count (get_or s c.loop-at.at 0) 2 ≤ length c.loop-at.pairs)
@@ -169,7 +168,7 @@ loop-at-smaller c =
     × (length c.loop-at.pairs ≡ length c.args.pairs.now)
     × (length c.loop-at.numbers ≡ length c.args.numbers.now) =
     let a = c.args in
-    let s = a.as4-path.now in
+    let s = a.as4_path.now in
     let at = c.loop-at.at in
     let lt = c.loop-at-test.true in
     let p = filled_fits pair_of 4 s a.pairs.now at c.loop-at.pair c.loop-at.pairs c.loop-at.invariant.0 lt _ (pair_is 4 s at) in
@@ -180,16 +179,15 @@ loop-at-smaller c =
 pub loop-at-preserved : goal.loop-at-preserved
 loop-at-preserved c =
     let a = c.args in
-    let s = a.as4-path.now in
+    let s = a.as4_path.now in
     let at = c.loop-at.at in
     let n = get_or s (at + 1) 0 in
     let lt = c.loop-at-test.true in
-    let left = c.put_kept.ensures in
     let size : ℕ = 2 + span 4 n in
     let numbers : List ℕ = numbers_of 4 n (drop (at + 2) s) in
     let p = filled_next pair_of 4 s a.pairs.now at c.loop-at.pair c.loop-at.pairs c.loop-at.invariant.0 lt _ (pair_is 4 s at) in
     let q = filled_next asns_of 4 s a.numbers.now at c.loop-at.to c.loop-at.numbers c.loop-at.invariant.1 lt _ (asns_is 4 s at) in
-    rw (c.numbers_size.ensures, c.kept_count-pair.ensures, c.kept_count-to.ensures, left.0, left.1)
+    rw (c.numbers_size.ensures, c.kept_count-pair.ensures, c.kept_count-to.ensures, c.put_kept.ensures.pairs, c.put_kept.ensures.numbers)
     (p, subst (λ (k : ℕ). FilledTo asns_of 4 s a.numbers.now (at + size) (c.loop-at.to + kept_count (get_or s at 0) k) (laid c.loop-at.numbers c.loop-at.to (kept_of (get_or s at 0) numbers))) (length_numbers 4 n (drop (at + 2) s)) q)
 
 pub shape_of-pairs : goal.shape_of-pairs
@@ -200,9 +198,7 @@ shape_of-numbers c = c.loop-at.invariant.1.long
 
 pub returns : goal.returns
 returns c =
-    let both =
-    let a = c.args in (
-      filled_done pair_of 4 a.as4-path.now a.pairs.now c.loop-at.at c.loop-at.pair c.loop-at.pairs c.loop-at.invariant.0 c.loop-at-test.false,
-      filled_done asns_of 4 a.as4-path.now a.numbers.now c.loop-at.at c.loop-at.to c.loop-at.numbers c.loop-at.invariant.1 c.loop-at-test.false,
-    ) in
-    record { pairs = both.0; numbers = both.1 }
+    let a = c.args in record {
+      pairs = filled_done pair_of 4 a.as4_path.now a.pairs.now c.loop-at.at c.loop-at.pair c.loop-at.pairs c.loop-at.invariant.0 c.loop-at-test.false;
+      numbers = filled_done asns_of 4 a.as4_path.now a.numbers.now c.loop-at.at c.loop-at.to c.loop-at.numbers c.loop-at.invariant.1 c.loop-at-test.false;
+    }

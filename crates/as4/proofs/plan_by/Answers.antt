@@ -12,77 +12,77 @@ use Rattle.as4.proofs.plan_by.Goals as goal
 
 pub returns-then-stands_alone : goal.returns-then-stands_alone
 returns-then-stands_alone c =
-    let told : let w = c.new-1.given.0 in plan.Weighs c.args.as4-path.now w.0 w.1.0 w.1.1.0 = plan.weighs c.args.as4-path.now _ _ _ _ c.weigh.ensures c.in-Weight.is in
-    let a = c.args in plan.weighs_alone a.ignores a.as-path.now a.as4-path.now a.old _ _ _ c.requires.as_path_value c.requires.as_path_value_2 told (sym c.stands_alone.ensures ∙ c.if-stands_alone.true)
+    let told : let w = c.in-Weight in plan.Weighs c.args.as4_path.now w.new w.segments w.numbers = plan.weighs c.args.as4_path.now _ _ _ _ c.weigh.ensures c.in-Weight.is in
+    let a = c.args in plan.weighs_alone a.ignores a.as_path.now a.as4_path.now a.old _ _ _ c.requires.as_path_value c.requires.as_path_value_2 told (sym c.stands_alone.ensures ∙ c.if-stands_alone.true)
 
 pub overflow_sub-old : goal.overflow_sub-old
 overflow_sub-old c =
-    let told : let w = c.new-1.given.0 in plan.Weighs c.args.as4-path.now w.0 w.1.0 w.1.1.0 = plan.weighs c.args.as4-path.now _ _ _ _ c.weigh.ensures c.in-Weight.is in
-    let together : let a = c.args in let w = c.new-1.given.0 in alone a.ignores w.1.0 a.old w.0 ≡ false = sym c.stands_alone.ensures ∙ c.if-stands_alone.false in
-    let a = c.args in omega (arith, plan.weighs_less a.ignores a.as-path.now a.as4-path.now a.old _ _ _ c.requires.as_path_value c.requires.as_path_value_2 told together)
+    let told : let w = c.in-Weight in plan.Weighs c.args.as4_path.now w.new w.segments w.numbers = plan.weighs c.args.as4_path.now _ _ _ _ c.weigh.ensures c.in-Weight.is in
+    let together : let a = c.args in let w = c.in-Weight in alone a.ignores w.segments a.old w.new ≡ false = sym c.stands_alone.ensures ∙ c.if-stands_alone.false in
+    let a = c.args in omega (arith, plan.weighs_less a.ignores a.as_path.now a.as4_path.now a.old _ _ _ c.requires.as_path_value c.requires.as_path_value_2 told together)
 
 pub leading_part-front-requires : goal.leading_part-front-requires
 leading_part-front-requires c =
-    let f = no_fault c.args.as-path.now (old_path c.args.as-path.now) c.requires.as_path_value in record {
+    let f = no_fault c.args.as_path.now (old_path c.args.as_path.now) c.requires.as_path_value in record {
       as_path_value = f.1;
       as_path_len_bound = f.0;
     }
 
 pub overflow_add-result : goal.overflow_add-result
 overflow_add-result c =
-    let told : let w = c.new-1.given.0 in plan.Weighs c.args.as4-path.now w.0 w.1.0 w.1.1.0 = plan.weighs c.args.as4-path.now _ _ _ _ c.weigh.ensures c.in-Weight.is in
-    let together : let a = c.args in let w = c.new-1.given.0 in alone a.ignores w.1.0 a.old w.0 ≡ false = sym c.stands_alone.ensures ∙ c.if-stands_alone.false in
+    let told : let w = c.in-Weight in plan.Weighs c.args.as4_path.now w.new w.segments w.numbers = plan.weighs c.args.as4_path.now _ _ _ _ c.weigh.ensures c.in-Weight.is in
+    let together : let a = c.args in let w = c.in-Weight in alone a.ignores w.segments a.old w.new ≡ false = sym c.stands_alone.ensures ∙ c.if-stands_alone.false in
     let small : let r = c.leading_part-front.result in
-    let w = c.new-1.given.0 in
-    (r.segments ≤ list_limit) × (r.numbers ≤ list_limit) × (r.split < 256) × (w.1.0 ≤ list_limit) × (w.1.1.0 ≤ list_limit) =
+    let w = c.in-Weight in
+    (r.segments ≤ list_limit) × (r.numbers ≤ list_limit) × (r.split < 256) × (w.segments ≤ list_limit) × (w.numbers ≤ list_limit) =
     let a = c.args in
-    plan.weighs_few a.ignores a.as-path.now a.as4-path.now a.old _ _ _ c.requires.as_path_value c.requires.as_path_value_2 told together _ c.leading_part-front.ensures in
+    plan.weighs_few a.ignores a.as_path.now a.as4_path.now a.old _ _ _ c.requires.as_path_value c.requires.as_path_value_2 told together _ c.leading_part-front.ensures in
     omega (arith, small, c.split_count.ensures, one_most c.leading_part-front.result.split)
 
 pub overflow_add-result-in-Weight : goal.overflow_add-result-in-Weight
 overflow_add-result-in-Weight c =
-    let told : let w = c.new-1.given.0 in plan.Weighs c.args.as4-path.now w.0 w.1.0 w.1.1.0 = plan.weighs c.args.as4-path.now _ _ _ _ c.weigh.ensures c.in-Weight.is in
-    let together : let a = c.args in let w = c.new-1.given.0 in alone a.ignores w.1.0 a.old w.0 ≡ false = sym c.stands_alone.ensures ∙ c.if-stands_alone.false in
+    let told : let w = c.in-Weight in plan.Weighs c.args.as4_path.now w.new w.segments w.numbers = plan.weighs c.args.as4_path.now _ _ _ _ c.weigh.ensures c.in-Weight.is in
+    let together : let a = c.args in let w = c.in-Weight in alone a.ignores w.segments a.old w.new ≡ false = sym c.stands_alone.ensures ∙ c.if-stands_alone.false in
     let small : let r = c.leading_part-front.result in
-    let w = c.new-1.given.0 in
-    (r.segments ≤ list_limit) × (r.numbers ≤ list_limit) × (r.split < 256) × (w.1.0 ≤ list_limit) × (w.1.1.0 ≤ list_limit) =
+    let w = c.in-Weight in
+    (r.segments ≤ list_limit) × (r.numbers ≤ list_limit) × (r.split < 256) × (w.segments ≤ list_limit) × (w.numbers ≤ list_limit) =
     let a = c.args in
-    plan.weighs_few a.ignores a.as-path.now a.as4-path.now a.old _ _ _ c.requires.as_path_value c.requires.as_path_value_2 told together _ c.leading_part-front.ensures in
+    plan.weighs_few a.ignores a.as_path.now a.as4_path.now a.old _ _ _ c.requires.as_path_value c.requires.as_path_value_2 told together _ c.leading_part-front.ensures in
     omega (arith, small, c.split_count.ensures, one_most c.leading_part-front.result.split)
 
 pub overflow_add-result-in-Weight-2 : goal.overflow_add-result-in-Weight-2
 overflow_add-result-in-Weight-2 c =
-    let told : let w = c.new-1.given.0 in plan.Weighs c.args.as4-path.now w.0 w.1.0 w.1.1.0 = plan.weighs c.args.as4-path.now _ _ _ _ c.weigh.ensures c.in-Weight.is in
-    let together : let a = c.args in let w = c.new-1.given.0 in alone a.ignores w.1.0 a.old w.0 ≡ false = sym c.stands_alone.ensures ∙ c.if-stands_alone.false in
+    let told : let w = c.in-Weight in plan.Weighs c.args.as4_path.now w.new w.segments w.numbers = plan.weighs c.args.as4_path.now _ _ _ _ c.weigh.ensures c.in-Weight.is in
+    let together : let a = c.args in let w = c.in-Weight in alone a.ignores w.segments a.old w.new ≡ false = sym c.stands_alone.ensures ∙ c.if-stands_alone.false in
     let small : let r = c.leading_part-front.result in
-    let w = c.new-1.given.0 in
-    (r.segments ≤ list_limit) × (r.numbers ≤ list_limit) × (r.split < 256) × (w.1.0 ≤ list_limit) × (w.1.1.0 ≤ list_limit) =
+    let w = c.in-Weight in
+    (r.segments ≤ list_limit) × (r.numbers ≤ list_limit) × (r.split < 256) × (w.segments ≤ list_limit) × (w.numbers ≤ list_limit) =
     let a = c.args in
-    plan.weighs_few a.ignores a.as-path.now a.as4-path.now a.old _ _ _ c.requires.as_path_value c.requires.as_path_value_2 told together _ c.leading_part-front.ensures in
+    plan.weighs_few a.ignores a.as_path.now a.as4_path.now a.old _ _ _ c.requires.as_path_value c.requires.as_path_value_2 told together _ c.leading_part-front.ensures in
     omega (arith, small)
 
 pub overflow_add-result-in-Weight-3 : goal.overflow_add-result-in-Weight-3
 overflow_add-result-in-Weight-3 c =
-    let told : let w = c.new-1.given.0 in plan.Weighs c.args.as4-path.now w.0 w.1.0 w.1.1.0 = plan.weighs c.args.as4-path.now _ _ _ _ c.weigh.ensures c.in-Weight.is in
-    let together : let a = c.args in let w = c.new-1.given.0 in alone a.ignores w.1.0 a.old w.0 ≡ false = sym c.stands_alone.ensures ∙ c.if-stands_alone.false in
+    let told : let w = c.in-Weight in plan.Weighs c.args.as4_path.now w.new w.segments w.numbers = plan.weighs c.args.as4_path.now _ _ _ _ c.weigh.ensures c.in-Weight.is in
+    let together : let a = c.args in let w = c.in-Weight in alone a.ignores w.segments a.old w.new ≡ false = sym c.stands_alone.ensures ∙ c.if-stands_alone.false in
     let small : let r = c.leading_part-front.result in
-    let w = c.new-1.given.0 in
-    (r.segments ≤ list_limit) × (r.numbers ≤ list_limit) × (r.split < 256) × (w.1.0 ≤ list_limit) × (w.1.1.0 ≤ list_limit) =
+    let w = c.in-Weight in
+    (r.segments ≤ list_limit) × (r.numbers ≤ list_limit) × (r.split < 256) × (w.segments ≤ list_limit) × (w.numbers ≤ list_limit) =
     let a = c.args in
-    plan.weighs_few a.ignores a.as-path.now a.as4-path.now a.old _ _ _ c.requires.as_path_value c.requires.as_path_value_2 told together _ c.leading_part-front.ensures in
+    plan.weighs_few a.ignores a.as_path.now a.as4_path.now a.old _ _ _ c.requires.as_path_value c.requires.as_path_value_2 told together _ c.leading_part-front.ensures in
     omega (arith, small)
 
 pub returns-else-stands_alone : goal.returns-else-stands_alone
 returns-else-stands_alone c =
-    let told : let w = c.new-1.given.0 in plan.Weighs c.args.as4-path.now w.0 w.1.0 w.1.1.0 = plan.weighs c.args.as4-path.now _ _ _ _ c.weigh.ensures c.in-Weight.is in
-    let together : let a = c.args in let w = c.new-1.given.0 in alone a.ignores w.1.0 a.old w.0 ≡ false = sym c.stands_alone.ensures ∙ c.if-stands_alone.false in
+    let told : let w = c.in-Weight in plan.Weighs c.args.as4_path.now w.new w.segments w.numbers = plan.weighs c.args.as4_path.now _ _ _ _ c.weigh.ensures c.in-Weight.is in
+    let together : let a = c.args in let w = c.in-Weight in alone a.ignores w.segments a.old w.new ≡ false = sym c.stands_alone.ensures ∙ c.if-stands_alone.false in
     let a = c.args in
-    let m = plan.weighs_made a.ignores a.as-path.now a.as4-path.now a.old _ _ _ c.requires.as_path_value c.requires.as_path_value_2 told together c.leading_part-front.result c.leading_part-front.ensures _ c.split_count.ensures in
+    let m = plan.weighs_made a.ignores a.as_path.now a.as4_path.now a.old _ _ _ c.requires.as_path_value c.requires.as_path_value_2 told together c.leading_part-front.result c.leading_part-front.ensures _ c.split_count.ensures in
     m
 
 pub returns-in-Refused : goal.returns-in-Refused
 returns-in-Refused c =
     let a = c.args in
-    let four = a.as4-path.now in
+    let four = a.as4_path.now in
     let f = refused_says four (new_path four) _ (sym c.weigh.ensures ∙ c.in-Refused.is) in
-    (plan.both_verdict a.ignores a.as-path.now four c.requires.as_path_value ∙ f.0, f.1)
+    (plan.both_verdict a.ignores a.as_path.now four c.requires.as_path_value ∙ f.0, f.1)

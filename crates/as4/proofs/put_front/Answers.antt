@@ -13,9 +13,6 @@ returns-then-front-eq0 c =
 
 pub returns : goal.returns
 returns c =
-    let both =
     let a = c.args in
-    let left = c.parse_as_path.ensures in
-    let read = front.front_read a.front.now a.pairs.now a.numbers.now c.requires.front_len_bound c.requires.front_value.0 c.requires.front_value.1.0 c.requires.front_value.1.1 in
-    (left.1.0 ∙ read.0, left.1.1 ∙ read.1) in
-    record { pairs = both.0; numbers = both.1 }
+    let read = front.front_read a.front.now a.pairs.now a.numbers.now c.requires.front_len_bound c.requires.front_value c.requires.front_in_bounds c.requires.front_in_bounds_2 in
+    record { pairs = c.parse_as_path.ensures.pairs ∙ read.0; numbers = c.parse_as_path.ensures.numbers ∙ read.1 }

@@ -7,15 +7,14 @@ use Rattle.as4.proofs.PutLaws.{put_two, put_asns}
 use Rattle.as4.proofs.put_segment.Goals as goal
 
 pub bounds-pairs-pair-2 : goal.bounds-pairs-pair-2
-bounds-pairs-pair-2 c = simp length-set (omega (arith, c.requires.pair_in_bounds.0))
+bounds-pairs-pair-2 c = simp length-set (omega (arith, c.requires.pair_in_bounds))
 
 pub returns : goal.returns
 returns c =
-    let both =
     let a = c.args in
-    let size = c.numbers_size in (
-      put_two a.pairs.now a.pair _ _ (get_or a.value.now a.at 0) a.n c.wide.ensures c.wide-2.ensures c.requires.pair_in_bounds.0,
-      put_asns (width_of a.width) a.value.now (a.at + 2) (a.at + 2 + size.result) a.n (omega (arith, size.ensures)) (omega (arith, size.ensures, c.requires.n_in_bounds)) a.numbers.now _ a.to (a.to + a.n) refl
-          c.requires.pair_in_bounds.1 c.read_asns.ensures,
-    ) in
-    record { pairs = both.0; numbers = both.1 }
+    let size = c.numbers_size in record {
+      pairs = put_two a.pairs.now a.pair _ _ (get_or a.value.now a.at 0) a.n c.wide.ensures c.wide-2.ensures c.requires.pair_in_bounds;
+      numbers =
+          put_asns (width_of a.width) a.value.now (a.at + 2) (a.at + 2 + size.result) a.n (omega (arith, size.ensures)) (omega (arith, size.ensures, c.requires.n_in_bounds)) a.numbers.now _ a.to (a.to + a.n) refl
+          c.requires.n_in_bounds_2 c.read_asns.ensures;
+    }

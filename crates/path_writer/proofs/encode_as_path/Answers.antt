@@ -1,4 +1,4 @@
-use borrow.Author.Tests.{not-true, not-false}
+
 use native.Mathlib.Omega.{arith}
 use Prim.Native.Nat.{ℕ, ◌+◌}
 use mathlib.Core.Path.{◌≡◌, sym, ap, ◌∙◌}
@@ -18,24 +18,24 @@ use Rattle.path_writer.proofs.encode_as_path.Goals as goal
 
 pub returns-then-not-adds_up : goal.returns-then-not-adds_up
 returns-then-not-adds_up c =
-    let both = let a = c.args in leave (rule_of a.rule) (width_of a.width) a.pairs.now a.numbers.now a.out.now _ (not_whole (rule_of a.rule) (width_of a.width) a.pairs.now a.numbers.now (length a.out.now) (sym c.adds_up.ensures ∙ not-true _ c.if-not-adds_up.true)) in
+    let both = let a = c.args in leave (rule_of a.rule) (width_of a.width) a.pairs.now a.numbers.now a.out.now _ (not_whole (rule_of a.rule) (width_of a.width) a.pairs.now a.numbers.now (length a.out.now) (sym c.adds_up.ensures ∙ c.if-not-adds_up.true)) in
     record { answer = both.0; out = both.1 }
 
 pub path_fault-fault-requires : goal.path_fault-fault-requires
 path_fault-fault-requires c =
-    let whole : let a = c.args in adds_up a.pairs.now (length a.numbers.now) ≡ true = sym c.adds_up.ensures ∙ not-false _ c.if-not-adds_up.false in
+    let whole : let a = c.args in adds_up a.pairs.now (length a.numbers.now) ≡ true = sym c.adds_up.ensures ∙ c.if-not-adds_up.false in
     whole
 
 pub returns-then-fault-ne0 : goal.returns-then-fault-ne0
 returns-then-fault-ne0 c =
-    let whole : let a = c.args in adds_up a.pairs.now (length a.numbers.now) ≡ true = sym c.adds_up.ensures ∙ not-false _ c.if-not-adds_up.false in
+    let whole : let a = c.args in adds_up a.pairs.now (length a.numbers.now) ≡ true = sym c.adds_up.ensures ∙ c.if-not-adds_up.false in
     let both = let a = c.args in
     leave (rule_of a.rule) (width_of a.width) a.pairs.now a.numbers.now a.out.now _ (bad_segment (rule_of a.rule) (width_of a.width) a.pairs.now a.numbers.now (length a.out.now) whole _ c.path_fault-fault.ensures (omega (arith, c.if-fault-ne0.true))) in
     record { answer = both.0; out = both.1 }
 
 pub returns-then-pairs-gt-LIST_LIMIT : goal.returns-then-pairs-gt-LIST_LIMIT
 returns-then-pairs-gt-LIST_LIMIT c =
-    let whole : let a = c.args in adds_up a.pairs.now (length a.numbers.now) ≡ true = sym c.adds_up.ensures ∙ not-false _ c.if-not-adds_up.false in
+    let whole : let a = c.args in adds_up a.pairs.now (length a.numbers.now) ≡ true = sym c.adds_up.ensures ∙ c.if-not-adds_up.false in
     let good : let a = c.args in 0 ≡ (lent_path (rule_of a.rule) (width_of a.width) a.pairs.now a.numbers.now).verdict = sym c.if-fault-ne0.false ∙ c.path_fault-fault.ensures in
     let both = let a = c.args in
     leave (rule_of a.rule) (width_of a.width) a.pairs.now a.numbers.now a.out.now _ (too_long_lem (rule_of a.rule) (width_of a.width) a.pairs.now a.numbers.now (length a.out.now) whole good (omega (arith, c.if-pairs-gt-LIST_LIMIT.true))) in
@@ -43,7 +43,7 @@ returns-then-pairs-gt-LIST_LIMIT c =
 
 pub returns-then-numbers-gt-LIST_LIMIT : goal.returns-then-numbers-gt-LIST_LIMIT
 returns-then-numbers-gt-LIST_LIMIT c =
-    let whole : let a = c.args in adds_up a.pairs.now (length a.numbers.now) ≡ true = sym c.adds_up.ensures ∙ not-false _ c.if-not-adds_up.false in
+    let whole : let a = c.args in adds_up a.pairs.now (length a.numbers.now) ≡ true = sym c.adds_up.ensures ∙ c.if-not-adds_up.false in
     let good : let a = c.args in 0 ≡ (lent_path (rule_of a.rule) (width_of a.width) a.pairs.now a.numbers.now).verdict = sym c.if-fault-ne0.false ∙ c.path_fault-fault.ensures in
     let both = let a = c.args in
     leave (rule_of a.rule) (width_of a.width) a.pairs.now a.numbers.now a.out.now _
@@ -55,7 +55,7 @@ overflow_add-size c = let a = c.args in omega (arith, c.numbers_size.ensures, sp
 
 pub returns-then-size-gt-LIST_LIMIT : goal.returns-then-size-gt-LIST_LIMIT
 returns-then-size-gt-LIST_LIMIT c =
-    let whole : let a = c.args in adds_up a.pairs.now (length a.numbers.now) ≡ true = sym c.adds_up.ensures ∙ not-false _ c.if-not-adds_up.false in
+    let whole : let a = c.args in adds_up a.pairs.now (length a.numbers.now) ≡ true = sym c.adds_up.ensures ∙ c.if-not-adds_up.false in
     let good : let a = c.args in 0 ≡ (lent_path (rule_of a.rule) (width_of a.width) a.pairs.now a.numbers.now).verdict = sym c.if-fault-ne0.false ∙ c.path_fault-fault.ensures in
     let both = let a = c.args in
     leave (rule_of a.rule) (width_of a.width) a.pairs.now a.numbers.now a.out.now _ (too_long_lem (rule_of a.rule) (width_of a.width) a.pairs.now a.numbers.now (length a.out.now) whole good (omega (arith, c.if-size-gt-LIST_LIMIT.true, c.numbers_size.ensures))) in
@@ -63,7 +63,7 @@ returns-then-size-gt-LIST_LIMIT c =
 
 pub returns-then-out-size : goal.returns-then-out-size
 returns-then-out-size c =
-    let whole : let a = c.args in adds_up a.pairs.now (length a.numbers.now) ≡ true = sym c.adds_up.ensures ∙ not-false _ c.if-not-adds_up.false in
+    let whole : let a = c.args in adds_up a.pairs.now (length a.numbers.now) ≡ true = sym c.adds_up.ensures ∙ c.if-not-adds_up.false in
     let good : let a = c.args in 0 ≡ (lent_path (rule_of a.rule) (width_of a.width) a.pairs.now a.numbers.now).verdict = sym c.if-fault-ne0.false ∙ c.path_fault-fault.ensures in
     let both = let a = c.args in
     leave (rule_of a.rule) (width_of a.width) a.pairs.now a.numbers.now a.out.now _
@@ -73,7 +73,7 @@ returns-then-out-size c =
 pub write_segments-requires : goal.write_segments-requires
 unfolding lent_bytes
 write_segments-requires c =
-    let whole : let a = c.args in adds_up a.pairs.now (length a.numbers.now) ≡ true = sym c.adds_up.ensures ∙ not-false _ c.if-not-adds_up.false in
+    let whole : let a = c.args in adds_up a.pairs.now (length a.numbers.now) ≡ true = sym c.adds_up.ensures ∙ c.if-not-adds_up.false in
     let good : let a = c.args in 0 ≡ (lent_path (rule_of a.rule) (width_of a.width) a.pairs.now a.numbers.now).verdict = sym c.if-fault-ne0.false ∙ c.path_fault-fault.ensures in
     let alike : let a = c.args in
     lent_path known_type (width_of a.width) a.pairs.now a.numbers.now ≡ lent_path (rule_of a.rule) (width_of a.width) a.pairs.now a.numbers.now = let a = c.args in
@@ -89,7 +89,7 @@ write_segments-requires c =
 pub returns : goal.returns
 unfolding lent_bytes
 returns c =
-    let whole : let a = c.args in adds_up a.pairs.now (length a.numbers.now) ≡ true = sym c.adds_up.ensures ∙ not-false _ c.if-not-adds_up.false in
+    let whole : let a = c.args in adds_up a.pairs.now (length a.numbers.now) ≡ true = sym c.adds_up.ensures ∙ c.if-not-adds_up.false in
     let good : let a = c.args in 0 ≡ (lent_path (rule_of a.rule) (width_of a.width) a.pairs.now a.numbers.now).verdict = sym c.if-fault-ne0.false ∙ c.path_fault-fault.ensures in
     let alike : let a = c.args in
     lent_path known_type (width_of a.width) a.pairs.now a.numbers.now ≡ lent_path (rule_of a.rule) (width_of a.width) a.pairs.now a.numbers.now = let a = c.args in

@@ -1,4 +1,4 @@
-use borrow.Author.Tests.{not-true, not-false}
+
 use native.Mathlib.Omega.{arith}
 use mathlib.Core.Path.{sym, ◌∙◌}
 use Rattle.asns.specs.Asn.{width_of}
@@ -20,9 +20,9 @@ returns-then-fit c =
 pub returns-then-not-all_fit : goal.returns-then-not-all_fit
 returns-then-not-all_fit c =
     let a = c.args in
-    fault_wide (rule_of a.rule) (width_of a.width) a.kind a.count _ (sym c.if-fault-ne0.false ∙ c.rule_fault-fault.ensures) c.if-count-gt-MOST_NUMBERS.false (sym c.all_fit.ensures ∙ not-true _ c.if-not-all_fit.true)
+    fault_wide (rule_of a.rule) (width_of a.width) a.kind a.count _ (sym c.if-fault-ne0.false ∙ c.rule_fault-fault.ensures) c.if-count-gt-MOST_NUMBERS.false (sym c.all_fit.ensures ∙ c.if-not-all_fit.true)
 
 pub returns : goal.returns
 returns c =
     let a = c.args in
-    sym (none_fault (rule_of a.rule) (width_of a.width) a.kind a.count _ (sym (sym c.if-fault-ne0.false ∙ c.rule_fault-fault.ensures)) c.if-count-gt-MOST_NUMBERS.false (sym c.all_fit.ensures ∙ not-false _ c.if-not-all_fit.false))
+    sym (none_fault (rule_of a.rule) (width_of a.width) a.kind a.count _ (sym (sym c.if-fault-ne0.false ∙ c.rule_fault-fault.ensures)) c.if-count-gt-MOST_NUMBERS.false (sym c.all_fit.ensures ∙ c.if-not-all_fit.false))
