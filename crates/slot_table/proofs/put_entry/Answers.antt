@@ -7,15 +7,13 @@ use Rattle.slot_table.proofs.put_entry.Goals as goal
 
 pub put_text-requires : goal.put_text-requires
 put_text-requires c =
-    let g = c.entry-in-Other-1.given.0 in
-    let a = c.args in
-    omega (arith, fields_few g.0 g.1.0 a.kept g.1.1.0)
+    let g = c.in-Other in
+    omega (arith, fields_few g.kind g.claimed c.args.kept g.state)
 
 pub put_sections-requires : goal.put_sections-requires
 put_sections-requires c =
-    let g = c.entry-in-Update-1.given.0 in
-    let a = c.args in
-    omega (arith, fields_few update_kind g.0 a.kept g.1.0)
+    let g = c.in-Update in
+    omega (arith, fields_few update_kind g.claimed c.args.kept g.state)
 
 pub returns-in-Refused : goal.returns-in-Refused
 unfolding entry_text
@@ -24,10 +22,8 @@ returns-in-Refused c = rw c.in-Refused.is c.put_refused.ensures
 pub returns-in-Other : goal.returns-in-Other
 unfolding entry_text
 returns-in-Other c =
-    let g = c.entry-in-Other-1.given.0 in
-    let a = c.args in
-    rw c.in-Other.is
-    (grow {vs = fields_text g.0 g.1.0 a.kept g.1.1.0} c.put_fields-to.ensures c.put_text.ensures)
+    let g = c.in-Other in
+    rw c.in-Other.is (grow {vs = fields_text g.kind g.claimed c.args.kept g.state} c.put_fields-to.ensures c.put_text.ensures)
 
 pub returns-in-Update : goal.returns-in-Update
 unfolding entry_text

@@ -4,7 +4,7 @@ use Rattle.slot_table.proofs.put_number.Goals as goal
 
 pub returns : goal.returns
 returns c =
-    let from = c.spell.result in
-    let text = c.spell.new.0 in
+    let from = c.spell-from.result in
+    let text = c.spell-from.new.text in
     let all : take (number_room - from) (drop from text) ≡ drop from text = take_all (number_room - from) (drop from text) (omega (arith, length-drop from text)) in
-    rw (← c.spell.ensures.0, ← all) c.put_text.ensures
+    rw (← c.spell-from.ensures.0, ← all) c.put_text.ensures
