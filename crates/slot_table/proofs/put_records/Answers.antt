@@ -105,10 +105,10 @@ returns-in-Stop c =
     let a = c.args in
     let l = c.loop-out in
     let both = going_done a.block.now a.last a.first a.out.now l.out l.used l.put l.nth l.invariant
-        c.stop_at-put.new.out (stop_text l.nth) c.stop_at-put.result Stop
-        (listing_ends a.last l.nth _ (drop l.used a.block.now) (room_left _ _ _ _ _ _ _ _ l.invariant c.loop-out-test.true)
-        S.Stop (stop_text l.nth) Stop (at_front c.args.block.now c.loop-out.used c.args.last _ c.next_slot.ensures ∙ c.in-Stop.is) (λ go. refl))
-        c.stop_at-put.ensures in
+    c.stop_at-put.new.out (stop_text l.nth) c.stop_at-put.result Stop
+    (listing_ends a.last l.nth _ (drop l.used a.block.now) (room_left _ _ _ _ _ _ _ _ l.invariant c.loop-out-test.true)
+    S.Stop (stop_text l.nth) Stop (at_front c.args.block.now c.loop-out.used c.args.last _ c.next_slot.ensures ∙ c.in-Stop.is) (λ go. refl))
+    c.stop_at-put.ensures in
     record { answer = both.0; output = both.1 }
 
 pub shape_of-out-in-End : goal.shape_of-out-in-End
@@ -128,6 +128,6 @@ returns c =
     let l = c.loop-out in
     let far = long _ _ _ _ _ _ _ _ l.invariant in
     let both = going_done a.block.now a.last a.first a.out.now l.out l.used l.put l.nth l.invariant l.out [] l.put Write
-        (listing_full a.last l.nth _ (drop l.used a.block.now) (omega (arith, far, c.loop-out-test.false)))
-        (put_nothing l.out l.put (omega (arith, l.invariant.grown.room, far))) in
+    (listing_full a.last l.nth _ (drop l.used a.block.now) (omega (arith, far, c.loop-out-test.false)))
+    (put_nothing l.out l.put (omega (arith, l.invariant.grown.room, far))) in
     record { answer = both.0; output = both.1 }
