@@ -60,6 +60,7 @@ module _ (w : ℕ) where
 
   -- no segment is empty that the strict rule writes
   never_empty : (rows : List Segment) → Each (WritableSegment non_empty w) rows → Some NoNumbers rows → ⊥
+  never_empty [] _ some = elim some [ ]
   never_empty (g ∷ rows) (one h hs) (here e) = let some = ((ruled Strict).sound g.kind (length (asns_of g)) h.fine).1 in omega (arith, e, some)
   never_empty (g ∷ rows) (one h hs) (later e) = never_empty rows hs e
 

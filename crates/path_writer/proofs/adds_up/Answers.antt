@@ -1,5 +1,5 @@
 use native.Mathlib.Omega.{arith}
-use Prim.Native.Nat.{◌+◌, ◌-◌}
+use Prim.Native.Nat.{◌+◌}
 use mathlib.Core.Path.{sym, ◌∙◌}
 use Rattle.path_writer.proofs.WriteLaws.{adds_end, adds_short, adds_over, adds_on}
 use Rattle.path_writer.proofs.adds_up.Goals as goal

@@ -1,4 +1,3 @@
-
 use native.Mathlib.Omega.{arith}
 use Prim.Native.Nat.{ℕ, ◌+◌}
 use mathlib.Core.Path.{◌≡◌, sym, ap, ◌∙◌}
@@ -80,11 +79,15 @@ write_segments-requires c =
     lent_alike a.rule (width_of a.width) a.pairs.now a.numbers.now whole (sym good) in
     let bytes_alike : let a = c.args in
     lent_bytes known_type (width_of a.width) a.pairs.now a.numbers.now ≡ lent_bytes (rule_of a.rule) (width_of a.width) a.pairs.now a.numbers.now = let a = c.args in ap (λ (r : Reading Segment). path_bytes (width_of a.width) r.rows) alike in
-    let both = let a = c.args in
-    let w = whole in
-    let g = good in
-    (w, (ap (λ (r : Reading Segment). r.verdict) alike ∙ sym g, (ap (λ (n : ℕ). length a.pairs.now + n) c.numbers_size.ensures ∙ sym (size_is (rule_of a.rule) (width_of a.width) a.pairs.now a.numbers.now (length a.out.now) w g) ∙ sym (ap length bytes_alike), omega (arith, c.if-out-size.false)))) in
-    record { numbers_value = both.0; numbers_value_2 = both.1; total_value = both.2 }
+    let a = c.args in
+    record {
+      numbers_value = whole;
+      numbers_value_2 = ap (λ (r : Reading Segment). r.verdict) alike ∙ sym good;
+      total_value = (
+        ap (λ (n : ℕ). length a.pairs.now + n) c.numbers_size.ensures ∙ sym (size_is (rule_of a.rule) (width_of a.width) a.pairs.now a.numbers.now (length a.out.now) whole good) ∙ sym (ap length bytes_alike),
+        omega (arith, c.if-out-size.false),
+      );
+    }
 
 pub returns : goal.returns
 unfolding lent_bytes

@@ -6,6 +6,4 @@ use Rattle.path_writer.proofs.path_fault.Goals as goal
 
 pub first_fault-requires : goal.first_fault-requires
 first_fault-requires c =
-    let both =
-    (c.requires, c.all_fit.ensures ∙ ap (all_fit (width_of c.args.width)) (take-length c.args.numbers.now)) in
-    record { numbers_value = both.0; fit_value = both.1 }
+    record { numbers_value = c.requires; fit_value = c.all_fit.ensures ∙ ap (all_fit (width_of c.args.width)) (take-length c.args.numbers.now) }

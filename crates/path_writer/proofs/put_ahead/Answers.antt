@@ -19,11 +19,13 @@ eight_bytes w from ns h = bytes_length w (take 8 (drop from ns)) ∙ ap (span w)
 
 pub put_numbers-requires : goal.put_numbers-requires
 put_numbers-requires c =
-    let both =
     let a = c.args in
     let e = eight_says (width_of a.width) a.n _ _ (sym c.eight_for.ensures ∙ c.if-eight_for.true) in
-    (omega (arith, e, c.requires.n_in_bounds), (fit_part (width_of a.width) 8 a.from a.numbers.now c.requires.numbers_value.0, omega (arith, e, eight_bytes (width_of a.width) a.from a.numbers.now e.1, c.requires.numbers_value.1))) in
-    record { n_in_bounds = both.0; numbers_value = both.1; numbers_in_bounds = both.2 }
+    record {
+      n_in_bounds = omega (arith, e, c.requires.n_in_bounds);
+      numbers_value = fit_part (width_of a.width) 8 a.from a.numbers.now c.requires.numbers_value;
+      numbers_in_bounds = omega (arith, e, eight_bytes (width_of a.width) a.from a.numbers.now e.1, c.requires.numbers_bound);
+    }
 
 pub returns-then-eight_for : goal.returns-then-eight_for
 returns-then-eight_for c =
@@ -34,18 +36,20 @@ returns-then-eight_for c =
     let parts = more_bytes w a.n 8 l e.0 in
     record {
       more = flat (to_be w) (drop a.n (take 8 l));
-      fits = omega (arith, e, ap length parts, eight_bytes w a.from a.numbers.now e.1, c.requires.numbers_value.1);
+      fits = omega (arith, e, ap length parts, eight_bytes w a.from a.numbers.now e.1, c.requires.numbers_bound);
       is = c.put_numbers.ensures ∙ ap (laid a.out.now a.to) parts;
     }
 
 pub put_numbers-requires-2 : goal.put_numbers-requires-2
 put_numbers-requires-2 c =
-    let both =
     let a = c.args in
-    (c.requires.n_in_bounds, (fit_part (width_of a.width) a.n a.from a.numbers.now c.requires.numbers_value.0, omega (arith, c.requires.numbers_value.1))) in
-    record { n_in_bounds = both.0; numbers_value = both.1; numbers_in_bounds = both.2 }
+    record {
+      n_in_bounds = c.requires.n_in_bounds;
+      numbers_value = fit_part (width_of a.width) a.n a.from a.numbers.now c.requires.numbers_value;
+      numbers_in_bounds = omega (arith, c.requires.numbers_bound);
+    }
 
 pub returns : goal.returns
 returns c =
     let a = c.args in
-    put_alone a.total a.out.now a.to _ _ c.requires.numbers_value.1.0 c.put_numbers-2.ensures
+    put_alone a.total a.out.now a.to _ _ c.requires.numbers_bound.0 c.put_numbers-2.ensures

@@ -12,7 +12,7 @@ pub loop-left-init : goal.loop-left-init
 loop-left-init c =
     let a = c.args in
     let p = c.requires in
-    putting_start a.numbers.now a.from 4 a.n a.out.now a.start p.1.1 p.0 p.1.0
+    putting_start a.numbers.now a.from 4 a.n a.out.now a.start p.numbers_in_bounds p.n_in_bounds p.numbers_value
 
 pub overflow_add-end : goal.overflow_add-end
 overflow_add-end c =
@@ -26,10 +26,10 @@ overflow_add-end c =
     let a = c.args in
     let pos : 0 < c.loop-left.left = omega (arith, c.loop-left-test.true) in (
       c.loop-left.invariant.inside,
-      putting_room a.numbers.now a.from 4 a.n a.out.now a.start c.requires.numbers_value.1 c.loop-left.at c.loop-left.to c.loop-left.left c.loop-left.out c.loop-left.invariant pos,
-      putting_fits a.numbers.now a.from 4 a.n a.out.now a.start c.requires.numbers_value.1 c.loop-left.at c.loop-left.to c.loop-left.left c.loop-left.out c.loop-left.invariant pos,
-      putting_long a.numbers.now a.from 4 a.n a.out.now a.start c.requires.numbers_value.1 c.loop-left.at c.loop-left.to c.loop-left.left c.loop-left.out c.loop-left.invariant,
-      putting_next a.numbers.now a.from 4 a.n a.out.now a.start c.requires.numbers_value.1 c.loop-left.at c.loop-left.to c.loop-left.left c.loop-left.out c.loop-left.invariant pos,
+      putting_room a.numbers.now a.from 4 a.n a.out.now a.start c.requires.numbers_in_bounds c.loop-left.at c.loop-left.to c.loop-left.left c.loop-left.out c.loop-left.invariant pos,
+      putting_fits a.numbers.now a.from 4 a.n a.out.now a.start c.requires.numbers_in_bounds c.loop-left.at c.loop-left.to c.loop-left.left c.loop-left.out c.loop-left.invariant pos,
+      putting_long a.numbers.now a.from 4 a.n a.out.now a.start c.requires.numbers_in_bounds c.loop-left.at c.loop-left.to c.loop-left.left c.loop-left.out c.loop-left.invariant,
+      putting_next a.numbers.now a.from 4 a.n a.out.now a.start c.requires.numbers_in_bounds c.loop-left.at c.loop-left.to c.loop-left.left c.loop-left.out c.loop-left.invariant pos,
     ) in
     omega (arith, turn)
 
@@ -45,10 +45,10 @@ slice_bounds-put_u32-start c =
     let a = c.args in
     let pos : 0 < c.loop-left.left = omega (arith, c.loop-left-test.true) in (
       c.loop-left.invariant.inside,
-      putting_room a.numbers.now a.from 4 a.n a.out.now a.start c.requires.numbers_value.1 c.loop-left.at c.loop-left.to c.loop-left.left c.loop-left.out c.loop-left.invariant pos,
-      putting_fits a.numbers.now a.from 4 a.n a.out.now a.start c.requires.numbers_value.1 c.loop-left.at c.loop-left.to c.loop-left.left c.loop-left.out c.loop-left.invariant pos,
-      putting_long a.numbers.now a.from 4 a.n a.out.now a.start c.requires.numbers_value.1 c.loop-left.at c.loop-left.to c.loop-left.left c.loop-left.out c.loop-left.invariant,
-      putting_next a.numbers.now a.from 4 a.n a.out.now a.start c.requires.numbers_value.1 c.loop-left.at c.loop-left.to c.loop-left.left c.loop-left.out c.loop-left.invariant pos,
+      putting_room a.numbers.now a.from 4 a.n a.out.now a.start c.requires.numbers_in_bounds c.loop-left.at c.loop-left.to c.loop-left.left c.loop-left.out c.loop-left.invariant pos,
+      putting_fits a.numbers.now a.from 4 a.n a.out.now a.start c.requires.numbers_in_bounds c.loop-left.at c.loop-left.to c.loop-left.left c.loop-left.out c.loop-left.invariant pos,
+      putting_long a.numbers.now a.from 4 a.n a.out.now a.start c.requires.numbers_in_bounds c.loop-left.at c.loop-left.to c.loop-left.left c.loop-left.out c.loop-left.invariant,
+      putting_next a.numbers.now a.from 4 a.n a.out.now a.start c.requires.numbers_in_bounds c.loop-left.at c.loop-left.to c.loop-left.left c.loop-left.out c.loop-left.invariant pos,
     ) in
     omega (arith, turn)
 
@@ -64,10 +64,10 @@ slice_bounds-put_u32-end c =
     let a = c.args in
     let pos : 0 < c.loop-left.left = omega (arith, c.loop-left-test.true) in (
       c.loop-left.invariant.inside,
-      putting_room a.numbers.now a.from 4 a.n a.out.now a.start c.requires.numbers_value.1 c.loop-left.at c.loop-left.to c.loop-left.left c.loop-left.out c.loop-left.invariant pos,
-      putting_fits a.numbers.now a.from 4 a.n a.out.now a.start c.requires.numbers_value.1 c.loop-left.at c.loop-left.to c.loop-left.left c.loop-left.out c.loop-left.invariant pos,
-      putting_long a.numbers.now a.from 4 a.n a.out.now a.start c.requires.numbers_value.1 c.loop-left.at c.loop-left.to c.loop-left.left c.loop-left.out c.loop-left.invariant,
-      putting_next a.numbers.now a.from 4 a.n a.out.now a.start c.requires.numbers_value.1 c.loop-left.at c.loop-left.to c.loop-left.left c.loop-left.out c.loop-left.invariant pos,
+      putting_room a.numbers.now a.from 4 a.n a.out.now a.start c.requires.numbers_in_bounds c.loop-left.at c.loop-left.to c.loop-left.left c.loop-left.out c.loop-left.invariant pos,
+      putting_fits a.numbers.now a.from 4 a.n a.out.now a.start c.requires.numbers_in_bounds c.loop-left.at c.loop-left.to c.loop-left.left c.loop-left.out c.loop-left.invariant pos,
+      putting_long a.numbers.now a.from 4 a.n a.out.now a.start c.requires.numbers_in_bounds c.loop-left.at c.loop-left.to c.loop-left.left c.loop-left.out c.loop-left.invariant,
+      putting_next a.numbers.now a.from 4 a.n a.out.now a.start c.requires.numbers_in_bounds c.loop-left.at c.loop-left.to c.loop-left.left c.loop-left.out c.loop-left.invariant pos,
     ) in
     omega (arith, turn)
 
@@ -83,10 +83,10 @@ offset_bounds-numbers-at c =
     let a = c.args in
     let pos : 0 < c.loop-left.left = omega (arith, c.loop-left-test.true) in (
       c.loop-left.invariant.inside,
-      putting_room a.numbers.now a.from 4 a.n a.out.now a.start c.requires.numbers_value.1 c.loop-left.at c.loop-left.to c.loop-left.left c.loop-left.out c.loop-left.invariant pos,
-      putting_fits a.numbers.now a.from 4 a.n a.out.now a.start c.requires.numbers_value.1 c.loop-left.at c.loop-left.to c.loop-left.left c.loop-left.out c.loop-left.invariant pos,
-      putting_long a.numbers.now a.from 4 a.n a.out.now a.start c.requires.numbers_value.1 c.loop-left.at c.loop-left.to c.loop-left.left c.loop-left.out c.loop-left.invariant,
-      putting_next a.numbers.now a.from 4 a.n a.out.now a.start c.requires.numbers_value.1 c.loop-left.at c.loop-left.to c.loop-left.left c.loop-left.out c.loop-left.invariant pos,
+      putting_room a.numbers.now a.from 4 a.n a.out.now a.start c.requires.numbers_in_bounds c.loop-left.at c.loop-left.to c.loop-left.left c.loop-left.out c.loop-left.invariant pos,
+      putting_fits a.numbers.now a.from 4 a.n a.out.now a.start c.requires.numbers_in_bounds c.loop-left.at c.loop-left.to c.loop-left.left c.loop-left.out c.loop-left.invariant pos,
+      putting_long a.numbers.now a.from 4 a.n a.out.now a.start c.requires.numbers_in_bounds c.loop-left.at c.loop-left.to c.loop-left.left c.loop-left.out c.loop-left.invariant,
+      putting_next a.numbers.now a.from 4 a.n a.out.now a.start c.requires.numbers_in_bounds c.loop-left.at c.loop-left.to c.loop-left.left c.loop-left.out c.loop-left.invariant pos,
     ) in
     omega (arith, turn, c.loop-left-test.true)
 
@@ -102,10 +102,10 @@ bounds-numbers-at c =
     let a = c.args in
     let pos : 0 < c.loop-left.left = omega (arith, c.loop-left-test.true) in (
       c.loop-left.invariant.inside,
-      putting_room a.numbers.now a.from 4 a.n a.out.now a.start c.requires.numbers_value.1 c.loop-left.at c.loop-left.to c.loop-left.left c.loop-left.out c.loop-left.invariant pos,
-      putting_fits a.numbers.now a.from 4 a.n a.out.now a.start c.requires.numbers_value.1 c.loop-left.at c.loop-left.to c.loop-left.left c.loop-left.out c.loop-left.invariant pos,
-      putting_long a.numbers.now a.from 4 a.n a.out.now a.start c.requires.numbers_value.1 c.loop-left.at c.loop-left.to c.loop-left.left c.loop-left.out c.loop-left.invariant,
-      putting_next a.numbers.now a.from 4 a.n a.out.now a.start c.requires.numbers_value.1 c.loop-left.at c.loop-left.to c.loop-left.left c.loop-left.out c.loop-left.invariant pos,
+      putting_room a.numbers.now a.from 4 a.n a.out.now a.start c.requires.numbers_in_bounds c.loop-left.at c.loop-left.to c.loop-left.left c.loop-left.out c.loop-left.invariant pos,
+      putting_fits a.numbers.now a.from 4 a.n a.out.now a.start c.requires.numbers_in_bounds c.loop-left.at c.loop-left.to c.loop-left.left c.loop-left.out c.loop-left.invariant pos,
+      putting_long a.numbers.now a.from 4 a.n a.out.now a.start c.requires.numbers_in_bounds c.loop-left.at c.loop-left.to c.loop-left.left c.loop-left.out c.loop-left.invariant,
+      putting_next a.numbers.now a.from 4 a.n a.out.now a.start c.requires.numbers_in_bounds c.loop-left.at c.loop-left.to c.loop-left.left c.loop-left.out c.loop-left.invariant pos,
     ) in
     omega (arith, turn, c.loop-left-test.true)
 
@@ -121,10 +121,10 @@ overflow_add-at c =
     let a = c.args in
     let pos : 0 < c.loop-left.left = omega (arith, c.loop-left-test.true) in (
       c.loop-left.invariant.inside,
-      putting_room a.numbers.now a.from 4 a.n a.out.now a.start c.requires.numbers_value.1 c.loop-left.at c.loop-left.to c.loop-left.left c.loop-left.out c.loop-left.invariant pos,
-      putting_fits a.numbers.now a.from 4 a.n a.out.now a.start c.requires.numbers_value.1 c.loop-left.at c.loop-left.to c.loop-left.left c.loop-left.out c.loop-left.invariant pos,
-      putting_long a.numbers.now a.from 4 a.n a.out.now a.start c.requires.numbers_value.1 c.loop-left.at c.loop-left.to c.loop-left.left c.loop-left.out c.loop-left.invariant,
-      putting_next a.numbers.now a.from 4 a.n a.out.now a.start c.requires.numbers_value.1 c.loop-left.at c.loop-left.to c.loop-left.left c.loop-left.out c.loop-left.invariant pos,
+      putting_room a.numbers.now a.from 4 a.n a.out.now a.start c.requires.numbers_in_bounds c.loop-left.at c.loop-left.to c.loop-left.left c.loop-left.out c.loop-left.invariant pos,
+      putting_fits a.numbers.now a.from 4 a.n a.out.now a.start c.requires.numbers_in_bounds c.loop-left.at c.loop-left.to c.loop-left.left c.loop-left.out c.loop-left.invariant pos,
+      putting_long a.numbers.now a.from 4 a.n a.out.now a.start c.requires.numbers_in_bounds c.loop-left.at c.loop-left.to c.loop-left.left c.loop-left.out c.loop-left.invariant,
+      putting_next a.numbers.now a.from 4 a.n a.out.now a.start c.requires.numbers_in_bounds c.loop-left.at c.loop-left.to c.loop-left.left c.loop-left.out c.loop-left.invariant pos,
     ) in
     omega (arith, turn, c.loop-left-test.true)
 
@@ -140,10 +140,10 @@ loop-left-preserved c =
     let a = c.args in
     let pos : 0 < c.loop-left.left = omega (arith, c.loop-left-test.true) in (
       c.loop-left.invariant.inside,
-      putting_room a.numbers.now a.from 4 a.n a.out.now a.start c.requires.numbers_value.1 c.loop-left.at c.loop-left.to c.loop-left.left c.loop-left.out c.loop-left.invariant pos,
-      putting_fits a.numbers.now a.from 4 a.n a.out.now a.start c.requires.numbers_value.1 c.loop-left.at c.loop-left.to c.loop-left.left c.loop-left.out c.loop-left.invariant pos,
-      putting_long a.numbers.now a.from 4 a.n a.out.now a.start c.requires.numbers_value.1 c.loop-left.at c.loop-left.to c.loop-left.left c.loop-left.out c.loop-left.invariant,
-      putting_next a.numbers.now a.from 4 a.n a.out.now a.start c.requires.numbers_value.1 c.loop-left.at c.loop-left.to c.loop-left.left c.loop-left.out c.loop-left.invariant pos,
+      putting_room a.numbers.now a.from 4 a.n a.out.now a.start c.requires.numbers_in_bounds c.loop-left.at c.loop-left.to c.loop-left.left c.loop-left.out c.loop-left.invariant pos,
+      putting_fits a.numbers.now a.from 4 a.n a.out.now a.start c.requires.numbers_in_bounds c.loop-left.at c.loop-left.to c.loop-left.left c.loop-left.out c.loop-left.invariant pos,
+      putting_long a.numbers.now a.from 4 a.n a.out.now a.start c.requires.numbers_in_bounds c.loop-left.at c.loop-left.to c.loop-left.left c.loop-left.out c.loop-left.invariant,
+      putting_next a.numbers.now a.from 4 a.n a.out.now a.start c.requires.numbers_in_bounds c.loop-left.at c.loop-left.to c.loop-left.left c.loop-left.out c.loop-left.invariant pos,
     ) in
     let a = c.args in
     let h = turn in
@@ -153,9 +153,9 @@ loop-left-preserved c =
 pub shape_of-out : goal.shape_of-out
 shape_of-out c =
     let a = c.args in
-    putting_long a.numbers.now a.from 4 a.n a.out.now a.start c.requires.numbers_value.1 c.loop-left.at c.loop-left.to c.loop-left.left c.loop-left.out c.loop-left.invariant
+    putting_long a.numbers.now a.from 4 a.n a.out.now a.start c.requires.numbers_in_bounds c.loop-left.at c.loop-left.to c.loop-left.left c.loop-left.out c.loop-left.invariant
 
 pub returns : goal.returns
 returns c =
     let a = c.args in
-    putting_done a.numbers.now a.from 4 a.n a.out.now a.start c.requires.numbers_value.1 c.loop-left.at c.loop-left.to c.loop-left.left c.loop-left.out c.loop-left.invariant (omega (arith, c.loop-left-test.false))
+    putting_done a.numbers.now a.from 4 a.n a.out.now a.start c.requires.numbers_in_bounds c.loop-left.at c.loop-left.to c.loop-left.left c.loop-left.out c.loop-left.invariant (omega (arith, c.loop-left-test.false))

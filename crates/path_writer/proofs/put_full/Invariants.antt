@@ -1,4 +1,3 @@
-use Prim.Native.Nat.{◌-◌}
 use Rattle.path_writer.proofs.NumberPut.{Putting}
 use Rattle.path_writer.proofs.put_full.Given as goal
 

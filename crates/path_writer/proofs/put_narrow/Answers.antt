@@ -14,7 +14,7 @@ pub loop-left-init : goal.loop-left-init
 loop-left-init c =
     let a = c.args in
     let p = c.requires in
-    putting_start a.numbers.now a.from 2 a.n a.out.now a.start p.1.1 p.0 p.1.0
+    putting_start a.numbers.now a.from 2 a.n a.out.now a.start p.numbers_in_bounds p.n_in_bounds p.numbers_value
 
 pub overflow_add-middle : goal.overflow_add-middle
 overflow_add-middle c =
@@ -28,10 +28,10 @@ overflow_add-middle c =
     let a = c.args in
     let pos : 0 < c.loop-left.left = omega (arith, c.loop-left-test.true) in (
       c.loop-left.invariant.inside,
-      putting_room a.numbers.now a.from 2 a.n a.out.now a.start c.requires.numbers_value.1 c.loop-left.at c.loop-left.to c.loop-left.left c.loop-left.out c.loop-left.invariant pos,
-      putting_fits a.numbers.now a.from 2 a.n a.out.now a.start c.requires.numbers_value.1 c.loop-left.at c.loop-left.to c.loop-left.left c.loop-left.out c.loop-left.invariant pos,
-      putting_long a.numbers.now a.from 2 a.n a.out.now a.start c.requires.numbers_value.1 c.loop-left.at c.loop-left.to c.loop-left.left c.loop-left.out c.loop-left.invariant,
-      putting_next a.numbers.now a.from 2 a.n a.out.now a.start c.requires.numbers_value.1 c.loop-left.at c.loop-left.to c.loop-left.left c.loop-left.out c.loop-left.invariant pos,
+      putting_room a.numbers.now a.from 2 a.n a.out.now a.start c.requires.numbers_in_bounds c.loop-left.at c.loop-left.to c.loop-left.left c.loop-left.out c.loop-left.invariant pos,
+      putting_fits a.numbers.now a.from 2 a.n a.out.now a.start c.requires.numbers_in_bounds c.loop-left.at c.loop-left.to c.loop-left.left c.loop-left.out c.loop-left.invariant pos,
+      putting_long a.numbers.now a.from 2 a.n a.out.now a.start c.requires.numbers_in_bounds c.loop-left.at c.loop-left.to c.loop-left.left c.loop-left.out c.loop-left.invariant,
+      putting_next a.numbers.now a.from 2 a.n a.out.now a.start c.requires.numbers_in_bounds c.loop-left.at c.loop-left.to c.loop-left.left c.loop-left.out c.loop-left.invariant pos,
     ) in
     omega (arith, turn)
 
@@ -47,10 +47,10 @@ overflow_add-end c =
     let a = c.args in
     let pos : 0 < c.loop-left.left = omega (arith, c.loop-left-test.true) in (
       c.loop-left.invariant.inside,
-      putting_room a.numbers.now a.from 2 a.n a.out.now a.start c.requires.numbers_value.1 c.loop-left.at c.loop-left.to c.loop-left.left c.loop-left.out c.loop-left.invariant pos,
-      putting_fits a.numbers.now a.from 2 a.n a.out.now a.start c.requires.numbers_value.1 c.loop-left.at c.loop-left.to c.loop-left.left c.loop-left.out c.loop-left.invariant pos,
-      putting_long a.numbers.now a.from 2 a.n a.out.now a.start c.requires.numbers_value.1 c.loop-left.at c.loop-left.to c.loop-left.left c.loop-left.out c.loop-left.invariant,
-      putting_next a.numbers.now a.from 2 a.n a.out.now a.start c.requires.numbers_value.1 c.loop-left.at c.loop-left.to c.loop-left.left c.loop-left.out c.loop-left.invariant pos,
+      putting_room a.numbers.now a.from 2 a.n a.out.now a.start c.requires.numbers_in_bounds c.loop-left.at c.loop-left.to c.loop-left.left c.loop-left.out c.loop-left.invariant pos,
+      putting_fits a.numbers.now a.from 2 a.n a.out.now a.start c.requires.numbers_in_bounds c.loop-left.at c.loop-left.to c.loop-left.left c.loop-left.out c.loop-left.invariant pos,
+      putting_long a.numbers.now a.from 2 a.n a.out.now a.start c.requires.numbers_in_bounds c.loop-left.at c.loop-left.to c.loop-left.left c.loop-left.out c.loop-left.invariant,
+      putting_next a.numbers.now a.from 2 a.n a.out.now a.start c.requires.numbers_in_bounds c.loop-left.at c.loop-left.to c.loop-left.left c.loop-left.out c.loop-left.invariant pos,
     ) in
     omega (arith, turn, c.loop-left.invariant.inside)
 
@@ -66,10 +66,10 @@ slice_bounds-put_u16-start c =
     let a = c.args in
     let pos : 0 < c.loop-left.left = omega (arith, c.loop-left-test.true) in (
       c.loop-left.invariant.inside,
-      putting_room a.numbers.now a.from 2 a.n a.out.now a.start c.requires.numbers_value.1 c.loop-left.at c.loop-left.to c.loop-left.left c.loop-left.out c.loop-left.invariant pos,
-      putting_fits a.numbers.now a.from 2 a.n a.out.now a.start c.requires.numbers_value.1 c.loop-left.at c.loop-left.to c.loop-left.left c.loop-left.out c.loop-left.invariant pos,
-      putting_long a.numbers.now a.from 2 a.n a.out.now a.start c.requires.numbers_value.1 c.loop-left.at c.loop-left.to c.loop-left.left c.loop-left.out c.loop-left.invariant,
-      putting_next a.numbers.now a.from 2 a.n a.out.now a.start c.requires.numbers_value.1 c.loop-left.at c.loop-left.to c.loop-left.left c.loop-left.out c.loop-left.invariant pos,
+      putting_room a.numbers.now a.from 2 a.n a.out.now a.start c.requires.numbers_in_bounds c.loop-left.at c.loop-left.to c.loop-left.left c.loop-left.out c.loop-left.invariant pos,
+      putting_fits a.numbers.now a.from 2 a.n a.out.now a.start c.requires.numbers_in_bounds c.loop-left.at c.loop-left.to c.loop-left.left c.loop-left.out c.loop-left.invariant pos,
+      putting_long a.numbers.now a.from 2 a.n a.out.now a.start c.requires.numbers_in_bounds c.loop-left.at c.loop-left.to c.loop-left.left c.loop-left.out c.loop-left.invariant,
+      putting_next a.numbers.now a.from 2 a.n a.out.now a.start c.requires.numbers_in_bounds c.loop-left.at c.loop-left.to c.loop-left.left c.loop-left.out c.loop-left.invariant pos,
     ) in
     omega (arith, turn)
 
@@ -85,10 +85,10 @@ slice_bounds-put_u16-end c =
     let a = c.args in
     let pos : 0 < c.loop-left.left = omega (arith, c.loop-left-test.true) in (
       c.loop-left.invariant.inside,
-      putting_room a.numbers.now a.from 2 a.n a.out.now a.start c.requires.numbers_value.1 c.loop-left.at c.loop-left.to c.loop-left.left c.loop-left.out c.loop-left.invariant pos,
-      putting_fits a.numbers.now a.from 2 a.n a.out.now a.start c.requires.numbers_value.1 c.loop-left.at c.loop-left.to c.loop-left.left c.loop-left.out c.loop-left.invariant pos,
-      putting_long a.numbers.now a.from 2 a.n a.out.now a.start c.requires.numbers_value.1 c.loop-left.at c.loop-left.to c.loop-left.left c.loop-left.out c.loop-left.invariant,
-      putting_next a.numbers.now a.from 2 a.n a.out.now a.start c.requires.numbers_value.1 c.loop-left.at c.loop-left.to c.loop-left.left c.loop-left.out c.loop-left.invariant pos,
+      putting_room a.numbers.now a.from 2 a.n a.out.now a.start c.requires.numbers_in_bounds c.loop-left.at c.loop-left.to c.loop-left.left c.loop-left.out c.loop-left.invariant pos,
+      putting_fits a.numbers.now a.from 2 a.n a.out.now a.start c.requires.numbers_in_bounds c.loop-left.at c.loop-left.to c.loop-left.left c.loop-left.out c.loop-left.invariant pos,
+      putting_long a.numbers.now a.from 2 a.n a.out.now a.start c.requires.numbers_in_bounds c.loop-left.at c.loop-left.to c.loop-left.left c.loop-left.out c.loop-left.invariant,
+      putting_next a.numbers.now a.from 2 a.n a.out.now a.start c.requires.numbers_in_bounds c.loop-left.at c.loop-left.to c.loop-left.left c.loop-left.out c.loop-left.invariant pos,
     ) in
     omega (arith, turn)
 
@@ -104,10 +104,10 @@ offset_bounds-numbers-at c =
     let a = c.args in
     let pos : 0 < c.loop-left.left = omega (arith, c.loop-left-test.true) in (
       c.loop-left.invariant.inside,
-      putting_room a.numbers.now a.from 2 a.n a.out.now a.start c.requires.numbers_value.1 c.loop-left.at c.loop-left.to c.loop-left.left c.loop-left.out c.loop-left.invariant pos,
-      putting_fits a.numbers.now a.from 2 a.n a.out.now a.start c.requires.numbers_value.1 c.loop-left.at c.loop-left.to c.loop-left.left c.loop-left.out c.loop-left.invariant pos,
-      putting_long a.numbers.now a.from 2 a.n a.out.now a.start c.requires.numbers_value.1 c.loop-left.at c.loop-left.to c.loop-left.left c.loop-left.out c.loop-left.invariant,
-      putting_next a.numbers.now a.from 2 a.n a.out.now a.start c.requires.numbers_value.1 c.loop-left.at c.loop-left.to c.loop-left.left c.loop-left.out c.loop-left.invariant pos,
+      putting_room a.numbers.now a.from 2 a.n a.out.now a.start c.requires.numbers_in_bounds c.loop-left.at c.loop-left.to c.loop-left.left c.loop-left.out c.loop-left.invariant pos,
+      putting_fits a.numbers.now a.from 2 a.n a.out.now a.start c.requires.numbers_in_bounds c.loop-left.at c.loop-left.to c.loop-left.left c.loop-left.out c.loop-left.invariant pos,
+      putting_long a.numbers.now a.from 2 a.n a.out.now a.start c.requires.numbers_in_bounds c.loop-left.at c.loop-left.to c.loop-left.left c.loop-left.out c.loop-left.invariant,
+      putting_next a.numbers.now a.from 2 a.n a.out.now a.start c.requires.numbers_in_bounds c.loop-left.at c.loop-left.to c.loop-left.left c.loop-left.out c.loop-left.invariant pos,
     ) in
     omega (arith, turn, c.loop-left-test.true)
 
@@ -123,10 +123,10 @@ bounds-numbers-at c =
     let a = c.args in
     let pos : 0 < c.loop-left.left = omega (arith, c.loop-left-test.true) in (
       c.loop-left.invariant.inside,
-      putting_room a.numbers.now a.from 2 a.n a.out.now a.start c.requires.numbers_value.1 c.loop-left.at c.loop-left.to c.loop-left.left c.loop-left.out c.loop-left.invariant pos,
-      putting_fits a.numbers.now a.from 2 a.n a.out.now a.start c.requires.numbers_value.1 c.loop-left.at c.loop-left.to c.loop-left.left c.loop-left.out c.loop-left.invariant pos,
-      putting_long a.numbers.now a.from 2 a.n a.out.now a.start c.requires.numbers_value.1 c.loop-left.at c.loop-left.to c.loop-left.left c.loop-left.out c.loop-left.invariant,
-      putting_next a.numbers.now a.from 2 a.n a.out.now a.start c.requires.numbers_value.1 c.loop-left.at c.loop-left.to c.loop-left.left c.loop-left.out c.loop-left.invariant pos,
+      putting_room a.numbers.now a.from 2 a.n a.out.now a.start c.requires.numbers_in_bounds c.loop-left.at c.loop-left.to c.loop-left.left c.loop-left.out c.loop-left.invariant pos,
+      putting_fits a.numbers.now a.from 2 a.n a.out.now a.start c.requires.numbers_in_bounds c.loop-left.at c.loop-left.to c.loop-left.left c.loop-left.out c.loop-left.invariant pos,
+      putting_long a.numbers.now a.from 2 a.n a.out.now a.start c.requires.numbers_in_bounds c.loop-left.at c.loop-left.to c.loop-left.left c.loop-left.out c.loop-left.invariant,
+      putting_next a.numbers.now a.from 2 a.n a.out.now a.start c.requires.numbers_in_bounds c.loop-left.at c.loop-left.to c.loop-left.left c.loop-left.out c.loop-left.invariant pos,
     ) in
     omega (arith, turn, c.loop-left-test.true)
 
@@ -142,10 +142,10 @@ overflow_cast-numbers c =
     let a = c.args in
     let pos : 0 < c.loop-left.left = omega (arith, c.loop-left-test.true) in (
       c.loop-left.invariant.inside,
-      putting_room a.numbers.now a.from 2 a.n a.out.now a.start c.requires.numbers_value.1 c.loop-left.at c.loop-left.to c.loop-left.left c.loop-left.out c.loop-left.invariant pos,
-      putting_fits a.numbers.now a.from 2 a.n a.out.now a.start c.requires.numbers_value.1 c.loop-left.at c.loop-left.to c.loop-left.left c.loop-left.out c.loop-left.invariant pos,
-      putting_long a.numbers.now a.from 2 a.n a.out.now a.start c.requires.numbers_value.1 c.loop-left.at c.loop-left.to c.loop-left.left c.loop-left.out c.loop-left.invariant,
-      putting_next a.numbers.now a.from 2 a.n a.out.now a.start c.requires.numbers_value.1 c.loop-left.at c.loop-left.to c.loop-left.left c.loop-left.out c.loop-left.invariant pos,
+      putting_room a.numbers.now a.from 2 a.n a.out.now a.start c.requires.numbers_in_bounds c.loop-left.at c.loop-left.to c.loop-left.left c.loop-left.out c.loop-left.invariant pos,
+      putting_fits a.numbers.now a.from 2 a.n a.out.now a.start c.requires.numbers_in_bounds c.loop-left.at c.loop-left.to c.loop-left.left c.loop-left.out c.loop-left.invariant pos,
+      putting_long a.numbers.now a.from 2 a.n a.out.now a.start c.requires.numbers_in_bounds c.loop-left.at c.loop-left.to c.loop-left.left c.loop-left.out c.loop-left.invariant,
+      putting_next a.numbers.now a.from 2 a.n a.out.now a.start c.requires.numbers_in_bounds c.loop-left.at c.loop-left.to c.loop-left.left c.loop-left.out c.loop-left.invariant pos,
     ) in
     omega (arith, turn)
 
@@ -161,31 +161,31 @@ slice_bounds-put_u16-start-in-loop-left c =
     let a = c.args in
     let pos : 0 < c.loop-left.left = omega (arith, c.loop-left-test.true) in (
       c.loop-left.invariant.inside,
-      putting_room a.numbers.now a.from 2 a.n a.out.now a.start c.requires.numbers_value.1 c.loop-left.at c.loop-left.to c.loop-left.left c.loop-left.out c.loop-left.invariant pos,
-      putting_fits a.numbers.now a.from 2 a.n a.out.now a.start c.requires.numbers_value.1 c.loop-left.at c.loop-left.to c.loop-left.left c.loop-left.out c.loop-left.invariant pos,
-      putting_long a.numbers.now a.from 2 a.n a.out.now a.start c.requires.numbers_value.1 c.loop-left.at c.loop-left.to c.loop-left.left c.loop-left.out c.loop-left.invariant,
-      putting_next a.numbers.now a.from 2 a.n a.out.now a.start c.requires.numbers_value.1 c.loop-left.at c.loop-left.to c.loop-left.left c.loop-left.out c.loop-left.invariant pos,
+      putting_room a.numbers.now a.from 2 a.n a.out.now a.start c.requires.numbers_in_bounds c.loop-left.at c.loop-left.to c.loop-left.left c.loop-left.out c.loop-left.invariant pos,
+      putting_fits a.numbers.now a.from 2 a.n a.out.now a.start c.requires.numbers_in_bounds c.loop-left.at c.loop-left.to c.loop-left.left c.loop-left.out c.loop-left.invariant pos,
+      putting_long a.numbers.now a.from 2 a.n a.out.now a.start c.requires.numbers_in_bounds c.loop-left.at c.loop-left.to c.loop-left.left c.loop-left.out c.loop-left.invariant,
+      putting_next a.numbers.now a.from 2 a.n a.out.now a.start c.requires.numbers_in_bounds c.loop-left.at c.loop-left.to c.loop-left.left c.loop-left.out c.loop-left.invariant pos,
     ) in
     let second :
     let a = c.args in
-    let d = put_mid c.loop-left.to (c.loop-left.to + 2 - c.loop-left.to) c.loop-left.out c.put_u16.new.0 in
+    let d = put_mid c.loop-left.to (c.loop-left.to + 2 - c.loop-left.to) c.loop-left.out c.put_u16.new.out in
     (c.loop-left.to + 4 ≤ length d)
     × (get_or a.numbers.now (c.loop-left.at + 1) 0 < 256 ^ 2)
     × Putting a.numbers.now a.from 2 a.n a.out.now a.start (c.loop-left.at + 2) (c.loop-left.to + 4) (c.loop-left.left - 2) (laid d (c.loop-left.to + 2) (to_be 2 (get_or a.numbers.now (c.loop-left.at + 1) 0))) =
     let a = c.args in
-    let d = put_mid c.loop-left.to (c.loop-left.to + 2 - c.loop-left.to) c.loop-left.out c.put_u16.new.0 in
+    let d = put_mid c.loop-left.to (c.loop-left.to + 2 - c.loop-left.to) c.loop-left.out c.put_u16.new.out in
     let first = turn in
     let put = part_put c.loop-left.out c.loop-left.to _ 2 _ _ c.put_u16.ensures refl first.1 in
     let h : Putting a.numbers.now a.from 2 a.n a.out.now a.start (c.loop-left.at + 1) (c.loop-left.to + 2) (c.loop-left.left - 1) d =
     subst (λ (x : List ℕ). Putting a.numbers.now a.from 2 a.n a.out.now a.start (c.loop-left.at + 1) (c.loop-left.to + 2) (c.loop-left.left - 1) x) (sym put) first.4 in
     let pos : 0 < c.loop-left.left - 1 = omega (arith, c.loop-left-test.true) in
-    let room = putting_room a.numbers.now a.from 2 a.n a.out.now a.start c.requires.numbers_value.1 (c.loop-left.at + 1) (c.loop-left.to + 2) (c.loop-left.left - 1) d h pos in
+    let room = putting_room a.numbers.now a.from 2 a.n a.out.now a.start c.requires.numbers_in_bounds (c.loop-left.at + 1) (c.loop-left.to + 2) (c.loop-left.left - 1) d h pos in
     let place : c.loop-left.at + 1 + 1 ≡ c.loop-left.at + 2 = omega arith in
     let next : c.loop-left.to + 2 + 2 ≡ c.loop-left.to + 4 = omega arith in
     let less : c.loop-left.left - 1 - 1 ≡ c.loop-left.left - 2 = omega arith in (
       omega (arith, room),
-      putting_fits a.numbers.now a.from 2 a.n a.out.now a.start c.requires.numbers_value.1 (c.loop-left.at + 1) (c.loop-left.to + 2) (c.loop-left.left - 1) d h pos,
-      rw (← place, ← next, ← less) (putting_next a.numbers.now a.from 2 a.n a.out.now a.start c.requires.numbers_value.1 (c.loop-left.at + 1) (c.loop-left.to + 2) (c.loop-left.left - 1) d h pos),
+      putting_fits a.numbers.now a.from 2 a.n a.out.now a.start c.requires.numbers_in_bounds (c.loop-left.at + 1) (c.loop-left.to + 2) (c.loop-left.left - 1) d h pos,
+      rw (← place, ← next, ← less) (putting_next a.numbers.now a.from 2 a.n a.out.now a.start c.requires.numbers_in_bounds (c.loop-left.at + 1) (c.loop-left.to + 2) (c.loop-left.left - 1) d h pos),
     ) in
     omega (arith, second)
 
@@ -201,31 +201,31 @@ slice_bounds-put_u16-end-in-loop-left c =
     let a = c.args in
     let pos : 0 < c.loop-left.left = omega (arith, c.loop-left-test.true) in (
       c.loop-left.invariant.inside,
-      putting_room a.numbers.now a.from 2 a.n a.out.now a.start c.requires.numbers_value.1 c.loop-left.at c.loop-left.to c.loop-left.left c.loop-left.out c.loop-left.invariant pos,
-      putting_fits a.numbers.now a.from 2 a.n a.out.now a.start c.requires.numbers_value.1 c.loop-left.at c.loop-left.to c.loop-left.left c.loop-left.out c.loop-left.invariant pos,
-      putting_long a.numbers.now a.from 2 a.n a.out.now a.start c.requires.numbers_value.1 c.loop-left.at c.loop-left.to c.loop-left.left c.loop-left.out c.loop-left.invariant,
-      putting_next a.numbers.now a.from 2 a.n a.out.now a.start c.requires.numbers_value.1 c.loop-left.at c.loop-left.to c.loop-left.left c.loop-left.out c.loop-left.invariant pos,
+      putting_room a.numbers.now a.from 2 a.n a.out.now a.start c.requires.numbers_in_bounds c.loop-left.at c.loop-left.to c.loop-left.left c.loop-left.out c.loop-left.invariant pos,
+      putting_fits a.numbers.now a.from 2 a.n a.out.now a.start c.requires.numbers_in_bounds c.loop-left.at c.loop-left.to c.loop-left.left c.loop-left.out c.loop-left.invariant pos,
+      putting_long a.numbers.now a.from 2 a.n a.out.now a.start c.requires.numbers_in_bounds c.loop-left.at c.loop-left.to c.loop-left.left c.loop-left.out c.loop-left.invariant,
+      putting_next a.numbers.now a.from 2 a.n a.out.now a.start c.requires.numbers_in_bounds c.loop-left.at c.loop-left.to c.loop-left.left c.loop-left.out c.loop-left.invariant pos,
     ) in
     let second :
     let a = c.args in
-    let d = put_mid c.loop-left.to (c.loop-left.to + 2 - c.loop-left.to) c.loop-left.out c.put_u16.new.0 in
+    let d = put_mid c.loop-left.to (c.loop-left.to + 2 - c.loop-left.to) c.loop-left.out c.put_u16.new.out in
     (c.loop-left.to + 4 ≤ length d)
     × (get_or a.numbers.now (c.loop-left.at + 1) 0 < 256 ^ 2)
     × Putting a.numbers.now a.from 2 a.n a.out.now a.start (c.loop-left.at + 2) (c.loop-left.to + 4) (c.loop-left.left - 2) (laid d (c.loop-left.to + 2) (to_be 2 (get_or a.numbers.now (c.loop-left.at + 1) 0))) =
     let a = c.args in
-    let d = put_mid c.loop-left.to (c.loop-left.to + 2 - c.loop-left.to) c.loop-left.out c.put_u16.new.0 in
+    let d = put_mid c.loop-left.to (c.loop-left.to + 2 - c.loop-left.to) c.loop-left.out c.put_u16.new.out in
     let first = turn in
     let put = part_put c.loop-left.out c.loop-left.to _ 2 _ _ c.put_u16.ensures refl first.1 in
     let h : Putting a.numbers.now a.from 2 a.n a.out.now a.start (c.loop-left.at + 1) (c.loop-left.to + 2) (c.loop-left.left - 1) d =
     subst (λ (x : List ℕ). Putting a.numbers.now a.from 2 a.n a.out.now a.start (c.loop-left.at + 1) (c.loop-left.to + 2) (c.loop-left.left - 1) x) (sym put) first.4 in
     let pos : 0 < c.loop-left.left - 1 = omega (arith, c.loop-left-test.true) in
-    let room = putting_room a.numbers.now a.from 2 a.n a.out.now a.start c.requires.numbers_value.1 (c.loop-left.at + 1) (c.loop-left.to + 2) (c.loop-left.left - 1) d h pos in
+    let room = putting_room a.numbers.now a.from 2 a.n a.out.now a.start c.requires.numbers_in_bounds (c.loop-left.at + 1) (c.loop-left.to + 2) (c.loop-left.left - 1) d h pos in
     let place : c.loop-left.at + 1 + 1 ≡ c.loop-left.at + 2 = omega arith in
     let next : c.loop-left.to + 2 + 2 ≡ c.loop-left.to + 4 = omega arith in
     let less : c.loop-left.left - 1 - 1 ≡ c.loop-left.left - 2 = omega arith in (
       omega (arith, room),
-      putting_fits a.numbers.now a.from 2 a.n a.out.now a.start c.requires.numbers_value.1 (c.loop-left.at + 1) (c.loop-left.to + 2) (c.loop-left.left - 1) d h pos,
-      rw (← place, ← next, ← less) (putting_next a.numbers.now a.from 2 a.n a.out.now a.start c.requires.numbers_value.1 (c.loop-left.at + 1) (c.loop-left.to + 2) (c.loop-left.left - 1) d h pos),
+      putting_fits a.numbers.now a.from 2 a.n a.out.now a.start c.requires.numbers_in_bounds (c.loop-left.at + 1) (c.loop-left.to + 2) (c.loop-left.left - 1) d h pos,
+      rw (← place, ← next, ← less) (putting_next a.numbers.now a.from 2 a.n a.out.now a.start c.requires.numbers_in_bounds (c.loop-left.at + 1) (c.loop-left.to + 2) (c.loop-left.left - 1) d h pos),
     ) in
     omega (arith, second)
 
@@ -241,10 +241,10 @@ overflow_add-at c =
     let a = c.args in
     let pos : 0 < c.loop-left.left = omega (arith, c.loop-left-test.true) in (
       c.loop-left.invariant.inside,
-      putting_room a.numbers.now a.from 2 a.n a.out.now a.start c.requires.numbers_value.1 c.loop-left.at c.loop-left.to c.loop-left.left c.loop-left.out c.loop-left.invariant pos,
-      putting_fits a.numbers.now a.from 2 a.n a.out.now a.start c.requires.numbers_value.1 c.loop-left.at c.loop-left.to c.loop-left.left c.loop-left.out c.loop-left.invariant pos,
-      putting_long a.numbers.now a.from 2 a.n a.out.now a.start c.requires.numbers_value.1 c.loop-left.at c.loop-left.to c.loop-left.left c.loop-left.out c.loop-left.invariant,
-      putting_next a.numbers.now a.from 2 a.n a.out.now a.start c.requires.numbers_value.1 c.loop-left.at c.loop-left.to c.loop-left.left c.loop-left.out c.loop-left.invariant pos,
+      putting_room a.numbers.now a.from 2 a.n a.out.now a.start c.requires.numbers_in_bounds c.loop-left.at c.loop-left.to c.loop-left.left c.loop-left.out c.loop-left.invariant pos,
+      putting_fits a.numbers.now a.from 2 a.n a.out.now a.start c.requires.numbers_in_bounds c.loop-left.at c.loop-left.to c.loop-left.left c.loop-left.out c.loop-left.invariant pos,
+      putting_long a.numbers.now a.from 2 a.n a.out.now a.start c.requires.numbers_in_bounds c.loop-left.at c.loop-left.to c.loop-left.left c.loop-left.out c.loop-left.invariant,
+      putting_next a.numbers.now a.from 2 a.n a.out.now a.start c.requires.numbers_in_bounds c.loop-left.at c.loop-left.to c.loop-left.left c.loop-left.out c.loop-left.invariant pos,
     ) in
     omega (arith, turn, c.loop-left-test.true)
 
@@ -260,10 +260,10 @@ offset_bounds-numbers-at-in-loop-left c =
     let a = c.args in
     let pos : 0 < c.loop-left.left = omega (arith, c.loop-left-test.true) in (
       c.loop-left.invariant.inside,
-      putting_room a.numbers.now a.from 2 a.n a.out.now a.start c.requires.numbers_value.1 c.loop-left.at c.loop-left.to c.loop-left.left c.loop-left.out c.loop-left.invariant pos,
-      putting_fits a.numbers.now a.from 2 a.n a.out.now a.start c.requires.numbers_value.1 c.loop-left.at c.loop-left.to c.loop-left.left c.loop-left.out c.loop-left.invariant pos,
-      putting_long a.numbers.now a.from 2 a.n a.out.now a.start c.requires.numbers_value.1 c.loop-left.at c.loop-left.to c.loop-left.left c.loop-left.out c.loop-left.invariant,
-      putting_next a.numbers.now a.from 2 a.n a.out.now a.start c.requires.numbers_value.1 c.loop-left.at c.loop-left.to c.loop-left.left c.loop-left.out c.loop-left.invariant pos,
+      putting_room a.numbers.now a.from 2 a.n a.out.now a.start c.requires.numbers_in_bounds c.loop-left.at c.loop-left.to c.loop-left.left c.loop-left.out c.loop-left.invariant pos,
+      putting_fits a.numbers.now a.from 2 a.n a.out.now a.start c.requires.numbers_in_bounds c.loop-left.at c.loop-left.to c.loop-left.left c.loop-left.out c.loop-left.invariant pos,
+      putting_long a.numbers.now a.from 2 a.n a.out.now a.start c.requires.numbers_in_bounds c.loop-left.at c.loop-left.to c.loop-left.left c.loop-left.out c.loop-left.invariant,
+      putting_next a.numbers.now a.from 2 a.n a.out.now a.start c.requires.numbers_in_bounds c.loop-left.at c.loop-left.to c.loop-left.left c.loop-left.out c.loop-left.invariant pos,
     ) in
     omega (arith, turn, c.loop-left-test.true)
 
@@ -279,10 +279,10 @@ bounds-numbers-at-in-loop-left c =
     let a = c.args in
     let pos : 0 < c.loop-left.left = omega (arith, c.loop-left-test.true) in (
       c.loop-left.invariant.inside,
-      putting_room a.numbers.now a.from 2 a.n a.out.now a.start c.requires.numbers_value.1 c.loop-left.at c.loop-left.to c.loop-left.left c.loop-left.out c.loop-left.invariant pos,
-      putting_fits a.numbers.now a.from 2 a.n a.out.now a.start c.requires.numbers_value.1 c.loop-left.at c.loop-left.to c.loop-left.left c.loop-left.out c.loop-left.invariant pos,
-      putting_long a.numbers.now a.from 2 a.n a.out.now a.start c.requires.numbers_value.1 c.loop-left.at c.loop-left.to c.loop-left.left c.loop-left.out c.loop-left.invariant,
-      putting_next a.numbers.now a.from 2 a.n a.out.now a.start c.requires.numbers_value.1 c.loop-left.at c.loop-left.to c.loop-left.left c.loop-left.out c.loop-left.invariant pos,
+      putting_room a.numbers.now a.from 2 a.n a.out.now a.start c.requires.numbers_in_bounds c.loop-left.at c.loop-left.to c.loop-left.left c.loop-left.out c.loop-left.invariant pos,
+      putting_fits a.numbers.now a.from 2 a.n a.out.now a.start c.requires.numbers_in_bounds c.loop-left.at c.loop-left.to c.loop-left.left c.loop-left.out c.loop-left.invariant pos,
+      putting_long a.numbers.now a.from 2 a.n a.out.now a.start c.requires.numbers_in_bounds c.loop-left.at c.loop-left.to c.loop-left.left c.loop-left.out c.loop-left.invariant,
+      putting_next a.numbers.now a.from 2 a.n a.out.now a.start c.requires.numbers_in_bounds c.loop-left.at c.loop-left.to c.loop-left.left c.loop-left.out c.loop-left.invariant pos,
     ) in
     omega (arith, turn, c.loop-left-test.true)
 
@@ -298,31 +298,31 @@ overflow_cast-numbers-in-loop-left c =
     let a = c.args in
     let pos : 0 < c.loop-left.left = omega (arith, c.loop-left-test.true) in (
       c.loop-left.invariant.inside,
-      putting_room a.numbers.now a.from 2 a.n a.out.now a.start c.requires.numbers_value.1 c.loop-left.at c.loop-left.to c.loop-left.left c.loop-left.out c.loop-left.invariant pos,
-      putting_fits a.numbers.now a.from 2 a.n a.out.now a.start c.requires.numbers_value.1 c.loop-left.at c.loop-left.to c.loop-left.left c.loop-left.out c.loop-left.invariant pos,
-      putting_long a.numbers.now a.from 2 a.n a.out.now a.start c.requires.numbers_value.1 c.loop-left.at c.loop-left.to c.loop-left.left c.loop-left.out c.loop-left.invariant,
-      putting_next a.numbers.now a.from 2 a.n a.out.now a.start c.requires.numbers_value.1 c.loop-left.at c.loop-left.to c.loop-left.left c.loop-left.out c.loop-left.invariant pos,
+      putting_room a.numbers.now a.from 2 a.n a.out.now a.start c.requires.numbers_in_bounds c.loop-left.at c.loop-left.to c.loop-left.left c.loop-left.out c.loop-left.invariant pos,
+      putting_fits a.numbers.now a.from 2 a.n a.out.now a.start c.requires.numbers_in_bounds c.loop-left.at c.loop-left.to c.loop-left.left c.loop-left.out c.loop-left.invariant pos,
+      putting_long a.numbers.now a.from 2 a.n a.out.now a.start c.requires.numbers_in_bounds c.loop-left.at c.loop-left.to c.loop-left.left c.loop-left.out c.loop-left.invariant,
+      putting_next a.numbers.now a.from 2 a.n a.out.now a.start c.requires.numbers_in_bounds c.loop-left.at c.loop-left.to c.loop-left.left c.loop-left.out c.loop-left.invariant pos,
     ) in
     let second :
     let a = c.args in
-    let d = put_mid c.loop-left.to (c.loop-left.to + 2 - c.loop-left.to) c.loop-left.out c.put_u16.new.0 in
+    let d = put_mid c.loop-left.to (c.loop-left.to + 2 - c.loop-left.to) c.loop-left.out c.put_u16.new.out in
     (c.loop-left.to + 4 ≤ length d)
     × (get_or a.numbers.now (c.loop-left.at + 1) 0 < 256 ^ 2)
     × Putting a.numbers.now a.from 2 a.n a.out.now a.start (c.loop-left.at + 2) (c.loop-left.to + 4) (c.loop-left.left - 2) (laid d (c.loop-left.to + 2) (to_be 2 (get_or a.numbers.now (c.loop-left.at + 1) 0))) =
     let a = c.args in
-    let d = put_mid c.loop-left.to (c.loop-left.to + 2 - c.loop-left.to) c.loop-left.out c.put_u16.new.0 in
+    let d = put_mid c.loop-left.to (c.loop-left.to + 2 - c.loop-left.to) c.loop-left.out c.put_u16.new.out in
     let first = turn in
     let put = part_put c.loop-left.out c.loop-left.to _ 2 _ _ c.put_u16.ensures refl first.1 in
     let h : Putting a.numbers.now a.from 2 a.n a.out.now a.start (c.loop-left.at + 1) (c.loop-left.to + 2) (c.loop-left.left - 1) d =
     subst (λ (x : List ℕ). Putting a.numbers.now a.from 2 a.n a.out.now a.start (c.loop-left.at + 1) (c.loop-left.to + 2) (c.loop-left.left - 1) x) (sym put) first.4 in
     let pos : 0 < c.loop-left.left - 1 = omega (arith, c.loop-left-test.true) in
-    let room = putting_room a.numbers.now a.from 2 a.n a.out.now a.start c.requires.numbers_value.1 (c.loop-left.at + 1) (c.loop-left.to + 2) (c.loop-left.left - 1) d h pos in
+    let room = putting_room a.numbers.now a.from 2 a.n a.out.now a.start c.requires.numbers_in_bounds (c.loop-left.at + 1) (c.loop-left.to + 2) (c.loop-left.left - 1) d h pos in
     let place : c.loop-left.at + 1 + 1 ≡ c.loop-left.at + 2 = omega arith in
     let next : c.loop-left.to + 2 + 2 ≡ c.loop-left.to + 4 = omega arith in
     let less : c.loop-left.left - 1 - 1 ≡ c.loop-left.left - 2 = omega arith in (
       omega (arith, room),
-      putting_fits a.numbers.now a.from 2 a.n a.out.now a.start c.requires.numbers_value.1 (c.loop-left.at + 1) (c.loop-left.to + 2) (c.loop-left.left - 1) d h pos,
-      rw (← place, ← next, ← less) (putting_next a.numbers.now a.from 2 a.n a.out.now a.start c.requires.numbers_value.1 (c.loop-left.at + 1) (c.loop-left.to + 2) (c.loop-left.left - 1) d h pos),
+      putting_fits a.numbers.now a.from 2 a.n a.out.now a.start c.requires.numbers_in_bounds (c.loop-left.at + 1) (c.loop-left.to + 2) (c.loop-left.left - 1) d h pos,
+      rw (← place, ← next, ← less) (putting_next a.numbers.now a.from 2 a.n a.out.now a.start c.requires.numbers_in_bounds (c.loop-left.at + 1) (c.loop-left.to + 2) (c.loop-left.left - 1) d h pos),
     ) in
     omega (arith, second)
 
@@ -338,10 +338,10 @@ overflow_add-at-in-loop-left c =
     let a = c.args in
     let pos : 0 < c.loop-left.left = omega (arith, c.loop-left-test.true) in (
       c.loop-left.invariant.inside,
-      putting_room a.numbers.now a.from 2 a.n a.out.now a.start c.requires.numbers_value.1 c.loop-left.at c.loop-left.to c.loop-left.left c.loop-left.out c.loop-left.invariant pos,
-      putting_fits a.numbers.now a.from 2 a.n a.out.now a.start c.requires.numbers_value.1 c.loop-left.at c.loop-left.to c.loop-left.left c.loop-left.out c.loop-left.invariant pos,
-      putting_long a.numbers.now a.from 2 a.n a.out.now a.start c.requires.numbers_value.1 c.loop-left.at c.loop-left.to c.loop-left.left c.loop-left.out c.loop-left.invariant,
-      putting_next a.numbers.now a.from 2 a.n a.out.now a.start c.requires.numbers_value.1 c.loop-left.at c.loop-left.to c.loop-left.left c.loop-left.out c.loop-left.invariant pos,
+      putting_room a.numbers.now a.from 2 a.n a.out.now a.start c.requires.numbers_in_bounds c.loop-left.at c.loop-left.to c.loop-left.left c.loop-left.out c.loop-left.invariant pos,
+      putting_fits a.numbers.now a.from 2 a.n a.out.now a.start c.requires.numbers_in_bounds c.loop-left.at c.loop-left.to c.loop-left.left c.loop-left.out c.loop-left.invariant pos,
+      putting_long a.numbers.now a.from 2 a.n a.out.now a.start c.requires.numbers_in_bounds c.loop-left.at c.loop-left.to c.loop-left.left c.loop-left.out c.loop-left.invariant,
+      putting_next a.numbers.now a.from 2 a.n a.out.now a.start c.requires.numbers_in_bounds c.loop-left.at c.loop-left.to c.loop-left.left c.loop-left.out c.loop-left.invariant pos,
     ) in
     omega (arith, turn, c.loop-left-test.true)
 
@@ -357,34 +357,34 @@ loop-left-preserved c =
     let a = c.args in
     let pos : 0 < c.loop-left.left = omega (arith, c.loop-left-test.true) in (
       c.loop-left.invariant.inside,
-      putting_room a.numbers.now a.from 2 a.n a.out.now a.start c.requires.numbers_value.1 c.loop-left.at c.loop-left.to c.loop-left.left c.loop-left.out c.loop-left.invariant pos,
-      putting_fits a.numbers.now a.from 2 a.n a.out.now a.start c.requires.numbers_value.1 c.loop-left.at c.loop-left.to c.loop-left.left c.loop-left.out c.loop-left.invariant pos,
-      putting_long a.numbers.now a.from 2 a.n a.out.now a.start c.requires.numbers_value.1 c.loop-left.at c.loop-left.to c.loop-left.left c.loop-left.out c.loop-left.invariant,
-      putting_next a.numbers.now a.from 2 a.n a.out.now a.start c.requires.numbers_value.1 c.loop-left.at c.loop-left.to c.loop-left.left c.loop-left.out c.loop-left.invariant pos,
+      putting_room a.numbers.now a.from 2 a.n a.out.now a.start c.requires.numbers_in_bounds c.loop-left.at c.loop-left.to c.loop-left.left c.loop-left.out c.loop-left.invariant pos,
+      putting_fits a.numbers.now a.from 2 a.n a.out.now a.start c.requires.numbers_in_bounds c.loop-left.at c.loop-left.to c.loop-left.left c.loop-left.out c.loop-left.invariant pos,
+      putting_long a.numbers.now a.from 2 a.n a.out.now a.start c.requires.numbers_in_bounds c.loop-left.at c.loop-left.to c.loop-left.left c.loop-left.out c.loop-left.invariant,
+      putting_next a.numbers.now a.from 2 a.n a.out.now a.start c.requires.numbers_in_bounds c.loop-left.at c.loop-left.to c.loop-left.left c.loop-left.out c.loop-left.invariant pos,
     ) in
     let second :
     let a = c.args in
-    let d = put_mid c.loop-left.to (c.loop-left.to + 2 - c.loop-left.to) c.loop-left.out c.put_u16.new.0 in
+    let d = put_mid c.loop-left.to (c.loop-left.to + 2 - c.loop-left.to) c.loop-left.out c.put_u16.new.out in
     (c.loop-left.to + 4 ≤ length d)
     × (get_or a.numbers.now (c.loop-left.at + 1) 0 < 256 ^ 2)
     × Putting a.numbers.now a.from 2 a.n a.out.now a.start (c.loop-left.at + 2) (c.loop-left.to + 4) (c.loop-left.left - 2) (laid d (c.loop-left.to + 2) (to_be 2 (get_or a.numbers.now (c.loop-left.at + 1) 0))) =
     let a = c.args in
-    let d = put_mid c.loop-left.to (c.loop-left.to + 2 - c.loop-left.to) c.loop-left.out c.put_u16.new.0 in
+    let d = put_mid c.loop-left.to (c.loop-left.to + 2 - c.loop-left.to) c.loop-left.out c.put_u16.new.out in
     let first = turn in
     let put = part_put c.loop-left.out c.loop-left.to _ 2 _ _ c.put_u16.ensures refl first.1 in
     let h : Putting a.numbers.now a.from 2 a.n a.out.now a.start (c.loop-left.at + 1) (c.loop-left.to + 2) (c.loop-left.left - 1) d =
     subst (λ (x : List ℕ). Putting a.numbers.now a.from 2 a.n a.out.now a.start (c.loop-left.at + 1) (c.loop-left.to + 2) (c.loop-left.left - 1) x) (sym put) first.4 in
     let pos : 0 < c.loop-left.left - 1 = omega (arith, c.loop-left-test.true) in
-    let room = putting_room a.numbers.now a.from 2 a.n a.out.now a.start c.requires.numbers_value.1 (c.loop-left.at + 1) (c.loop-left.to + 2) (c.loop-left.left - 1) d h pos in
+    let room = putting_room a.numbers.now a.from 2 a.n a.out.now a.start c.requires.numbers_in_bounds (c.loop-left.at + 1) (c.loop-left.to + 2) (c.loop-left.left - 1) d h pos in
     let place : c.loop-left.at + 1 + 1 ≡ c.loop-left.at + 2 = omega arith in
     let next : c.loop-left.to + 2 + 2 ≡ c.loop-left.to + 4 = omega arith in
     let less : c.loop-left.left - 1 - 1 ≡ c.loop-left.left - 2 = omega arith in (
       omega (arith, room),
-      putting_fits a.numbers.now a.from 2 a.n a.out.now a.start c.requires.numbers_value.1 (c.loop-left.at + 1) (c.loop-left.to + 2) (c.loop-left.left - 1) d h pos,
-      rw (← place, ← next, ← less) (putting_next a.numbers.now a.from 2 a.n a.out.now a.start c.requires.numbers_value.1 (c.loop-left.at + 1) (c.loop-left.to + 2) (c.loop-left.left - 1) d h pos),
+      putting_fits a.numbers.now a.from 2 a.n a.out.now a.start c.requires.numbers_in_bounds (c.loop-left.at + 1) (c.loop-left.to + 2) (c.loop-left.left - 1) d h pos,
+      rw (← place, ← next, ← less) (putting_next a.numbers.now a.from 2 a.n a.out.now a.start c.requires.numbers_in_bounds (c.loop-left.at + 1) (c.loop-left.to + 2) (c.loop-left.left - 1) d h pos),
     ) in
     let a = c.args in
-    let d = put_mid c.loop-left.to (c.loop-left.to + 2 - c.loop-left.to) c.loop-left.out c.put_u16.new.0 in
+    let d = put_mid c.loop-left.to (c.loop-left.to + 2 - c.loop-left.to) c.loop-left.out c.put_u16.new.out in
     let h = second in
     subst (λ (x : List ℕ). Putting a.numbers.now a.from 2 a.n a.out.now a.start (c.loop-left.at + 2) (c.loop-left.to + 4) (c.loop-left.left - 2) x)
     (sym (part_put d (c.loop-left.to + 2) _ 2 _ _ c.put_u16-in-loop-left.ensures (omega arith) h.0)) h.2
@@ -401,12 +401,12 @@ overflow_add-end-then-left-eq1 c =
     × (length c.loop-left.out ≡ length a.out.now) =
     let a = c.args in
     let pos : 0 < c.loop-left.left = omega (arith, c.if-left-eq1.true) in
-    let h = putting_next a.numbers.now a.from 2 a.n a.out.now a.start c.requires.numbers_value.1 c.loop-left.at c.loop-left.to c.loop-left.left c.loop-left.out c.loop-left.invariant pos in (
-      putting_room a.numbers.now a.from 2 a.n a.out.now a.start c.requires.numbers_value.1 c.loop-left.at c.loop-left.to c.loop-left.left c.loop-left.out c.loop-left.invariant pos,
-      putting_fits a.numbers.now a.from 2 a.n a.out.now a.start c.requires.numbers_value.1 c.loop-left.at c.loop-left.to c.loop-left.left c.loop-left.out c.loop-left.invariant pos,
-      putting_long a.numbers.now a.from 2 a.n a.out.now a.start c.requires.numbers_value.1 (c.loop-left.at + 1) (c.loop-left.to + 2) (c.loop-left.left - 1) (laid c.loop-left.out c.loop-left.to (to_be 2 (get_or a.numbers.now c.loop-left.at 0))) h,
-      putting_done a.numbers.now a.from 2 a.n a.out.now a.start c.requires.numbers_value.1 (c.loop-left.at + 1) (c.loop-left.to + 2) (c.loop-left.left - 1) (laid c.loop-left.out c.loop-left.to (to_be 2 (get_or a.numbers.now c.loop-left.at 0))) h (omega (arith, c.if-left-eq1.true)),
-      putting_long a.numbers.now a.from 2 a.n a.out.now a.start c.requires.numbers_value.1 c.loop-left.at c.loop-left.to c.loop-left.left c.loop-left.out c.loop-left.invariant,
+    let h = putting_next a.numbers.now a.from 2 a.n a.out.now a.start c.requires.numbers_in_bounds c.loop-left.at c.loop-left.to c.loop-left.left c.loop-left.out c.loop-left.invariant pos in (
+      putting_room a.numbers.now a.from 2 a.n a.out.now a.start c.requires.numbers_in_bounds c.loop-left.at c.loop-left.to c.loop-left.left c.loop-left.out c.loop-left.invariant pos,
+      putting_fits a.numbers.now a.from 2 a.n a.out.now a.start c.requires.numbers_in_bounds c.loop-left.at c.loop-left.to c.loop-left.left c.loop-left.out c.loop-left.invariant pos,
+      putting_long a.numbers.now a.from 2 a.n a.out.now a.start c.requires.numbers_in_bounds (c.loop-left.at + 1) (c.loop-left.to + 2) (c.loop-left.left - 1) (laid c.loop-left.out c.loop-left.to (to_be 2 (get_or a.numbers.now c.loop-left.at 0))) h,
+      putting_done a.numbers.now a.from 2 a.n a.out.now a.start c.requires.numbers_in_bounds (c.loop-left.at + 1) (c.loop-left.to + 2) (c.loop-left.left - 1) (laid c.loop-left.out c.loop-left.to (to_be 2 (get_or a.numbers.now c.loop-left.at 0))) h (omega (arith, c.if-left-eq1.true)),
+      putting_long a.numbers.now a.from 2 a.n a.out.now a.start c.requires.numbers_in_bounds c.loop-left.at c.loop-left.to c.loop-left.left c.loop-left.out c.loop-left.invariant,
     ) in
     omega (arith, last)
 
@@ -422,12 +422,12 @@ slice_bounds-put_u16-start-then-left-eq1 c =
     × (length c.loop-left.out ≡ length a.out.now) =
     let a = c.args in
     let pos : 0 < c.loop-left.left = omega (arith, c.if-left-eq1.true) in
-    let h = putting_next a.numbers.now a.from 2 a.n a.out.now a.start c.requires.numbers_value.1 c.loop-left.at c.loop-left.to c.loop-left.left c.loop-left.out c.loop-left.invariant pos in (
-      putting_room a.numbers.now a.from 2 a.n a.out.now a.start c.requires.numbers_value.1 c.loop-left.at c.loop-left.to c.loop-left.left c.loop-left.out c.loop-left.invariant pos,
-      putting_fits a.numbers.now a.from 2 a.n a.out.now a.start c.requires.numbers_value.1 c.loop-left.at c.loop-left.to c.loop-left.left c.loop-left.out c.loop-left.invariant pos,
-      putting_long a.numbers.now a.from 2 a.n a.out.now a.start c.requires.numbers_value.1 (c.loop-left.at + 1) (c.loop-left.to + 2) (c.loop-left.left - 1) (laid c.loop-left.out c.loop-left.to (to_be 2 (get_or a.numbers.now c.loop-left.at 0))) h,
-      putting_done a.numbers.now a.from 2 a.n a.out.now a.start c.requires.numbers_value.1 (c.loop-left.at + 1) (c.loop-left.to + 2) (c.loop-left.left - 1) (laid c.loop-left.out c.loop-left.to (to_be 2 (get_or a.numbers.now c.loop-left.at 0))) h (omega (arith, c.if-left-eq1.true)),
-      putting_long a.numbers.now a.from 2 a.n a.out.now a.start c.requires.numbers_value.1 c.loop-left.at c.loop-left.to c.loop-left.left c.loop-left.out c.loop-left.invariant,
+    let h = putting_next a.numbers.now a.from 2 a.n a.out.now a.start c.requires.numbers_in_bounds c.loop-left.at c.loop-left.to c.loop-left.left c.loop-left.out c.loop-left.invariant pos in (
+      putting_room a.numbers.now a.from 2 a.n a.out.now a.start c.requires.numbers_in_bounds c.loop-left.at c.loop-left.to c.loop-left.left c.loop-left.out c.loop-left.invariant pos,
+      putting_fits a.numbers.now a.from 2 a.n a.out.now a.start c.requires.numbers_in_bounds c.loop-left.at c.loop-left.to c.loop-left.left c.loop-left.out c.loop-left.invariant pos,
+      putting_long a.numbers.now a.from 2 a.n a.out.now a.start c.requires.numbers_in_bounds (c.loop-left.at + 1) (c.loop-left.to + 2) (c.loop-left.left - 1) (laid c.loop-left.out c.loop-left.to (to_be 2 (get_or a.numbers.now c.loop-left.at 0))) h,
+      putting_done a.numbers.now a.from 2 a.n a.out.now a.start c.requires.numbers_in_bounds (c.loop-left.at + 1) (c.loop-left.to + 2) (c.loop-left.left - 1) (laid c.loop-left.out c.loop-left.to (to_be 2 (get_or a.numbers.now c.loop-left.at 0))) h (omega (arith, c.if-left-eq1.true)),
+      putting_long a.numbers.now a.from 2 a.n a.out.now a.start c.requires.numbers_in_bounds c.loop-left.at c.loop-left.to c.loop-left.left c.loop-left.out c.loop-left.invariant,
     ) in
     omega (arith, last)
 
@@ -443,12 +443,12 @@ slice_bounds-put_u16-end-then-left-eq1 c =
     × (length c.loop-left.out ≡ length a.out.now) =
     let a = c.args in
     let pos : 0 < c.loop-left.left = omega (arith, c.if-left-eq1.true) in
-    let h = putting_next a.numbers.now a.from 2 a.n a.out.now a.start c.requires.numbers_value.1 c.loop-left.at c.loop-left.to c.loop-left.left c.loop-left.out c.loop-left.invariant pos in (
-      putting_room a.numbers.now a.from 2 a.n a.out.now a.start c.requires.numbers_value.1 c.loop-left.at c.loop-left.to c.loop-left.left c.loop-left.out c.loop-left.invariant pos,
-      putting_fits a.numbers.now a.from 2 a.n a.out.now a.start c.requires.numbers_value.1 c.loop-left.at c.loop-left.to c.loop-left.left c.loop-left.out c.loop-left.invariant pos,
-      putting_long a.numbers.now a.from 2 a.n a.out.now a.start c.requires.numbers_value.1 (c.loop-left.at + 1) (c.loop-left.to + 2) (c.loop-left.left - 1) (laid c.loop-left.out c.loop-left.to (to_be 2 (get_or a.numbers.now c.loop-left.at 0))) h,
-      putting_done a.numbers.now a.from 2 a.n a.out.now a.start c.requires.numbers_value.1 (c.loop-left.at + 1) (c.loop-left.to + 2) (c.loop-left.left - 1) (laid c.loop-left.out c.loop-left.to (to_be 2 (get_or a.numbers.now c.loop-left.at 0))) h (omega (arith, c.if-left-eq1.true)),
-      putting_long a.numbers.now a.from 2 a.n a.out.now a.start c.requires.numbers_value.1 c.loop-left.at c.loop-left.to c.loop-left.left c.loop-left.out c.loop-left.invariant,
+    let h = putting_next a.numbers.now a.from 2 a.n a.out.now a.start c.requires.numbers_in_bounds c.loop-left.at c.loop-left.to c.loop-left.left c.loop-left.out c.loop-left.invariant pos in (
+      putting_room a.numbers.now a.from 2 a.n a.out.now a.start c.requires.numbers_in_bounds c.loop-left.at c.loop-left.to c.loop-left.left c.loop-left.out c.loop-left.invariant pos,
+      putting_fits a.numbers.now a.from 2 a.n a.out.now a.start c.requires.numbers_in_bounds c.loop-left.at c.loop-left.to c.loop-left.left c.loop-left.out c.loop-left.invariant pos,
+      putting_long a.numbers.now a.from 2 a.n a.out.now a.start c.requires.numbers_in_bounds (c.loop-left.at + 1) (c.loop-left.to + 2) (c.loop-left.left - 1) (laid c.loop-left.out c.loop-left.to (to_be 2 (get_or a.numbers.now c.loop-left.at 0))) h,
+      putting_done a.numbers.now a.from 2 a.n a.out.now a.start c.requires.numbers_in_bounds (c.loop-left.at + 1) (c.loop-left.to + 2) (c.loop-left.left - 1) (laid c.loop-left.out c.loop-left.to (to_be 2 (get_or a.numbers.now c.loop-left.at 0))) h (omega (arith, c.if-left-eq1.true)),
+      putting_long a.numbers.now a.from 2 a.n a.out.now a.start c.requires.numbers_in_bounds c.loop-left.at c.loop-left.to c.loop-left.left c.loop-left.out c.loop-left.invariant,
     ) in
     omega (arith, last)
 
@@ -470,12 +470,12 @@ overflow_cast-numbers-then-left-eq1 c =
     × (length c.loop-left.out ≡ length a.out.now) =
     let a = c.args in
     let pos : 0 < c.loop-left.left = omega (arith, c.if-left-eq1.true) in
-    let h = putting_next a.numbers.now a.from 2 a.n a.out.now a.start c.requires.numbers_value.1 c.loop-left.at c.loop-left.to c.loop-left.left c.loop-left.out c.loop-left.invariant pos in (
-      putting_room a.numbers.now a.from 2 a.n a.out.now a.start c.requires.numbers_value.1 c.loop-left.at c.loop-left.to c.loop-left.left c.loop-left.out c.loop-left.invariant pos,
-      putting_fits a.numbers.now a.from 2 a.n a.out.now a.start c.requires.numbers_value.1 c.loop-left.at c.loop-left.to c.loop-left.left c.loop-left.out c.loop-left.invariant pos,
-      putting_long a.numbers.now a.from 2 a.n a.out.now a.start c.requires.numbers_value.1 (c.loop-left.at + 1) (c.loop-left.to + 2) (c.loop-left.left - 1) (laid c.loop-left.out c.loop-left.to (to_be 2 (get_or a.numbers.now c.loop-left.at 0))) h,
-      putting_done a.numbers.now a.from 2 a.n a.out.now a.start c.requires.numbers_value.1 (c.loop-left.at + 1) (c.loop-left.to + 2) (c.loop-left.left - 1) (laid c.loop-left.out c.loop-left.to (to_be 2 (get_or a.numbers.now c.loop-left.at 0))) h (omega (arith, c.if-left-eq1.true)),
-      putting_long a.numbers.now a.from 2 a.n a.out.now a.start c.requires.numbers_value.1 c.loop-left.at c.loop-left.to c.loop-left.left c.loop-left.out c.loop-left.invariant,
+    let h = putting_next a.numbers.now a.from 2 a.n a.out.now a.start c.requires.numbers_in_bounds c.loop-left.at c.loop-left.to c.loop-left.left c.loop-left.out c.loop-left.invariant pos in (
+      putting_room a.numbers.now a.from 2 a.n a.out.now a.start c.requires.numbers_in_bounds c.loop-left.at c.loop-left.to c.loop-left.left c.loop-left.out c.loop-left.invariant pos,
+      putting_fits a.numbers.now a.from 2 a.n a.out.now a.start c.requires.numbers_in_bounds c.loop-left.at c.loop-left.to c.loop-left.left c.loop-left.out c.loop-left.invariant pos,
+      putting_long a.numbers.now a.from 2 a.n a.out.now a.start c.requires.numbers_in_bounds (c.loop-left.at + 1) (c.loop-left.to + 2) (c.loop-left.left - 1) (laid c.loop-left.out c.loop-left.to (to_be 2 (get_or a.numbers.now c.loop-left.at 0))) h,
+      putting_done a.numbers.now a.from 2 a.n a.out.now a.start c.requires.numbers_in_bounds (c.loop-left.at + 1) (c.loop-left.to + 2) (c.loop-left.left - 1) (laid c.loop-left.out c.loop-left.to (to_be 2 (get_or a.numbers.now c.loop-left.at 0))) h (omega (arith, c.if-left-eq1.true)),
+      putting_long a.numbers.now a.from 2 a.n a.out.now a.start c.requires.numbers_in_bounds c.loop-left.at c.loop-left.to c.loop-left.left c.loop-left.out c.loop-left.invariant,
     ) in
     omega (arith, last)
 
@@ -491,16 +491,16 @@ shape_of-out-then-left-eq1 c =
     × (length c.loop-left.out ≡ length a.out.now) =
     let a = c.args in
     let pos : 0 < c.loop-left.left = omega (arith, c.if-left-eq1.true) in
-    let h = putting_next a.numbers.now a.from 2 a.n a.out.now a.start c.requires.numbers_value.1 c.loop-left.at c.loop-left.to c.loop-left.left c.loop-left.out c.loop-left.invariant pos in (
-      putting_room a.numbers.now a.from 2 a.n a.out.now a.start c.requires.numbers_value.1 c.loop-left.at c.loop-left.to c.loop-left.left c.loop-left.out c.loop-left.invariant pos,
-      putting_fits a.numbers.now a.from 2 a.n a.out.now a.start c.requires.numbers_value.1 c.loop-left.at c.loop-left.to c.loop-left.left c.loop-left.out c.loop-left.invariant pos,
-      putting_long a.numbers.now a.from 2 a.n a.out.now a.start c.requires.numbers_value.1 (c.loop-left.at + 1) (c.loop-left.to + 2) (c.loop-left.left - 1) (laid c.loop-left.out c.loop-left.to (to_be 2 (get_or a.numbers.now c.loop-left.at 0))) h,
-      putting_done a.numbers.now a.from 2 a.n a.out.now a.start c.requires.numbers_value.1 (c.loop-left.at + 1) (c.loop-left.to + 2) (c.loop-left.left - 1) (laid c.loop-left.out c.loop-left.to (to_be 2 (get_or a.numbers.now c.loop-left.at 0))) h (omega (arith, c.if-left-eq1.true)),
-      putting_long a.numbers.now a.from 2 a.n a.out.now a.start c.requires.numbers_value.1 c.loop-left.at c.loop-left.to c.loop-left.left c.loop-left.out c.loop-left.invariant,
+    let h = putting_next a.numbers.now a.from 2 a.n a.out.now a.start c.requires.numbers_in_bounds c.loop-left.at c.loop-left.to c.loop-left.left c.loop-left.out c.loop-left.invariant pos in (
+      putting_room a.numbers.now a.from 2 a.n a.out.now a.start c.requires.numbers_in_bounds c.loop-left.at c.loop-left.to c.loop-left.left c.loop-left.out c.loop-left.invariant pos,
+      putting_fits a.numbers.now a.from 2 a.n a.out.now a.start c.requires.numbers_in_bounds c.loop-left.at c.loop-left.to c.loop-left.left c.loop-left.out c.loop-left.invariant pos,
+      putting_long a.numbers.now a.from 2 a.n a.out.now a.start c.requires.numbers_in_bounds (c.loop-left.at + 1) (c.loop-left.to + 2) (c.loop-left.left - 1) (laid c.loop-left.out c.loop-left.to (to_be 2 (get_or a.numbers.now c.loop-left.at 0))) h,
+      putting_done a.numbers.now a.from 2 a.n a.out.now a.start c.requires.numbers_in_bounds (c.loop-left.at + 1) (c.loop-left.to + 2) (c.loop-left.left - 1) (laid c.loop-left.out c.loop-left.to (to_be 2 (get_or a.numbers.now c.loop-left.at 0))) h (omega (arith, c.if-left-eq1.true)),
+      putting_long a.numbers.now a.from 2 a.n a.out.now a.start c.requires.numbers_in_bounds c.loop-left.at c.loop-left.to c.loop-left.left c.loop-left.out c.loop-left.invariant,
     ) in
     let put :
     let a = c.args in
-    put_mid c.loop-left.to (c.loop-left.to + 2 - c.loop-left.to) c.loop-left.out c.put_u16-then-left-eq1.new.0 ≡ laid c.loop-left.out c.loop-left.to (to_be 2 (get_or a.numbers.now c.loop-left.at 0)) =
+    put_mid c.loop-left.to (c.loop-left.to + 2 - c.loop-left.to) c.loop-left.out c.put_u16-then-left-eq1.new.out ≡ laid c.loop-left.out c.loop-left.to (to_be 2 (get_or a.numbers.now c.loop-left.at 0)) =
     part_put c.loop-left.out c.loop-left.to _ 2 _ _ c.put_u16-then-left-eq1.ensures refl last.0 in
     ap length put ∙ last.2
 
@@ -516,25 +516,25 @@ returns-then-left-eq1 c =
     × (length c.loop-left.out ≡ length a.out.now) =
     let a = c.args in
     let pos : 0 < c.loop-left.left = omega (arith, c.if-left-eq1.true) in
-    let h = putting_next a.numbers.now a.from 2 a.n a.out.now a.start c.requires.numbers_value.1 c.loop-left.at c.loop-left.to c.loop-left.left c.loop-left.out c.loop-left.invariant pos in (
-      putting_room a.numbers.now a.from 2 a.n a.out.now a.start c.requires.numbers_value.1 c.loop-left.at c.loop-left.to c.loop-left.left c.loop-left.out c.loop-left.invariant pos,
-      putting_fits a.numbers.now a.from 2 a.n a.out.now a.start c.requires.numbers_value.1 c.loop-left.at c.loop-left.to c.loop-left.left c.loop-left.out c.loop-left.invariant pos,
-      putting_long a.numbers.now a.from 2 a.n a.out.now a.start c.requires.numbers_value.1 (c.loop-left.at + 1) (c.loop-left.to + 2) (c.loop-left.left - 1) (laid c.loop-left.out c.loop-left.to (to_be 2 (get_or a.numbers.now c.loop-left.at 0))) h,
-      putting_done a.numbers.now a.from 2 a.n a.out.now a.start c.requires.numbers_value.1 (c.loop-left.at + 1) (c.loop-left.to + 2) (c.loop-left.left - 1) (laid c.loop-left.out c.loop-left.to (to_be 2 (get_or a.numbers.now c.loop-left.at 0))) h (omega (arith, c.if-left-eq1.true)),
-      putting_long a.numbers.now a.from 2 a.n a.out.now a.start c.requires.numbers_value.1 c.loop-left.at c.loop-left.to c.loop-left.left c.loop-left.out c.loop-left.invariant,
+    let h = putting_next a.numbers.now a.from 2 a.n a.out.now a.start c.requires.numbers_in_bounds c.loop-left.at c.loop-left.to c.loop-left.left c.loop-left.out c.loop-left.invariant pos in (
+      putting_room a.numbers.now a.from 2 a.n a.out.now a.start c.requires.numbers_in_bounds c.loop-left.at c.loop-left.to c.loop-left.left c.loop-left.out c.loop-left.invariant pos,
+      putting_fits a.numbers.now a.from 2 a.n a.out.now a.start c.requires.numbers_in_bounds c.loop-left.at c.loop-left.to c.loop-left.left c.loop-left.out c.loop-left.invariant pos,
+      putting_long a.numbers.now a.from 2 a.n a.out.now a.start c.requires.numbers_in_bounds (c.loop-left.at + 1) (c.loop-left.to + 2) (c.loop-left.left - 1) (laid c.loop-left.out c.loop-left.to (to_be 2 (get_or a.numbers.now c.loop-left.at 0))) h,
+      putting_done a.numbers.now a.from 2 a.n a.out.now a.start c.requires.numbers_in_bounds (c.loop-left.at + 1) (c.loop-left.to + 2) (c.loop-left.left - 1) (laid c.loop-left.out c.loop-left.to (to_be 2 (get_or a.numbers.now c.loop-left.at 0))) h (omega (arith, c.if-left-eq1.true)),
+      putting_long a.numbers.now a.from 2 a.n a.out.now a.start c.requires.numbers_in_bounds c.loop-left.at c.loop-left.to c.loop-left.left c.loop-left.out c.loop-left.invariant,
     ) in
     let put :
     let a = c.args in
-    put_mid c.loop-left.to (c.loop-left.to + 2 - c.loop-left.to) c.loop-left.out c.put_u16-then-left-eq1.new.0 ≡ laid c.loop-left.out c.loop-left.to (to_be 2 (get_or a.numbers.now c.loop-left.at 0)) =
+    put_mid c.loop-left.to (c.loop-left.to + 2 - c.loop-left.to) c.loop-left.out c.put_u16-then-left-eq1.new.out ≡ laid c.loop-left.out c.loop-left.to (to_be 2 (get_or a.numbers.now c.loop-left.at 0)) =
     part_put c.loop-left.out c.loop-left.to _ 2 _ _ c.put_u16-then-left-eq1.ensures refl last.0 in
     put ∙ last.3
 
 pub shape_of-out-else-left-eq1 : goal.shape_of-out-else-left-eq1
 shape_of-out-else-left-eq1 c =
     let a = c.args in
-    putting_long a.numbers.now a.from 2 a.n a.out.now a.start c.requires.numbers_value.1 c.loop-left.at c.loop-left.to c.loop-left.left c.loop-left.out c.loop-left.invariant
+    putting_long a.numbers.now a.from 2 a.n a.out.now a.start c.requires.numbers_in_bounds c.loop-left.at c.loop-left.to c.loop-left.left c.loop-left.out c.loop-left.invariant
 
 pub returns-else-left-eq1 : goal.returns-else-left-eq1
 returns-else-left-eq1 c =
     let a = c.args in
-    putting_done a.numbers.now a.from 2 a.n a.out.now a.start c.requires.numbers_value.1 c.loop-left.at c.loop-left.to c.loop-left.left c.loop-left.out c.loop-left.invariant (omega (arith, c.loop-left-test.false, c.if-left-eq1.false))
+    putting_done a.numbers.now a.from 2 a.n a.out.now a.start c.requires.numbers_in_bounds c.loop-left.at c.loop-left.to c.loop-left.left c.loop-left.out c.loop-left.invariant (omega (arith, c.loop-left-test.false, c.if-left-eq1.false))

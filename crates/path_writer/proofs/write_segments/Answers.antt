@@ -1,6 +1,6 @@
 use Rattle.paths.proofs.SegmentLaws.{type_known}
 use native.Mathlib.Omega.{arith}
-use Prim.Native.Nat.{ℕ, ◌+◌, ◌-◌, ◌≤◌, ◌<◌}
+use Prim.Native.Nat.{ℕ, ◌+◌, ◌≤◌, ◌<◌}
 use mathlib.Core.Path.{◌≡◌, ap, ◌∙◌}
 use mathlib.Core.List.{List, [], ◌∷◌}
 use lib.ListN.{length, get_or}
@@ -15,14 +15,14 @@ use Rattle.path_writer.proofs.write_segments.Goals as goal
 pub loop-at-init : goal.loop-at-init
 unfolding lent_bytes
 loop-at-init c =
-    let sized : let a = c.args in a.total ≡ total known_type (width_of a.width) a.pairs.now a.numbers.now a.out.now = c.requires.numbers_value_2.1.0 in
+    let sized : let a = c.args in a.total ≡ total known_type (width_of a.width) a.pairs.now a.numbers.now a.out.now = c.requires.total_value.0 in
     let a = c.args in
-    ahead_start known_type (width_of a.width) a.pairs.now a.numbers.now a.out.now c.requires.numbers_value c.requires.numbers_value_2.0 (omega (arith, sized, c.requires.numbers_value_2.1.1))
+    ahead_start known_type (width_of a.width) a.pairs.now a.numbers.now a.out.now c.requires.numbers_value c.requires.numbers_value_2 (omega (arith, sized, c.requires.total_value.1))
 
 pub overflow_add-count : goal.overflow_add-count
 unfolding lent_bytes
 overflow_add-count c =
-    let sized : let a = c.args in a.total ≡ total known_type (width_of a.width) a.pairs.now a.numbers.now a.out.now = c.requires.numbers_value_2.1.0 in
+    let sized : let a = c.args in a.total ≡ total known_type (width_of a.width) a.pairs.now a.numbers.now a.out.now = c.requires.total_value.0 in
     let fits :
     let a = c.args in
     let n = get_or a.pairs.now (c.loop-at.at + 1) 0 in
@@ -43,7 +43,7 @@ overflow_add-count c =
 pub offset_bounds-pairs-at : goal.offset_bounds-pairs-at
 unfolding lent_bytes
 offset_bounds-pairs-at c =
-    let sized : let a = c.args in a.total ≡ total known_type (width_of a.width) a.pairs.now a.numbers.now a.out.now = c.requires.numbers_value_2.1.0 in
+    let sized : let a = c.args in a.total ≡ total known_type (width_of a.width) a.pairs.now a.numbers.now a.out.now = c.requires.total_value.0 in
     let fits :
     let a = c.args in
     let n = get_or a.pairs.now (c.loop-at.at + 1) 0 in
@@ -64,7 +64,7 @@ offset_bounds-pairs-at c =
 pub bounds-pairs-at : goal.bounds-pairs-at
 unfolding lent_bytes
 bounds-pairs-at c =
-    let sized : let a = c.args in a.total ≡ total known_type (width_of a.width) a.pairs.now a.numbers.now a.out.now = c.requires.numbers_value_2.1.0 in
+    let sized : let a = c.args in a.total ≡ total known_type (width_of a.width) a.pairs.now a.numbers.now a.out.now = c.requires.total_value.0 in
     let fits :
     let a = c.args in
     let n = get_or a.pairs.now (c.loop-at.at + 1) 0 in
@@ -85,7 +85,7 @@ bounds-pairs-at c =
 pub offset_bounds-pairs-at-in-loop-at : goal.offset_bounds-pairs-at-in-loop-at
 unfolding lent_bytes
 offset_bounds-pairs-at-in-loop-at c =
-    let sized : let a = c.args in a.total ≡ total known_type (width_of a.width) a.pairs.now a.numbers.now a.out.now = c.requires.numbers_value_2.1.0 in
+    let sized : let a = c.args in a.total ≡ total known_type (width_of a.width) a.pairs.now a.numbers.now a.out.now = c.requires.total_value.0 in
     let fits :
     let a = c.args in
     let n = get_or a.pairs.now (c.loop-at.at + 1) 0 in
@@ -106,7 +106,7 @@ offset_bounds-pairs-at-in-loop-at c =
 pub bounds-pairs-at-in-loop-at : goal.bounds-pairs-at-in-loop-at
 unfolding lent_bytes
 bounds-pairs-at-in-loop-at c =
-    let sized : let a = c.args in a.total ≡ total known_type (width_of a.width) a.pairs.now a.numbers.now a.out.now = c.requires.numbers_value_2.1.0 in
+    let sized : let a = c.args in a.total ≡ total known_type (width_of a.width) a.pairs.now a.numbers.now a.out.now = c.requires.total_value.0 in
     let fits :
     let a = c.args in
     let n = get_or a.pairs.now (c.loop-at.at + 1) 0 in
@@ -127,7 +127,7 @@ bounds-pairs-at-in-loop-at c =
 pub put_head-requires : goal.put_head-requires
 unfolding lent_bytes
 put_head-requires c =
-    let sized : let a = c.args in a.total ≡ total known_type (width_of a.width) a.pairs.now a.numbers.now a.out.now = c.requires.numbers_value_2.1.0 in
+    let sized : let a = c.args in a.total ≡ total known_type (width_of a.width) a.pairs.now a.numbers.now a.out.now = c.requires.total_value.0 in
     let fits :
     let a = c.args in
     let n = get_or a.pairs.now (c.loop-at.at + 1) 0 in
@@ -152,7 +152,7 @@ put_head-requires c =
 pub overflow_cast-count : goal.overflow_cast-count
 unfolding lent_bytes
 overflow_cast-count c =
-    let sized : let a = c.args in a.total ≡ total known_type (width_of a.width) a.pairs.now a.numbers.now a.out.now = c.requires.numbers_value_2.1.0 in
+    let sized : let a = c.args in a.total ≡ total known_type (width_of a.width) a.pairs.now a.numbers.now a.out.now = c.requires.total_value.0 in
     let fits :
     let a = c.args in
     let n = get_or a.pairs.now (c.loop-at.at + 1) 0 in
@@ -173,7 +173,7 @@ overflow_cast-count c =
 pub overflow_add-to : goal.overflow_add-to
 unfolding lent_bytes
 overflow_add-to c =
-    let sized : let a = c.args in a.total ≡ total known_type (width_of a.width) a.pairs.now a.numbers.now a.out.now = c.requires.numbers_value_2.1.0 in
+    let sized : let a = c.args in a.total ≡ total known_type (width_of a.width) a.pairs.now a.numbers.now a.out.now = c.requires.total_value.0 in
     let fits :
     let a = c.args in
     let n = get_or a.pairs.now (c.loop-at.at + 1) 0 in
@@ -194,7 +194,7 @@ overflow_add-to c =
 pub put_ahead-requires : goal.put_ahead-requires
 unfolding lent_bytes
 put_ahead-requires c =
-    let sized : let a = c.args in a.total ≡ total known_type (width_of a.width) a.pairs.now a.numbers.now a.out.now = c.requires.numbers_value_2.1.0 in
+    let sized : let a = c.args in a.total ≡ total known_type (width_of a.width) a.pairs.now a.numbers.now a.out.now = c.requires.total_value.0 in
     let fits :
     let a = c.args in
     let n = get_or a.pairs.now (c.loop-at.at + 1) 0 in
@@ -210,20 +210,22 @@ put_ahead-requires c =
     let w = writing_fine known_type (width_of a.width) a.pairs.now a.numbers.now a.out.now c.loop-at.at c.loop-at.from c.loop-at.to h.clean h.writing c.loop-at-test.true in
     let t = type_known (get_or a.pairs.now c.loop-at.at 0) w.0 in
     (f.0, writing_inside known_type (width_of a.width) a.pairs.now a.numbers.now a.out.now c.loop-at.at c.loop-at.from c.loop-at.to h.clean h.writing c.loop-at-test.true, omega (arith, f.1, sized), omega (arith, f.2, sized), omega (arith, t), omega (arith, w.1)) in
-    let both =
     let a = c.args in
     let f = fits in
     let h = c.loop-at.invariant in
     let head : List ℕ = get_or a.pairs.now c.loop-at.at 0 ∷ get_or a.pairs.now (c.loop-at.at + 1) 0 ∷ [] in
-    let len : length c.put_head.new.0 ≡ length c.loop-at.out = ap length c.put_head.ensures ∙ length_laid c.loop-at.out c.loop-at.to head (omega (arith, f)) in
+    let len : length c.put_head.new.out ≡ length c.loop-at.out = ap length c.put_head.ensures ∙ length_laid c.loop-at.out c.loop-at.to head (omega (arith, f)) in
     let body = body_length known_type (width_of a.width) a.pairs.now a.numbers.now a.out.now c.loop-at.at c.loop-at.from c.loop-at.to h.clean h.writing c.loop-at-test.true in
-    (f.1, (lent_fit known_type (width_of a.width) a.pairs.now a.numbers.now c.requires.numbers_value c.requires.numbers_value_2.0, (omega (arith, f, body), omega (arith, len, f)))) in
-    record { n_in_bounds = both.0; numbers_value = both.1; numbers_bound = both.2 }
+    record {
+      n_in_bounds = f.1;
+      numbers_value = lent_fit known_type (width_of a.width) a.pairs.now a.numbers.now c.requires.numbers_value c.requires.numbers_value_2;
+      numbers_bound = (omega (arith, f, body), omega (arith, len, f));
+    }
 
 pub overflow_cast-count-in-loop-at : goal.overflow_cast-count-in-loop-at
 unfolding lent_bytes
 overflow_cast-count-in-loop-at c =
-    let sized : let a = c.args in a.total ≡ total known_type (width_of a.width) a.pairs.now a.numbers.now a.out.now = c.requires.numbers_value_2.1.0 in
+    let sized : let a = c.args in a.total ≡ total known_type (width_of a.width) a.pairs.now a.numbers.now a.out.now = c.requires.total_value.0 in
     let fits :
     let a = c.args in
     let n = get_or a.pairs.now (c.loop-at.at + 1) 0 in
@@ -244,7 +246,7 @@ overflow_cast-count-in-loop-at c =
 pub overflow_add-to-in-loop-at : goal.overflow_add-to-in-loop-at
 unfolding lent_bytes
 overflow_add-to-in-loop-at c =
-    let sized : let a = c.args in a.total ≡ total known_type (width_of a.width) a.pairs.now a.numbers.now a.out.now = c.requires.numbers_value_2.1.0 in
+    let sized : let a = c.args in a.total ≡ total known_type (width_of a.width) a.pairs.now a.numbers.now a.out.now = c.requires.total_value.0 in
     let fits :
     let a = c.args in
     let n = get_or a.pairs.now (c.loop-at.at + 1) 0 in
@@ -265,7 +267,7 @@ overflow_add-to-in-loop-at c =
 pub overflow_add-to-in-loop-at-2 : goal.overflow_add-to-in-loop-at-2
 unfolding lent_bytes
 overflow_add-to-in-loop-at-2 c =
-    let sized : let a = c.args in a.total ≡ total known_type (width_of a.width) a.pairs.now a.numbers.now a.out.now = c.requires.numbers_value_2.1.0 in
+    let sized : let a = c.args in a.total ≡ total known_type (width_of a.width) a.pairs.now a.numbers.now a.out.now = c.requires.total_value.0 in
     let fits :
     let a = c.args in
     let n = get_or a.pairs.now (c.loop-at.at + 1) 0 in
@@ -286,7 +288,7 @@ overflow_add-to-in-loop-at-2 c =
 pub overflow_cast-from : goal.overflow_cast-from
 unfolding lent_bytes
 overflow_cast-from c =
-    let sized : let a = c.args in a.total ≡ total known_type (width_of a.width) a.pairs.now a.numbers.now a.out.now = c.requires.numbers_value_2.1.0 in
+    let sized : let a = c.args in a.total ≡ total known_type (width_of a.width) a.pairs.now a.numbers.now a.out.now = c.requires.total_value.0 in
     let fits :
     let a = c.args in
     let n = get_or a.pairs.now (c.loop-at.at + 1) 0 in
@@ -307,7 +309,7 @@ overflow_cast-from c =
 pub overflow_add-from : goal.overflow_add-from
 unfolding lent_bytes
 overflow_add-from c =
-    let sized : let a = c.args in a.total ≡ total known_type (width_of a.width) a.pairs.now a.numbers.now a.out.now = c.requires.numbers_value_2.1.0 in
+    let sized : let a = c.args in a.total ≡ total known_type (width_of a.width) a.pairs.now a.numbers.now a.out.now = c.requires.total_value.0 in
     let fits :
     let a = c.args in
     let n = get_or a.pairs.now (c.loop-at.at + 1) 0 in
@@ -328,7 +330,7 @@ overflow_add-from c =
 pub overflow_add-at : goal.overflow_add-at
 unfolding lent_bytes
 overflow_add-at c =
-    let sized : let a = c.args in a.total ≡ total known_type (width_of a.width) a.pairs.now a.numbers.now a.out.now = c.requires.numbers_value_2.1.0 in
+    let sized : let a = c.args in a.total ≡ total known_type (width_of a.width) a.pairs.now a.numbers.now a.out.now = c.requires.total_value.0 in
     let fits :
     let a = c.args in
     let n = get_or a.pairs.now (c.loop-at.at + 1) 0 in
@@ -349,7 +351,7 @@ overflow_add-at c =
 pub loop-at-smaller : goal.loop-at-smaller
 unfolding lent_bytes
 loop-at-smaller c =
-    let sized : let a = c.args in a.total ≡ total known_type (width_of a.width) a.pairs.now a.numbers.now a.out.now = c.requires.numbers_value_2.1.0 in
+    let sized : let a = c.args in a.total ≡ total known_type (width_of a.width) a.pairs.now a.numbers.now a.out.now = c.requires.total_value.0 in
     let fits :
     let a = c.args in
     let n = get_or a.pairs.now (c.loop-at.at + 1) 0 in
@@ -370,7 +372,7 @@ loop-at-smaller c =
 pub loop-at-preserved : goal.loop-at-preserved
 unfolding lent_bytes
 loop-at-preserved c =
-    let sized : let a = c.args in a.total ≡ total known_type (width_of a.width) a.pairs.now a.numbers.now a.out.now = c.requires.numbers_value_2.1.0 in
+    let sized : let a = c.args in a.total ≡ total known_type (width_of a.width) a.pairs.now a.numbers.now a.out.now = c.requires.total_value.0 in
     let a = c.args in
     rw c.numbers_size.ensures
     (ahead_next known_type (width_of a.width) a.pairs.now a.numbers.now a.out.now c.loop-at.at c.loop-at.from c.loop-at.to c.loop-at.out c.loop-at.invariant c.loop-at-test.true
