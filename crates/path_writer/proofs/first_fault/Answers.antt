@@ -67,6 +67,13 @@ segment_fault-fault-requires c =
       fit_value = c.requires.fit_value;
     }
 
+-- this stands before the returned fault, so that a build that passes over a fault is refused here first
+pub loop-at-preserved : goal.loop-at-preserved
+loop-at-preserved c =
+    let none : 0 ≡ c.segment_fault-fault.result = omega (arith, c.if-fault-gt0.false) in
+    let a = c.args in
+    judged_next (rule_of a.rule) (width_of a.width) a.pairs.now a.numbers.now c.loop-at.at c.loop-at.from c.loop-at.invariant c.loop-at-test.true (none ∙ c.segment_fault-fault.ensures)
+
 pub returns-then-fault-gt0 : goal.returns-then-fault-gt0
 returns-then-fault-gt0 c =
     let a = c.args in
@@ -107,12 +114,6 @@ loop-at-smaller c =
     let a = c.args in
     judged_fits (rule_of a.rule) (width_of a.width) a.pairs.now a.numbers.now c.loop-at.at c.loop-at.from c.loop-at.invariant c.loop-at-test.true in
     omega (arith, fits)
-
-pub loop-at-preserved : goal.loop-at-preserved
-loop-at-preserved c =
-    let none : 0 ≡ c.segment_fault-fault.result = omega (arith, c.if-fault-gt0.false) in
-    let a = c.args in
-    judged_next (rule_of a.rule) (width_of a.width) a.pairs.now a.numbers.now c.loop-at.at c.loop-at.from c.loop-at.invariant c.loop-at-test.true (none ∙ c.segment_fault-fault.ensures)
 
 pub returns : goal.returns
 returns c =

@@ -9,7 +9,7 @@ pub returns-then-fault-ne0 : goal.returns-then-fault-ne0
 returns-then-fault-ne0 c = let a = c.args in fault_rule (rule_of a.rule) (width_of a.width) a.kind a.count _ _ c.rule_fault-fault.ensures (omega (arith, c.if-fault-ne0.true))
 
 pub returns-then-count-gt-MOST_NUMBERS : goal.returns-then-count-gt-MOST_NUMBERS
-returns-then-count-gt-MOST_NUMBERS c = let a = c.args in fault_long (rule_of a.rule) (width_of a.width) a.kind a.count _ (sym c.if-fault-ne0.false ∙ c.rule_fault-fault.ensures) c.if-count-gt-MOST_NUMBERS.true
+returns-then-count-gt-MOST_NUMBERS c = let a = c.args in fault_long (rule_of a.rule) (width_of a.width) a.kind a.count _ (sym c.if-fault-ne0.false ∙ c.rule_fault-fault.ensures) (omega (arith, c.if-count-gt-MOST_NUMBERS.true))
 
 pub returns-then-fit : goal.returns-then-fit
 returns-then-fit c =
