@@ -12,6 +12,7 @@ use Rattle.wire.proofs.Turn.{rest, Filled, fill_start, fill_fits, fill_step, fil
 use Rattle.wire.specs.Walk.{read_all, took, stop, flat}
 use Rattle.families.specs.Family.{max_of, id_size, guess_mark, octets}
 use Rattle.families.specs.Octets.{table_of, entry}
+use Rattle.families.proofs.FamilyLaws.{max_small}
 use Rattle.families.specs.declared.Afi.{Afi}
 use Rattle.families.specs.declared.Form.{Form}
 use Rattle.families.specs.declared.AddPath.{AddPath}
@@ -139,6 +140,13 @@ module _ (max : ℕ) (form : Form) (s d₀ left : List ℕ) (n to : ℕ) (d : Li
       let size : x.0 ≡ b + m = t.size ∙ sym (end_same max small form (drop n left) t.fits) ∙ ap₂ ◌+◌ (sym bytes) said in
       turn_by max (fixed form) form s d₀ left n form to d h x.0 form (x.2 ∙ ap (λ (row : Row). took x.0 row form) (sym (step_taken (up_to max) (fair max) (fixed form) form form (drop n left) x.0 x.1 x.2).3)) b m bytes size
 
+-- as a loop comes by it: an id's size told twice, and the octets by a family's table
+pub turn_read : (afi : Afi) {form : Form} {s d₀ left : List ℕ} {n to : ℕ} {d counts : List ℕ} {b k m : ℕ} → counts ≡ table_of (max_of afi)
+    → Held (max_of afi) (fixed form) form s d₀ left n form to d → n < length left → b ≡ id_size form → k ≡ id_size form → m ≡ entry counts (get_or left (n + k) 0)
+    → Turn (max_of afi) (fixed form) form s d₀ left n to d form (b + 1) m
+turn_read afi {form = form} {s = s} {d₀ = d₀} {left = left} {n = n} {to = to} {d = d} {counts = counts} {b = b} {k = k} {m = m} table h lt first second says =
+    turn_form (max_of afi) form s d₀ left n to d h lt (omega (arith, max_small afi)) counts table (b + 1) m (ap (λ (i : ℕ). i + 1) first) (says ∙ ap (λ (i : ℕ). entry counts (get_or left (n + i) 0)) second)
+
 -- ---- whichever items a step takes, by a family's table
 
 module _ (afi : Afi) (mode : AddPath) (st₀ : Form) (s d₀ left : List ℕ) (n : ℕ) (st : Form) (to : ℕ) (d : List ℕ) (h : Held (max_of afi) mode st₀ s d₀ left n st to d) (counts : List ℕ)
@@ -155,3 +163,18 @@ module _ (afi : Afi) (mode : AddPath) (st₀ : Form) (s d₀ left : List ℕ) (n
   -- and none refuses
   pub step_never : n < length left → (why : ℕ) → r ≡ S.Refused why → ⊥
   step_never lt why e = held_never (max_of afi) mode st₀ s d₀ left n st to d h why lt (turn_refused (up_to (max_of afi)) (drop n left) mode st r step why e)
+
+-- the same, as a loop comes by it
+pub turn_taken : (afi : Afi) (mode : AddPath) {st₀ : Form} {s d₀ left : List ℕ} {n : ℕ} {st : Form} {to : ℕ} {d counts : List ℕ} {r : StepAnswer} {used : ℕ} {form : Form}
+    → counts ≡ table_of (max_of afi) → Held (max_of afi) mode st₀ s d₀ left n st to d → r ≡ sized (step_by (by_table counts) mode st (drop n left)) → r ≡ S.Item used form
+    → (b : ℕ) → id_size form + 1 ≡ b → (b ≤ used) × Turn (max_of afi) mode st₀ s d₀ left n to d form b (used - b)
+turn_taken afi mode {st₀ = st₀} {s = s} {d₀ = d₀} {left = left} {n = n} {st = st} {to = to} {d = d} {counts = counts} {r = r} {used = used} {form = form} table h told e b bytes =
+    turn_step afi mode st₀ s d₀ left n st to d h counts table r told used form e b (sym bytes)
+
+-- in a form, which has so many bytes before its octets
+pub turn_in : (afi : Afi) (mode : AddPath) {st₀ : Form} {s d₀ left : List ℕ} {n : ℕ} {st : Form} {to : ℕ} {d counts : List ℕ} {r : StepAnswer} {used : ℕ} {form : Form}
+    → counts ≡ table_of (max_of afi) → Held (max_of afi) mode st₀ s d₀ left n st to d → r ≡ sized (step_by (by_table counts) mode st (drop n left)) → r ≡ S.Item used form
+    → (known : Form) → form ≡ known → let b = id_size known + 1 in (b ≤ used) × (n + used ≤ length left) × (length left ≤ length s) × Left (max_of afi) mode st₀ s d₀ left n to d form (from left (n + b)) (used - b)
+turn_in afi mode {left = left} {n = n} {used = used} table h told e known is =
+    let t = turn_taken afi mode table h told e _ (ap (λ (f : Form). id_size f + 1) is) in
+    (t.0, omega (arith, t.0, t.1.inside), h.behind.part, t.1.leaves)

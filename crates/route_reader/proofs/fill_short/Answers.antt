@@ -1,18 +1,15 @@
-use Prim.Native.Nat.{ℕ, ◌+◌, ◌≤◌, ◌<◌}
 use mathlib.Core.Path.{sym, ap, ◌∙◌}
 use native.Mathlib.Omega.{arith}
-use lib.ListN.{length, get_or}
 use Rattle.wire.specs.Store.{laid}
 use Rattle.wire.specs.Walk.{Reading, flat}
-use Rattle.families.specs.Family.{max_of, id_size}
-use Rattle.families.specs.Octets.{entry}
+use Rattle.families.specs.Family.{max_of}
 use Rattle.families.proofs.FamilyLaws.{id_small}
 use Rattle.families.specs.declared.Afi.TheVariants.{Ipv4}
 use Rattle.routes.specs.Prefix.{words}
 use Rattle.routes.specs.List.{up_to, fixed}
 use Rattle.routes.proofs.ListLaws.{no_mark, list_fixed}
 use Rattle.routes.specs.declared.Row.{Row}
-use Rattle.route_reader.proofs.FillLaws.{Turn, held_start, held_done, fitting_form, front_there, turn_form}
+use Rattle.route_reader.proofs.FillLaws.{held_start, held_done, fitting_form, front_there, turn_read}
 use Rattle.route_reader.proofs.fill_short.Goals as goal
 
 pub overflow_add-b : goal.overflow_add-b
@@ -25,97 +22,52 @@ loop-n-init c =
 
 pub overflow_add-n : goal.overflow_add-n
 overflow_add-n c =
-    let there :
     let a = c.args in
-    (c.loop-n.n + id_size a.form < length c.loop-n.rest.now) × (length c.loop-n.rest.now ≤ length a.s.now) =
-    let a = c.args in
-    (front_there (max_of Ipv4) a.form a.s.now a.store.now c.loop-n.rest.now c.loop-n.n c.loop-n.to c.loop-n.store c.loop-n.invariant c.loop-n-test.true, c.loop-n.invariant.behind.part) in
-    omega (arith, c.id_size.ensures, there)
+    let there = front_there (max_of Ipv4) a.form a.s.now a.store.now c.loop-n.rest.now c.loop-n.n c.loop-n.to c.loop-n.store c.loop-n.invariant c.loop-n-test.true in
+    omega (arith, c.id_size.ensures, there, c.loop-n.invariant.behind.part)
 
 pub bounds-rest-n : goal.bounds-rest-n
 bounds-rest-n c =
-    let there :
     let a = c.args in
-    (c.loop-n.n + id_size a.form < length c.loop-n.rest.now) × (length c.loop-n.rest.now ≤ length a.s.now) =
-    let a = c.args in
-    (front_there (max_of Ipv4) a.form a.s.now a.store.now c.loop-n.rest.now c.loop-n.n c.loop-n.to c.loop-n.store c.loop-n.invariant c.loop-n-test.true, c.loop-n.invariant.behind.part) in
-    omega (arith, c.id_size.ensures, there)
+    let there = front_there (max_of Ipv4) a.form a.s.now a.store.now c.loop-n.rest.now c.loop-n.n c.loop-n.to c.loop-n.store c.loop-n.invariant c.loop-n-test.true in
+    omega (arith, c.id_size.ensures, there, c.loop-n.invariant.behind.part)
 
 pub slice_bounds-put_head-count : goal.slice_bounds-put_head-count
 slice_bounds-put_head-count c = c.loop-n.invariant.behind.within
 
 pub put_head-requires : goal.put_head-requires
 put_head-requires c =
-    let item :
-    let a = c.args in
-    Turn (max_of Ipv4) (fixed a.form) a.form a.s.now a.store.now c.loop-n.rest.now c.loop-n.n c.loop-n.to c.loop-n.store a.form (c.id_size-b.result + 1) c.after-next.result =
-    let a = c.args in
-    let says = c.after-next.ensures ∙ ap (λ (k : ℕ). entry a.counts.now (get_or c.loop-n.rest.now (c.loop-n.n + k) 0)) c.id_size.ensures in
-    turn_form (max_of Ipv4) a.form a.s.now a.store.now c.loop-n.rest.now c.loop-n.n c.loop-n.to c.loop-n.store c.loop-n.invariant c.loop-n-test.true (omega arith) a.counts.now c.requires.counts_value _ _
-    (ap (λ (k : ℕ). k + 1) c.id_size-b.ensures) says in
-    let i = item in record {
-      to_in_bounds = (omega (arith, i.room), omega arith);
-      form_in_bounds = i.front;
+    let item = turn_read Ipv4 c.requires.counts_value c.loop-n.invariant c.loop-n-test.true c.id_size-b.ensures c.id_size.ensures c.after-next.ensures in
+    record {
+      to_in_bounds = (omega (arith, item.room), omega arith);
+      form_in_bounds = item.front;
     }
 
 pub overflow_add-rest : goal.overflow_add-rest
 overflow_add-rest c =
-    let item :
+    let item = turn_read Ipv4 c.requires.counts_value c.loop-n.invariant c.loop-n-test.true c.id_size-b.ensures c.id_size.ensures c.after-next.ensures in
     let a = c.args in
-    Turn (max_of Ipv4) (fixed a.form) a.form a.s.now a.store.now c.loop-n.rest.now c.loop-n.n c.loop-n.to c.loop-n.store a.form (c.id_size-b.result + 1) c.after-next.result =
-    let a = c.args in
-    let says = c.after-next.ensures ∙ ap (λ (k : ℕ). entry a.counts.now (get_or c.loop-n.rest.now (c.loop-n.n + k) 0)) c.id_size.ensures in
-    turn_form (max_of Ipv4) a.form a.s.now a.store.now c.loop-n.rest.now c.loop-n.n c.loop-n.to c.loop-n.store c.loop-n.invariant c.loop-n-test.true (omega arith) a.counts.now c.requires.counts_value _ _
-    (ap (λ (k : ℕ). k + 1) c.id_size-b.ensures) says in
-    let there :
-    let a = c.args in
-    (c.loop-n.n + id_size a.form < length c.loop-n.rest.now) × (length c.loop-n.rest.now ≤ length a.s.now) =
-    let a = c.args in
-    (front_there (max_of Ipv4) a.form a.s.now a.store.now c.loop-n.rest.now c.loop-n.n c.loop-n.to c.loop-n.store c.loop-n.invariant c.loop-n-test.true, c.loop-n.invariant.behind.part) in
-    omega (arith, item.inside, there)
+    let there = front_there (max_of Ipv4) a.form a.s.now a.store.now c.loop-n.rest.now c.loop-n.n c.loop-n.to c.loop-n.store c.loop-n.invariant c.loop-n-test.true in
+    omega (arith, item.inside, there, c.loop-n.invariant.behind.part)
 
 pub slice_bounds-rest-count : goal.slice_bounds-rest-count
 slice_bounds-rest-count c =
-    let item :
-    let a = c.args in
-    Turn (max_of Ipv4) (fixed a.form) a.form a.s.now a.store.now c.loop-n.rest.now c.loop-n.n c.loop-n.to c.loop-n.store a.form (c.id_size-b.result + 1) c.after-next.result =
-    let a = c.args in
-    let says = c.after-next.ensures ∙ ap (λ (k : ℕ). entry a.counts.now (get_or c.loop-n.rest.now (c.loop-n.n + k) 0)) c.id_size.ensures in
-    turn_form (max_of Ipv4) a.form a.s.now a.store.now c.loop-n.rest.now c.loop-n.n c.loop-n.to c.loop-n.store c.loop-n.invariant c.loop-n-test.true (omega arith) a.counts.now c.requires.counts_value _ _
-    (ap (λ (k : ℕ). k + 1) c.id_size-b.ensures) says in
+    let item = turn_read Ipv4 c.requires.counts_value c.loop-n.invariant c.loop-n-test.true c.id_size-b.ensures c.id_size.ensures c.after-next.ensures in
     omega (arith, item.inside)
 
 pub slice_bounds-rest-start : goal.slice_bounds-rest-start
 slice_bounds-rest-start c =
-    let item :
-    let a = c.args in
-    Turn (max_of Ipv4) (fixed a.form) a.form a.s.now a.store.now c.loop-n.rest.now c.loop-n.n c.loop-n.to c.loop-n.store a.form (c.id_size-b.result + 1) c.after-next.result =
-    let a = c.args in
-    let says = c.after-next.ensures ∙ ap (λ (k : ℕ). entry a.counts.now (get_or c.loop-n.rest.now (c.loop-n.n + k) 0)) c.id_size.ensures in
-    turn_form (max_of Ipv4) a.form a.s.now a.store.now c.loop-n.rest.now c.loop-n.n c.loop-n.to c.loop-n.store c.loop-n.invariant c.loop-n-test.true (omega arith) a.counts.now c.requires.counts_value _ _
-    (ap (λ (k : ℕ). k + 1) c.id_size-b.ensures) says in
+    let item = turn_read Ipv4 c.requires.counts_value c.loop-n.invariant c.loop-n-test.true c.id_size-b.ensures c.id_size.ensures c.after-next.ensures in
     omega (arith, item.inside)
 
 pub overflow_add-to : goal.overflow_add-to
 overflow_add-to c =
-    let item :
-    let a = c.args in
-    Turn (max_of Ipv4) (fixed a.form) a.form a.s.now a.store.now c.loop-n.rest.now c.loop-n.n c.loop-n.to c.loop-n.store a.form (c.id_size-b.result + 1) c.after-next.result =
-    let a = c.args in
-    let says = c.after-next.ensures ∙ ap (λ (k : ℕ). entry a.counts.now (get_or c.loop-n.rest.now (c.loop-n.n + k) 0)) c.id_size.ensures in
-    turn_form (max_of Ipv4) a.form a.s.now a.store.now c.loop-n.rest.now c.loop-n.n c.loop-n.to c.loop-n.store c.loop-n.invariant c.loop-n-test.true (omega arith) a.counts.now c.requires.counts_value _ _
-    (ap (λ (k : ℕ). k + 1) c.id_size-b.ensures) says in
+    let item = turn_read Ipv4 c.requires.counts_value c.loop-n.invariant c.loop-n-test.true c.id_size-b.ensures c.id_size.ensures c.after-next.ensures in
     omega (arith, item.room)
 
 pub put_short-requires : goal.put_short-requires
 put_short-requires c =
-    let item :
-    let a = c.args in
-    Turn (max_of Ipv4) (fixed a.form) a.form a.s.now a.store.now c.loop-n.rest.now c.loop-n.n c.loop-n.to c.loop-n.store a.form (c.id_size-b.result + 1) c.after-next.result =
-    let a = c.args in
-    let says = c.after-next.ensures ∙ ap (λ (k : ℕ). entry a.counts.now (get_or c.loop-n.rest.now (c.loop-n.n + k) 0)) c.id_size.ensures in
-    turn_form (max_of Ipv4) a.form a.s.now a.store.now c.loop-n.rest.now c.loop-n.n c.loop-n.to c.loop-n.store c.loop-n.invariant c.loop-n-test.true (omega arith) a.counts.now c.requires.counts_value _ _
-    (ap (λ (k : ℕ). k + 1) c.id_size-b.ensures) says in
+    let item = turn_read Ipv4 c.requires.counts_value c.loop-n.invariant c.loop-n-test.true c.id_size-b.ensures c.id_size.ensures c.after-next.ensures in
     record {
       to_in_bounds = item.more _ _ c.put_head.ensures;
       octets = item.leaves.spot 4 (omega arith);
@@ -123,35 +75,17 @@ put_short-requires c =
 
 pub overflow_add-to-in-loop-n : goal.overflow_add-to-in-loop-n
 overflow_add-to-in-loop-n c =
-    let item :
-    let a = c.args in
-    Turn (max_of Ipv4) (fixed a.form) a.form a.s.now a.store.now c.loop-n.rest.now c.loop-n.n c.loop-n.to c.loop-n.store a.form (c.id_size-b.result + 1) c.after-next.result =
-    let a = c.args in
-    let says = c.after-next.ensures ∙ ap (λ (k : ℕ). entry a.counts.now (get_or c.loop-n.rest.now (c.loop-n.n + k) 0)) c.id_size.ensures in
-    turn_form (max_of Ipv4) a.form a.s.now a.store.now c.loop-n.rest.now c.loop-n.n c.loop-n.to c.loop-n.store c.loop-n.invariant c.loop-n-test.true (omega arith) a.counts.now c.requires.counts_value _ _
-    (ap (λ (k : ℕ). k + 1) c.id_size-b.ensures) says in
+    let item = turn_read Ipv4 c.requires.counts_value c.loop-n.invariant c.loop-n-test.true c.id_size-b.ensures c.id_size.ensures c.after-next.ensures in
     omega (arith, item.room)
 
 pub loop-n-smaller : goal.loop-n-smaller
 loop-n-smaller c =
-    let item :
-    let a = c.args in
-    Turn (max_of Ipv4) (fixed a.form) a.form a.s.now a.store.now c.loop-n.rest.now c.loop-n.n c.loop-n.to c.loop-n.store a.form (c.id_size-b.result + 1) c.after-next.result =
-    let a = c.args in
-    let says = c.after-next.ensures ∙ ap (λ (k : ℕ). entry a.counts.now (get_or c.loop-n.rest.now (c.loop-n.n + k) 0)) c.id_size.ensures in
-    turn_form (max_of Ipv4) a.form a.s.now a.store.now c.loop-n.rest.now c.loop-n.n c.loop-n.to c.loop-n.store c.loop-n.invariant c.loop-n-test.true (omega arith) a.counts.now c.requires.counts_value _ _
-    (ap (λ (k : ℕ). k + 1) c.id_size-b.ensures) says in
+    let item = turn_read Ipv4 c.requires.counts_value c.loop-n.invariant c.loop-n-test.true c.id_size-b.ensures c.id_size.ensures c.after-next.ensures in
     item.leaves.less
 
 pub loop-n-preserved : goal.loop-n-preserved
 loop-n-preserved c =
-    let item :
-    let a = c.args in
-    Turn (max_of Ipv4) (fixed a.form) a.form a.s.now a.store.now c.loop-n.rest.now c.loop-n.n c.loop-n.to c.loop-n.store a.form (c.id_size-b.result + 1) c.after-next.result =
-    let a = c.args in
-    let says = c.after-next.ensures ∙ ap (λ (k : ℕ). entry a.counts.now (get_or c.loop-n.rest.now (c.loop-n.n + k) 0)) c.id_size.ensures in
-    turn_form (max_of Ipv4) a.form a.s.now a.store.now c.loop-n.rest.now c.loop-n.n c.loop-n.to c.loop-n.store c.loop-n.invariant c.loop-n-test.true (omega arith) a.counts.now c.requires.counts_value _ _
-    (ap (λ (k : ℕ). k + 1) c.id_size-b.ensures) says in
+    let item = turn_read Ipv4 c.requires.counts_value c.loop-n.invariant c.loop-n-test.true c.id_size-b.ensures c.id_size.ensures c.after-next.ensures in
     item.leaves.next 0 (no_mark c.args.form) _ _ c.put_head.ensures c.put_short.ensures
 
 pub shape_of-store : goal.shape_of-store

@@ -5,9 +5,7 @@ use Rattle.wire.proofs.NumberLaws.{be_between}
 use Rattle.route_reader.proofs.id_of.Goals as goal
 
 pub slice_bounds-u32_at-end : goal.slice_bounds-u32_at-end
-slice_bounds-u32_at-end c =
-    let four = c.requires in
-    sym (length-take-le 4 c.args.s.now (rw c.in-Tagged.is at four))
+slice_bounds-u32_at-end c = sym (length-take-le 4 c.args.s.now (rw c.in-Tagged.is at c.requires))
 
 pub returns-in-Plain : goal.returns-in-Plain
 unfolding be_at

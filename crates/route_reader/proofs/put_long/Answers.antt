@@ -10,10 +10,10 @@ use Rattle.route_reader.proofs.WordsLaws.{masked_first, two_by_two, address_part
 use Rattle.route_reader.proofs.put_long.Goals as goal
 
 pub slice_bounds-put_exact-end : goal.slice_bounds-put_exact-end
-slice_bounds-put_exact-end c = let g = c in sym (length-take-le g.args.n g.args.s.now g.requires.octets.there)
+slice_bounds-put_exact-end c = sym (length-take-le c.args.n c.args.s.now c.requires.octets.there)
 
 pub put_exact-requires : goal.put_exact-requires
-put_exact-requires c = let g = c in (g.requires.to_in_bounds, omega (arith, g.requires.octets.few, length-take g.args.n g.args.s.now))
+put_exact-requires c = (c.requires.to_in_bounds, omega (arith, c.requires.octets.few, length-take c.args.n c.args.s.now))
 
 pub slice_bounds-t-end : goal.slice_bounds-t-end
 slice_bounds-t-end c = sym (length-take-le 16 c.args.s.now (omega (arith, c.if-s-lt-LONG.false)))
@@ -23,16 +23,15 @@ slice_bounds-u-end c = omega (arith, ap length c.requires.table_value)
 
 pub returns : goal.returns
 returns c =
-    let g = c in
-    let a = g.args in
+    let a = c.args in
     let bytes : Bytes a.s.now = λ i. (c.type_inv.s i).fits in
-    let word = masked_first a.s.now a.table.now a.n bytes g.requires.table_value g.requires.octets.few in
+    let word = masked_first a.s.now a.table.now a.n bytes c.requires.table_value c.requires.octets.few in
     let x = c.u32_at in
     let x' = c.u32_at-2 in
     let y = c.u32_at-3 in
     let y' = c.u32_at-4 in
     let half : c.put_pair.new.store ≡ laid a.store.now a.to (bit_and x.result x'.result ∷ bit_and y.result y'.result ∷ []) = c.put_pair.ensures in
-    two_by_two a.store.now _ _ a.to _ _ _ _ g.requires.to_in_bounds half c.put_pair-2.ensures
+    two_by_two a.store.now _ _ a.to _ _ _ _ c.requires.to_in_bounds half c.put_pair-2.ensures
     ∙ ap (laid a.store.now a.to) (address_parts _ _ _ _ _
     (word 0 _ _ (omega arith) x.ensures x'.ensures)
     (word 4 _ _ (omega arith) y.ensures y'.ensures)

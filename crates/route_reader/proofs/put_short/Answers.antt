@@ -8,10 +8,10 @@ use Rattle.route_reader.proofs.WordsLaws.{address_first}
 use Rattle.route_reader.proofs.put_short.Goals as goal
 
 pub slice_bounds-put_exact-end : goal.slice_bounds-put_exact-end
-slice_bounds-put_exact-end c = let g = c in sym (length-take-le g.args.n g.args.s.now g.requires.octets.there)
+slice_bounds-put_exact-end c = sym (length-take-le c.args.n c.args.s.now c.requires.octets.there)
 
 pub put_exact-requires : goal.put_exact-requires
-put_exact-requires c = let g = c in (g.requires.to_in_bounds, omega (arith, g.requires.octets.few, length-take g.args.n g.args.s.now))
+put_exact-requires c = (c.requires.to_in_bounds, omega (arith, c.requires.octets.few, length-take c.args.n c.args.s.now))
 
 pub returns : goal.returns
 returns c =
