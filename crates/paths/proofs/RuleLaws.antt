@@ -74,7 +74,7 @@ module _ (w : ℕ) where
 
   -- an empty segment is in no path that the strict rule accepts
   never_empty : (items : List (List ℕ)) → Each (WellFormed NonEmpty w) items → Some Empty items → ⊥
-  never_empty [] _ none = elim none [ ]
+  never_empty [] _ s = elim s [ ]
   never_empty (item ∷ items) (one f fs) (here e) = let zero_count : f.count ≡ 0 = sym (ap (λ (l : List ℕ). get_or l 1 0) f.parts) ∙ e in omega (arith, zero_count, f.meant.1)
   never_empty (item ∷ items) (one f fs) (later e) = never_empty items fs e
 
