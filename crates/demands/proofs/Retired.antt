@@ -1,7 +1,7 @@
 -- Refusal 5 is never given: the check of the body, with which document 01's reading of a message ends, never fails, so that the reading with it and the reading
 -- without it answer the same on every input. The two readings stand in specs/Retired.antt.
 -- Assumes nothing.
-use Rattle.std.specs.Prelude.{ℕ, ◌-◌, ◌/◌, ◌≡◌, refl, List, Bool, false, length, ltb, eqb}
+use Rattle.std.specs.Prelude.{ℕ, ◌-◌, ◌/◌, ◌≡◌, refl, List, false, length, ltb, eqb}
 use Rattle.std.proofs.Common.{sym, ap, subst, ◌∙◌, arith, le-ltb}
 use Rattle.std.proofs.lemmas.Bool.{false≢true}
 use Rattle.std.proofs.Math.Nat.{min-le_right}
@@ -9,7 +9,7 @@ use Rattle.wire.specs.Answer.{number_in}
 use Rattle.wire.specs.Extent.{PartOf}
 use Rattle.wire.specs.Refusal.{short_body}
 use Rattle.wire.proofs.ChoiceLaws.{pick_any}
-use Rattle.messages.specs.Header.{header_size, crate_limit, is_unknown, claimed_of, kind_of, taken_of, accepted, message_of, message_meaning, body_at}
+use Rattle.messages.specs.Header.{header_size, crate_limit, is_unknown, claimed_of, kind_of, accepted, message_of, message_meaning, body_at}
 use Rattle.messages.specs.declared.MessageAnswer.{MessageAnswer}
 use Rattle.messages.specs.declared.MessageAnswer.TheVariants.{Refused}
 use Rattle.messages.proofs.parse_bgp_message.Reads as parse_bgp_message

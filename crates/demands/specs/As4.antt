@@ -24,7 +24,7 @@ use Rattle.paths.specs.Segment.{Segment, Rule, known_type, rule_of, segment_at, 
 use Rattle.paths.specs.WellFormed.{Known, WellFormed}
 use Rattle.paths.specs.declared.PathRule.{PathRule}
 use Rattle.paths.specs.declared.PathRule.TheVariants.{Crate}
-use Rattle.paths.specs.declared.PathAnswer.TheVariants.{Path, Refused}
+use Rattle.paths.specs.declared.PathAnswer.TheVariants.{Path}
 use Rattle.paths.proofs.FormedLaws.{ruled, decides}
 use Rattle.paths.proofs.PromiseLaws.{pairs_length, read_path, path_stores}
 use Rattle.paths.proofs.count_as_path.Reads as count_as_path

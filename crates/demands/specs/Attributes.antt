@@ -9,7 +9,7 @@ use Rattle.std.specs.Borrow.{Bor}
 use Rattle.std.proofs.Math.ListN.{length}
 use Rattle.wire.specs.Answer.{value_in, flag}
 use Rattle.wire.specs.Cutting.{Each, joined, Cutting}
-use Rattle.wire.specs.Extent.{nothing, PartOf}
+use Rattle.wire.specs.Extent.{PartOf}
 use Rattle.wire.specs.Refusal.{too_long, truncated, repeated_mp_nlri, list_limit}
 use Rattle.wire.specs.Walk.{read_all}
 use Rattle.wire.proofs.CuttingLaws as Cuttings
