@@ -1,12 +1,17 @@
 use Prim.Native.Nat.{ℕ, ◌+◌, ◌-◌, ◌*◌, ◌≤◌}
-use mathlib.Core.Path.{ap, ◌∙◌}
+use mathlib.Core.Path.{◌≡◌, ap, ◌∙◌}
 use native.Mathlib.Omega.{arith}
-use lib.ListN.{length, drop}
+use lib.ListN.{drop}
+use Rattle.asns.specs.Asn.{span}
 use Rattle.asns.proofs.AsnLaws.{span_is}
 use Rattle.wire.specs.Store.{laid}
 use Rattle.paths.specs.Segment.{numbers_of}
 use Rattle.paths.proofs.NumberTurn.{BlocksTo, blocks_start, blocks_put}
 use Rattle.paths.proofs.put_full.Goals as goal
+
+-- four numbers at least are there, four bytes each, and have room
+sizes : {n s d₀ d : ℕ} (from start : ℕ) → 4 ≤ n → from + span 4 n ≤ s → start + n ≤ d₀ → d ≡ d₀ → (4 ≤ n) × (from + 4 * n ≤ s) × (start + n ≤ d)
+sizes {n = n} from start four there room long = (four, omega (arith, there, span_is 4 n), omega (arith, room, long))
 
 pub put_singles-requires : goal.put_singles-requires
 put_singles-requires c =
@@ -20,40 +25,30 @@ loop-done-init c = blocks_start c.args.s.now c.args.from c.args.n c.args.numbers
 
 pub overflow_mul-done : goal.overflow_mul-done
 overflow_mul-done c =
-    let sized : let a = c.args in
-    (4 ≤ a.n) × (a.from + 4 * a.n ≤ length a.s.now) × (a.start + a.n ≤ length c.loop-done.numbers) =
-    (c.if-n-lt4.false, omega (arith, c.requires.n_in_bounds, span_is 4 c.args.n), omega (arith, c.requires.n_in_bounds_2, c.loop-done.invariant.long)) in
+    let sized = sizes c.args.from c.args.start c.if-n-lt4.false c.requires.n_in_bounds c.requires.n_in_bounds_2 c.loop-done.invariant.long in
     omega (arith, sized, c.loop-done-test.true)
 
 pub overflow_add-from : goal.overflow_add-from
 overflow_add-from c =
-    let sized : let a = c.args in
-    (4 ≤ a.n) × (a.from + 4 * a.n ≤ length a.s.now) × (a.start + a.n ≤ length c.loop-done.numbers) =
-    (c.if-n-lt4.false, omega (arith, c.requires.n_in_bounds, span_is 4 c.args.n), omega (arith, c.requires.n_in_bounds_2, c.loop-done.invariant.long)) in
+    let sized = sizes c.args.from c.args.start c.if-n-lt4.false c.requires.n_in_bounds c.requires.n_in_bounds_2 c.loop-done.invariant.long in
     omega (arith, sized, c.loop-done-test.true)
 
 pub overflow_add-start : goal.overflow_add-start
 overflow_add-start c =
-    let sized : let a = c.args in
-    (4 ≤ a.n) × (a.from + 4 * a.n ≤ length a.s.now) × (a.start + a.n ≤ length c.loop-done.numbers) =
-    (c.if-n-lt4.false, omega (arith, c.requires.n_in_bounds, span_is 4 c.args.n), omega (arith, c.requires.n_in_bounds_2, c.loop-done.invariant.long)) in
+    let sized = sizes c.args.from c.args.start c.if-n-lt4.false c.requires.n_in_bounds c.requires.n_in_bounds_2 c.loop-done.invariant.long in
     omega (arith, sized, c.loop-done-test.true)
 
 pub put_four-requires : goal.put_four-requires
 put_four-requires c =
-    let sized : let a = c.args in
-    (4 ≤ a.n) × (a.from + 4 * a.n ≤ length a.s.now) × (a.start + a.n ≤ length c.loop-done.numbers) =
-    (c.if-n-lt4.false, omega (arith, c.requires.n_in_bounds, span_is 4 c.args.n), omega (arith, c.requires.n_in_bounds_2, c.loop-done.invariant.long)) in
-    let z = sized in let t = c.loop-done-test.true in record {
-      at_in_bounds = omega (arith, z, t);
-      to_in_bounds = omega (arith, z, t);
+    let sized = sizes c.args.from c.args.start c.if-n-lt4.false c.requires.n_in_bounds c.requires.n_in_bounds_2 c.loop-done.invariant.long in
+    record {
+      at_in_bounds = omega (arith, sized, c.loop-done-test.true);
+      to_in_bounds = omega (arith, sized, c.loop-done-test.true);
     }
 
 pub overflow_add-done : goal.overflow_add-done
 overflow_add-done c =
-    let sized : let a = c.args in
-    (4 ≤ a.n) × (a.from + 4 * a.n ≤ length a.s.now) × (a.start + a.n ≤ length c.loop-done.numbers) =
-    (c.if-n-lt4.false, omega (arith, c.requires.n_in_bounds, span_is 4 c.args.n), omega (arith, c.requires.n_in_bounds_2, c.loop-done.invariant.long)) in
+    let sized = sizes c.args.from c.args.start c.if-n-lt4.false c.requires.n_in_bounds c.requires.n_in_bounds_2 c.loop-done.invariant.long in
     omega (arith, sized, c.loop-done-test.true)
 
 pub loop-done-smaller : goal.loop-done-smaller
@@ -61,39 +56,29 @@ loop-done-smaller c = omega (arith, c.loop-done-test.true)
 
 pub loop-done-preserved : goal.loop-done-preserved
 loop-done-preserved c =
-    let sized : let a = c.args in
-    (4 ≤ a.n) × (a.from + 4 * a.n ≤ length a.s.now) × (a.start + a.n ≤ length c.loop-done.numbers) =
-    (c.if-n-lt4.false, omega (arith, c.requires.n_in_bounds, span_is 4 c.args.n), omega (arith, c.requires.n_in_bounds_2, c.loop-done.invariant.long)) in
+    let sized = sizes c.args.from c.args.start c.if-n-lt4.false c.requires.n_in_bounds c.requires.n_in_bounds_2 c.loop-done.invariant.long in
     let a = c.args in
     blocks_put a.s.now a.from a.n a.numbers.now a.start c.requires.n_in_bounds_2 c.loop-done.done c.loop-done.done _ _ c.loop-done.invariant (omega arith) (omega arith)
     (omega (arith, sized.0, c.loop-done-test.true)) c.put_four.ensures
 
 pub overflow_mul-last : goal.overflow_mul-last
 overflow_mul-last c =
-    let sized : let a = c.args in
-    (4 ≤ a.n) × (a.from + 4 * a.n ≤ length a.s.now) × (a.start + a.n ≤ length c.loop-done.numbers) =
-    (c.if-n-lt4.false, omega (arith, c.requires.n_in_bounds, span_is 4 c.args.n), omega (arith, c.requires.n_in_bounds_2, c.loop-done.invariant.long)) in
+    let sized = sizes c.args.from c.args.start c.if-n-lt4.false c.requires.n_in_bounds c.requires.n_in_bounds_2 c.loop-done.invariant.long in
     omega (arith, sized)
 
 pub overflow_add-from-2 : goal.overflow_add-from-2
 overflow_add-from-2 c =
-    let sized : let a = c.args in
-    (4 ≤ a.n) × (a.from + 4 * a.n ≤ length a.s.now) × (a.start + a.n ≤ length c.loop-done.numbers) =
-    (c.if-n-lt4.false, omega (arith, c.requires.n_in_bounds, span_is 4 c.args.n), omega (arith, c.requires.n_in_bounds_2, c.loop-done.invariant.long)) in
+    let sized = sizes c.args.from c.args.start c.if-n-lt4.false c.requires.n_in_bounds c.requires.n_in_bounds_2 c.loop-done.invariant.long in
     omega (arith, sized)
 
 pub overflow_add-start-2 : goal.overflow_add-start-2
 overflow_add-start-2 c =
-    let sized : let a = c.args in
-    (4 ≤ a.n) × (a.from + 4 * a.n ≤ length a.s.now) × (a.start + a.n ≤ length c.loop-done.numbers) =
-    (c.if-n-lt4.false, omega (arith, c.requires.n_in_bounds, span_is 4 c.args.n), omega (arith, c.requires.n_in_bounds_2, c.loop-done.invariant.long)) in
+    let sized = sizes c.args.from c.args.start c.if-n-lt4.false c.requires.n_in_bounds c.requires.n_in_bounds_2 c.loop-done.invariant.long in
     omega (arith, sized)
 
 pub put_four-requires-2 : goal.put_four-requires-2
 put_four-requires-2 c =
-    let sized : let a = c.args in
-    (4 ≤ a.n) × (a.from + 4 * a.n ≤ length a.s.now) × (a.start + a.n ≤ length c.loop-done.numbers) =
-    (c.if-n-lt4.false, omega (arith, c.requires.n_in_bounds, span_is 4 c.args.n), omega (arith, c.requires.n_in_bounds_2, c.loop-done.invariant.long)) in
+    let sized = sizes c.args.from c.args.start c.if-n-lt4.false c.requires.n_in_bounds c.requires.n_in_bounds_2 c.loop-done.invariant.long in
     let z = sized in record {
       at_in_bounds = omega (arith, z);
       to_in_bounds = omega (arith, z);
@@ -101,9 +86,7 @@ put_four-requires-2 c =
 
 pub shape_of-numbers : goal.shape_of-numbers
 shape_of-numbers c =
-    let sized : let a = c.args in
-    (4 ≤ a.n) × (a.from + 4 * a.n ≤ length a.s.now) × (a.start + a.n ≤ length c.loop-done.numbers) =
-    (c.if-n-lt4.false, omega (arith, c.requires.n_in_bounds, span_is 4 c.args.n), omega (arith, c.requires.n_in_bounds_2, c.loop-done.invariant.long)) in
+    let sized = sizes c.args.from c.args.start c.if-n-lt4.false c.requires.n_in_bounds c.requires.n_in_bounds_2 c.loop-done.invariant.long in
     let full : let a = c.args in BlocksTo a.s.now a.from a.n a.numbers.now a.start (a.n - 4 + 4) c.put_four-2.new.numbers =
     let a = c.args in
     blocks_put a.s.now a.from a.n a.numbers.now a.start c.requires.n_in_bounds_2 c.loop-done.done (a.n - 4) _ _ c.loop-done.invariant c.loop-done-test.false
@@ -112,9 +95,7 @@ shape_of-numbers c =
 
 pub returns : goal.returns
 returns c =
-    let sized : let a = c.args in
-    (4 ≤ a.n) × (a.from + 4 * a.n ≤ length a.s.now) × (a.start + a.n ≤ length c.loop-done.numbers) =
-    (c.if-n-lt4.false, omega (arith, c.requires.n_in_bounds, span_is 4 c.args.n), omega (arith, c.requires.n_in_bounds_2, c.loop-done.invariant.long)) in
+    let sized = sizes c.args.from c.args.start c.if-n-lt4.false c.requires.n_in_bounds c.requires.n_in_bounds_2 c.loop-done.invariant.long in
     let full : let a = c.args in BlocksTo a.s.now a.from a.n a.numbers.now a.start (a.n - 4 + 4) c.put_four-2.new.numbers =
     let a = c.args in
     blocks_put a.s.now a.from a.n a.numbers.now a.start c.requires.n_in_bounds_2 c.loop-done.done (a.n - 4) _ _ c.loop-done.invariant c.loop-done-test.false

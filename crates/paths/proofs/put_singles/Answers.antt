@@ -1,8 +1,4 @@
 use native.Mathlib.Omega.{arith}
-use Prim.Native.Nat.{◌+◌, ◌-◌, ◌≤◌}
-use mathlib.Core.Path.{◌≡◌}
-use lib.ListN.{length}
-use Rattle.asns.specs.Asn.{span}
 use Rattle.paths.proofs.WordLaws.{turned_low}
 use Rattle.paths.proofs.NumberTurn.{numbering_start, numbering_room, numbering_here, numbering_next, numbering_done}
 use Rattle.paths.proofs.put_singles.Goals as goal
@@ -15,41 +11,27 @@ loop-left-init c =
 
 pub low_first-requires : goal.low_first-requires
 low_first-requires c =
-    let here :
-    let a = c.args in
-    c.loop-left.at + 4 + span 4 (c.loop-left.left - 1) ≤ length a.s.now =
-    let a = c.args in
-    numbering_here a.s.now a.from 4 a.n a.numbers.now a.start c.requires.n_in_bounds_2 c.loop-left.at c.loop-left.to c.loop-left.left c.loop-left.numbers c.loop-left.invariant c.loop-left-test.true in
+    let here = numbering_here _ _ 4 _ _ _ c.requires.n_in_bounds_2 _ _ _ _ c.loop-left.invariant c.loop-left-test.true in
     omega (arith, here)
 
 pub offset_bounds-numbers-to : goal.offset_bounds-numbers-to
 offset_bounds-numbers-to c =
-    let room : let a = c.args in
-    (length c.loop-left.numbers ≡ length a.numbers.now) × (c.loop-left.to + c.loop-left.left ≤ length a.numbers.now) = let a = c.args in
-    numbering_room a.s.now a.from 4 a.n a.numbers.now a.start c.requires.n_in_bounds_2 c.loop-left.at c.loop-left.to c.loop-left.left c.loop-left.numbers c.loop-left.invariant in
+    let room = numbering_room _ _ 4 _ _ _ c.requires.n_in_bounds_2 _ _ _ _ c.loop-left.invariant in
     omega (arith, room)
 
 pub bounds-numbers-to : goal.bounds-numbers-to
 bounds-numbers-to c =
-    let room : let a = c.args in
-    (length c.loop-left.numbers ≡ length a.numbers.now) × (c.loop-left.to + c.loop-left.left ≤ length a.numbers.now) = let a = c.args in
-    numbering_room a.s.now a.from 4 a.n a.numbers.now a.start c.requires.n_in_bounds_2 c.loop-left.at c.loop-left.to c.loop-left.left c.loop-left.numbers c.loop-left.invariant in
+    let room = numbering_room _ _ 4 _ _ _ c.requires.n_in_bounds_2 _ _ _ _ c.loop-left.invariant in
     omega (arith, room, c.loop-left-test.true)
 
 pub overflow_add-at : goal.overflow_add-at
 overflow_add-at c =
-    let here :
-    let a = c.args in
-    c.loop-left.at + 4 + span 4 (c.loop-left.left - 1) ≤ length a.s.now =
-    let a = c.args in
-    numbering_here a.s.now a.from 4 a.n a.numbers.now a.start c.requires.n_in_bounds_2 c.loop-left.at c.loop-left.to c.loop-left.left c.loop-left.numbers c.loop-left.invariant c.loop-left-test.true in
+    let here = numbering_here _ _ 4 _ _ _ c.requires.n_in_bounds_2 _ _ _ _ c.loop-left.invariant c.loop-left-test.true in
     omega (arith, here)
 
 pub overflow_add-to : goal.overflow_add-to
 overflow_add-to c =
-    let room : let a = c.args in
-    (length c.loop-left.numbers ≡ length a.numbers.now) × (c.loop-left.to + c.loop-left.left ≤ length a.numbers.now) = let a = c.args in
-    numbering_room a.s.now a.from 4 a.n a.numbers.now a.start c.requires.n_in_bounds_2 c.loop-left.at c.loop-left.to c.loop-left.left c.loop-left.numbers c.loop-left.invariant in
+    let room = numbering_room _ _ 4 _ _ _ c.requires.n_in_bounds_2 _ _ _ _ c.loop-left.invariant in
     omega (arith, room)
 
 pub loop-left-preserved : goal.loop-left-preserved
@@ -60,9 +42,7 @@ loop-left-preserved c =
 
 pub shape_of-numbers : goal.shape_of-numbers
 shape_of-numbers c =
-    let room : let a = c.args in
-    (length c.loop-left.numbers ≡ length a.numbers.now) × (c.loop-left.to + c.loop-left.left ≤ length a.numbers.now) = let a = c.args in
-    numbering_room a.s.now a.from 4 a.n a.numbers.now a.start c.requires.n_in_bounds_2 c.loop-left.at c.loop-left.to c.loop-left.left c.loop-left.numbers c.loop-left.invariant in
+    let room = numbering_room _ _ 4 _ _ _ c.requires.n_in_bounds_2 _ _ _ _ c.loop-left.invariant in
     room.0
 
 pub returns : goal.returns
