@@ -1,4 +1,4 @@
-use Prim.Native.Nat.{ℕ, ◌+◌, ◌≤◌}
+use Prim.Native.Nat.{ℕ, ◌+◌, ◌≤◌, ◌<◌}
 use mathlib.Core.Path.{◌≡◌, subst}
 use mathlib.Core.List.{List}
 use native.Mathlib.Omega.{arith}
@@ -12,6 +12,18 @@ use Rattle.as4.specs.Private.{kept_count, kept_of}
 use Rattle.as4.proofs.FillTurn.{FilledTo, filled_start, filled_done, filled_fits, filled_next}
 use Rattle.as4.proofs.fill_kept.Goals as goal
 
+-- the segment at a turn's place is there and what is kept of it has room, and the stores are as long as they were
+fits : (s p₀ n₀ : List ℕ) (at pair to : ℕ) (pairs numbers : List ℕ) → FilledTo pair_of 4 s p₀ at pair pairs → FilledTo asns_of 4 s n₀ at to numbers → at < length s
+    → (at + (2 + span 4 (get_or s (at + 1) 0)) ≤ length s)
+    × (pair + kept_count (get_or s at 0) 2 ≤ length pairs)
+    × (to + kept_count (get_or s at 0) (get_or s (at + 1) 0) ≤ length numbers)
+    × (length pairs ≡ length p₀)
+    × (length numbers ≡ length n₀)
+fits s p₀ n₀ at pair to pairs numbers h k lt =
+    let p = filled_fits pair_of 4 s p₀ at pair pairs h lt _ (pair_is 4 s at) in
+    let n = filled_fits asns_of 4 s n₀ at to numbers k lt _ (asns_is 4 s at) in
+    (p.0, p.1, rw (length_numbers 4 (get_or s (at + 1) 0) (drop (at + 2) s)) at n.1, h.long, k.long)
+
 pub loop-at-init : goal.loop-at-init
 loop-at-init c =
     let a = c.args in
@@ -20,161 +32,49 @@ loop-at-init c =
 
 pub overflow_add-n : goal.overflow_add-n
 overflow_add-n c =
-    let fits :
-    let s = c.args.as4_path.now in
-    let n = get_or s (c.loop-at.at + 1) 0 in
-    (c.loop-at.at + (2 + span 4 n) ≤ length s)
-    × (c.loop-at.pair + kept_count (get_or s c.loop-at.at 0) 2 ≤ length c.loop-at.pairs)
-    × (c.loop-at.to + kept_count (get_or s c.loop-at.at 0) n ≤ length c.loop-at.numbers)
-    × (length c.loop-at.pairs ≡ length c.args.pairs.now)
-    × (length c.loop-at.numbers ≡ length c.args.numbers.now) =
-    let a = c.args in
-    let s = a.as4_path.now in
-    let at = c.loop-at.at in
-    let lt = c.loop-at-test.true in
-    let p = filled_fits pair_of 4 s a.pairs.now at c.loop-at.pair c.loop-at.pairs c.loop-at.invariant.0 lt _ (pair_is 4 s at) in
-    let n = filled_fits asns_of 4 s a.numbers.now at c.loop-at.to c.loop-at.numbers c.loop-at.invariant.1 lt _ (asns_is 4 s at) in
-    (p.0, p.1, rw (length_numbers 4 (get_or s (at + 1) 0) (drop (at + 2) s)) at n.1, c.loop-at.invariant.0.long, c.loop-at.invariant.1.long) in
-    omega (arith, fits)
+    let f = fits _ _ _ _ _ _ _ _ c.loop-at.invariant.0 c.loop-at.invariant.1 c.loop-at-test.true in
+    omega (arith, f)
 
 pub bounds-as4_path-at-in-loop-at : goal.bounds-as4_path-at-in-loop-at
 bounds-as4_path-at-in-loop-at c =
-    let fits :
-    let s = c.args.as4_path.now in
-    let n = get_or s (c.loop-at.at + 1) 0 in
-    (c.loop-at.at + (2 + span 4 n) ≤ length s)
-    × (c.loop-at.pair + kept_count (get_or s c.loop-at.at 0) 2 ≤ length c.loop-at.pairs)
-    × (c.loop-at.to + kept_count (get_or s c.loop-at.at 0) n ≤ length c.loop-at.numbers)
-    × (length c.loop-at.pairs ≡ length c.args.pairs.now)
-    × (length c.loop-at.numbers ≡ length c.args.numbers.now) =
-    let a = c.args in
-    let s = a.as4_path.now in
-    let at = c.loop-at.at in
-    let lt = c.loop-at-test.true in
-    let p = filled_fits pair_of 4 s a.pairs.now at c.loop-at.pair c.loop-at.pairs c.loop-at.invariant.0 lt _ (pair_is 4 s at) in
-    let n = filled_fits asns_of 4 s a.numbers.now at c.loop-at.to c.loop-at.numbers c.loop-at.invariant.1 lt _ (asns_is 4 s at) in
-    (p.0, p.1, rw (length_numbers 4 (get_or s (at + 1) 0) (drop (at + 2) s)) at n.1, c.loop-at.invariant.0.long, c.loop-at.invariant.1.long) in
-    omega (arith, fits)
+    let f = fits _ _ _ _ _ _ _ _ c.loop-at.invariant.0 c.loop-at.invariant.1 c.loop-at-test.true in
+    omega (arith, f)
 
 pub put_kept-requires : goal.put_kept-requires
 put_kept-requires c =
-    let fits :
-    let s = c.args.as4_path.now in
-    let n = get_or s (c.loop-at.at + 1) 0 in
-    (c.loop-at.at + (2 + span 4 n) ≤ length s)
-    × (c.loop-at.pair + kept_count (get_or s c.loop-at.at 0) 2 ≤ length c.loop-at.pairs)
-    × (c.loop-at.to + kept_count (get_or s c.loop-at.at 0) n ≤ length c.loop-at.numbers)
-    × (length c.loop-at.pairs ≡ length c.args.pairs.now)
-    × (length c.loop-at.numbers ≡ length c.args.numbers.now) =
-    let a = c.args in
-    let s = a.as4_path.now in
-    let at = c.loop-at.at in
-    let lt = c.loop-at-test.true in
-    let p = filled_fits pair_of 4 s a.pairs.now at c.loop-at.pair c.loop-at.pairs c.loop-at.invariant.0 lt _ (pair_is 4 s at) in
-    let n = filled_fits asns_of 4 s a.numbers.now at c.loop-at.to c.loop-at.numbers c.loop-at.invariant.1 lt _ (asns_is 4 s at) in
-    (p.0, p.1, rw (length_numbers 4 (get_or s (at + 1) 0) (drop (at + 2) s)) at n.1, c.loop-at.invariant.0.long, c.loop-at.invariant.1.long) in
-    record { n_in_bounds = fits.0; at_in_bounds = fits.1; n_in_bounds_2 = fits.2 }
+    let f = fits _ _ _ _ _ _ _ _ c.loop-at.invariant.0 c.loop-at.invariant.1 c.loop-at-test.true in
+    record { n_in_bounds = f.0; at_in_bounds = f.1; n_in_bounds_2 = f.2 }
 
 pub overflow_cast-n : goal.overflow_cast-n
 overflow_cast-n c = omega (arith, c.type_inv.as4_path (c.loop-at.at + 1))
 
 pub overflow_add-at : goal.overflow_add-at
 overflow_add-at c =
-    let fits :
-    let s = c.args.as4_path.now in
-    let n = get_or s (c.loop-at.at + 1) 0 in
-    (c.loop-at.at + (2 + span 4 n) ≤ length s)
-    × (c.loop-at.pair + kept_count (get_or s c.loop-at.at 0) 2 ≤ length c.loop-at.pairs)
-    × (c.loop-at.to + kept_count (get_or s c.loop-at.at 0) n ≤ length c.loop-at.numbers)
-    × (length c.loop-at.pairs ≡ length c.args.pairs.now)
-    × (length c.loop-at.numbers ≡ length c.args.numbers.now) =
-    let a = c.args in
-    let s = a.as4_path.now in
-    let at = c.loop-at.at in
-    let lt = c.loop-at-test.true in
-    let p = filled_fits pair_of 4 s a.pairs.now at c.loop-at.pair c.loop-at.pairs c.loop-at.invariant.0 lt _ (pair_is 4 s at) in
-    let n = filled_fits asns_of 4 s a.numbers.now at c.loop-at.to c.loop-at.numbers c.loop-at.invariant.1 lt _ (asns_is 4 s at) in
-    (p.0, p.1, rw (length_numbers 4 (get_or s (at + 1) 0) (drop (at + 2) s)) at n.1, c.loop-at.invariant.0.long, c.loop-at.invariant.1.long) in
-    omega (arith, fits, c.numbers_size.ensures)
+    let f = fits _ _ _ _ _ _ _ _ c.loop-at.invariant.0 c.loop-at.invariant.1 c.loop-at-test.true in
+    omega (arith, f, c.numbers_size.ensures)
 
 pub overflow_add-at-in-loop-at : goal.overflow_add-at-in-loop-at
 overflow_add-at-in-loop-at c =
-    let fits :
-    let s = c.args.as4_path.now in
-    let n = get_or s (c.loop-at.at + 1) 0 in
-    (c.loop-at.at + (2 + span 4 n) ≤ length s)
-    × (c.loop-at.pair + kept_count (get_or s c.loop-at.at 0) 2 ≤ length c.loop-at.pairs)
-    × (c.loop-at.to + kept_count (get_or s c.loop-at.at 0) n ≤ length c.loop-at.numbers)
-    × (length c.loop-at.pairs ≡ length c.args.pairs.now)
-    × (length c.loop-at.numbers ≡ length c.args.numbers.now) =
-    let a = c.args in
-    let s = a.as4_path.now in
-    let at = c.loop-at.at in
-    let lt = c.loop-at-test.true in
-    let p = filled_fits pair_of 4 s a.pairs.now at c.loop-at.pair c.loop-at.pairs c.loop-at.invariant.0 lt _ (pair_is 4 s at) in
-    let n = filled_fits asns_of 4 s a.numbers.now at c.loop-at.to c.loop-at.numbers c.loop-at.invariant.1 lt _ (asns_is 4 s at) in
-    (p.0, p.1, rw (length_numbers 4 (get_or s (at + 1) 0) (drop (at + 2) s)) at n.1, c.loop-at.invariant.0.long, c.loop-at.invariant.1.long) in
-    omega (arith, fits, c.numbers_size.ensures)
+    let f = fits _ _ _ _ _ _ _ _ c.loop-at.invariant.0 c.loop-at.invariant.1 c.loop-at-test.true in
+    omega (arith, f, c.numbers_size.ensures)
 
 pub overflow_add-pair : goal.overflow_add-pair
 overflow_add-pair c =
-    let fits :
-    let s = c.args.as4_path.now in
-    let n = get_or s (c.loop-at.at + 1) 0 in
-    (c.loop-at.at + (2 + span 4 n) ≤ length s)
-    × (c.loop-at.pair + kept_count (get_or s c.loop-at.at 0) 2 ≤ length c.loop-at.pairs)
-    × (c.loop-at.to + kept_count (get_or s c.loop-at.at 0) n ≤ length c.loop-at.numbers)
-    × (length c.loop-at.pairs ≡ length c.args.pairs.now)
-    × (length c.loop-at.numbers ≡ length c.args.numbers.now) =
-    let a = c.args in
-    let s = a.as4_path.now in
-    let at = c.loop-at.at in
-    let lt = c.loop-at-test.true in
-    let p = filled_fits pair_of 4 s a.pairs.now at c.loop-at.pair c.loop-at.pairs c.loop-at.invariant.0 lt _ (pair_is 4 s at) in
-    let n = filled_fits asns_of 4 s a.numbers.now at c.loop-at.to c.loop-at.numbers c.loop-at.invariant.1 lt _ (asns_is 4 s at) in
-    (p.0, p.1, rw (length_numbers 4 (get_or s (at + 1) 0) (drop (at + 2) s)) at n.1, c.loop-at.invariant.0.long, c.loop-at.invariant.1.long) in
-    omega (arith, fits, c.kept_count-pair.ensures)
+    let f = fits _ _ _ _ _ _ _ _ c.loop-at.invariant.0 c.loop-at.invariant.1 c.loop-at-test.true in
+    omega (arith, f, c.kept_count-pair.ensures)
 
 pub overflow_cast-n-in-loop-at : goal.overflow_cast-n-in-loop-at
 overflow_cast-n-in-loop-at c = omega (arith, c.type_inv.as4_path (c.loop-at.at + 1))
 
 pub overflow_add-to : goal.overflow_add-to
 overflow_add-to c =
-    let fits :
-    let s = c.args.as4_path.now in
-    let n = get_or s (c.loop-at.at + 1) 0 in
-    (c.loop-at.at + (2 + span 4 n) ≤ length s)
-    × (c.loop-at.pair + kept_count (get_or s c.loop-at.at 0) 2 ≤ length c.loop-at.pairs)
-    × (c.loop-at.to + kept_count (get_or s c.loop-at.at 0) n ≤ length c.loop-at.numbers)
-    × (length c.loop-at.pairs ≡ length c.args.pairs.now)
-    × (length c.loop-at.numbers ≡ length c.args.numbers.now) =
-    let a = c.args in
-    let s = a.as4_path.now in
-    let at = c.loop-at.at in
-    let lt = c.loop-at-test.true in
-    let p = filled_fits pair_of 4 s a.pairs.now at c.loop-at.pair c.loop-at.pairs c.loop-at.invariant.0 lt _ (pair_is 4 s at) in
-    let n = filled_fits asns_of 4 s a.numbers.now at c.loop-at.to c.loop-at.numbers c.loop-at.invariant.1 lt _ (asns_is 4 s at) in
-    (p.0, p.1, rw (length_numbers 4 (get_or s (at + 1) 0) (drop (at + 2) s)) at n.1, c.loop-at.invariant.0.long, c.loop-at.invariant.1.long) in
-    omega (arith, fits, c.kept_count-to.ensures)
+    let f = fits _ _ _ _ _ _ _ _ c.loop-at.invariant.0 c.loop-at.invariant.1 c.loop-at-test.true in
+    omega (arith, f, c.kept_count-to.ensures)
 
 pub loop-at-smaller : goal.loop-at-smaller
 loop-at-smaller c =
-    let fits :
-    let s = c.args.as4_path.now in
-    let n = get_or s (c.loop-at.at + 1) 0 in
-    (c.loop-at.at + (2 + span 4 n) ≤ length s)
-    × (c.loop-at.pair + kept_count (get_or s c.loop-at.at 0) 2 ≤ length c.loop-at.pairs)
-    × (c.loop-at.to + kept_count (get_or s c.loop-at.at 0) n ≤ length c.loop-at.numbers)
-    × (length c.loop-at.pairs ≡ length c.args.pairs.now)
-    × (length c.loop-at.numbers ≡ length c.args.numbers.now) =
-    let a = c.args in
-    let s = a.as4_path.now in
-    let at = c.loop-at.at in
-    let lt = c.loop-at-test.true in
-    let p = filled_fits pair_of 4 s a.pairs.now at c.loop-at.pair c.loop-at.pairs c.loop-at.invariant.0 lt _ (pair_is 4 s at) in
-    let n = filled_fits asns_of 4 s a.numbers.now at c.loop-at.to c.loop-at.numbers c.loop-at.invariant.1 lt _ (asns_is 4 s at) in
-    (p.0, p.1, rw (length_numbers 4 (get_or s (at + 1) 0) (drop (at + 2) s)) at n.1, c.loop-at.invariant.0.long, c.loop-at.invariant.1.long) in
-    omega (arith, fits, c.numbers_size.ensures)
+    let f = fits _ _ _ _ _ _ _ _ c.loop-at.invariant.0 c.loop-at.invariant.1 c.loop-at-test.true in
+    omega (arith, f, c.numbers_size.ensures)
 
 pub loop-at-preserved : goal.loop-at-preserved
 loop-at-preserved c =

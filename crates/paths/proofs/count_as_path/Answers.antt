@@ -1,7 +1,5 @@
-use Rattle.paths.proofs.PathTurn.{CountedPath, path_start, path_at, path_next, path_stop, path_done}
+use Rattle.paths.proofs.PathTurn.{path_start, path_at, path_next, path_stop, path_done}
 use native.Mathlib.Omega.{arith}
-use Prim.Native.Nat.{◌+◌, ◌≤◌}
-use lib.ListN.{length}
 use Rattle.asns.specs.Asn.{width_of}
 use Rattle.paths.specs.Segment.{rule_of}
 use Rattle.asns.proofs.AsnLaws.{width_pos}
@@ -16,51 +14,31 @@ loop-at-init c = let a = c.args in path_start (rule_of a.rule) (width_of a.width
 
 pub overflow_add-at : goal.overflow_add-at
 overflow_add-at c =
-    let taken :
-    let a = c.args in
-    let k = c.in-Numbers.count in
-    (c.loop-at.at + (2 + c.numbers_size.result) ≤ length a.value.now)
-    × CountedPath (rule_of a.rule) (width_of a.width) a.value.now (c.loop-at.at + (2 + c.numbers_size.result)) (c.loop-at.segments + 1) (c.loop-at.numbers + k) =
     let a = c.args in
     let e = path_at (rule_of a.rule) (width_of a.width) (width_pos a.width) a.value.now c.loop-at.at _ _ c.segment_count.ensures c.in-Numbers.is in
-    rw c.numbers_size.ensures (path_next (rule_of a.rule) (width_of a.width) (width_pos a.width) a.value.now c.loop-at.at c.loop-at.segments c.loop-at.numbers c.loop-at.invariant _ e) in
-    omega (arith, taken)
+    let next = path_next (rule_of a.rule) (width_of a.width) (width_pos a.width) a.value.now _ _ _ c.loop-at.invariant _ e in
+    omega (arith, next.0, c.numbers_size.ensures)
 
 pub overflow_add-at-in-Numbers : goal.overflow_add-at-in-Numbers
 overflow_add-at-in-Numbers c =
-    let taken :
-    let a = c.args in
-    let k = c.in-Numbers.count in
-    (c.loop-at.at + (2 + c.numbers_size.result) ≤ length a.value.now)
-    × CountedPath (rule_of a.rule) (width_of a.width) a.value.now (c.loop-at.at + (2 + c.numbers_size.result)) (c.loop-at.segments + 1) (c.loop-at.numbers + k) =
     let a = c.args in
     let e = path_at (rule_of a.rule) (width_of a.width) (width_pos a.width) a.value.now c.loop-at.at _ _ c.segment_count.ensures c.in-Numbers.is in
-    rw c.numbers_size.ensures (path_next (rule_of a.rule) (width_of a.width) (width_pos a.width) a.value.now c.loop-at.at c.loop-at.segments c.loop-at.numbers c.loop-at.invariant _ e) in
-    omega (arith, taken)
+    let next = path_next (rule_of a.rule) (width_of a.width) (width_pos a.width) a.value.now _ _ _ c.loop-at.invariant _ e in
+    omega (arith, next.0, c.numbers_size.ensures)
 
 pub loop-at-smaller : goal.loop-at-smaller
 loop-at-smaller c =
-    let taken :
-    let a = c.args in
-    let k = c.in-Numbers.count in
-    (c.loop-at.at + (2 + c.numbers_size.result) ≤ length a.value.now)
-    × CountedPath (rule_of a.rule) (width_of a.width) a.value.now (c.loop-at.at + (2 + c.numbers_size.result)) (c.loop-at.segments + 1) (c.loop-at.numbers + k) =
     let a = c.args in
     let e = path_at (rule_of a.rule) (width_of a.width) (width_pos a.width) a.value.now c.loop-at.at _ _ c.segment_count.ensures c.in-Numbers.is in
-    rw c.numbers_size.ensures (path_next (rule_of a.rule) (width_of a.width) (width_pos a.width) a.value.now c.loop-at.at c.loop-at.segments c.loop-at.numbers c.loop-at.invariant _ e) in
-    omega (arith, taken)
+    let next = path_next (rule_of a.rule) (width_of a.width) (width_pos a.width) a.value.now _ _ _ c.loop-at.invariant _ e in
+    omega (arith, next.0, c.numbers_size.ensures)
 
 pub loop-at-preserved : goal.loop-at-preserved
 loop-at-preserved c =
-    let taken :
-    let a = c.args in
-    let k = c.in-Numbers.count in
-    (c.loop-at.at + (2 + c.numbers_size.result) ≤ length a.value.now)
-    × CountedPath (rule_of a.rule) (width_of a.width) a.value.now (c.loop-at.at + (2 + c.numbers_size.result)) (c.loop-at.segments + 1) (c.loop-at.numbers + k) =
     let a = c.args in
     let e = path_at (rule_of a.rule) (width_of a.width) (width_pos a.width) a.value.now c.loop-at.at _ _ c.segment_count.ensures c.in-Numbers.is in
-    rw c.numbers_size.ensures (path_next (rule_of a.rule) (width_of a.width) (width_pos a.width) a.value.now c.loop-at.at c.loop-at.segments c.loop-at.numbers c.loop-at.invariant _ e) in
-    taken.1
+    let next = path_next (rule_of a.rule) (width_of a.width) (width_pos a.width) a.value.now _ _ _ c.loop-at.invariant _ e in
+    rw c.numbers_size.ensures next.1
 
 pub returns-in-Refused : goal.returns-in-Refused
 returns-in-Refused c =
