@@ -5,6 +5,7 @@ ghost use Rattle.std.specs.Prelude.{◌≡◌, length};
 
 use crate::numbers::Numbers;
 use crate::request::{Head, Judged};
+use std::io::{Read, Result, Write};
 
 mod index;
 mod line;
@@ -73,81 +74,82 @@ fn answer(
     line::put(out, shown, b"\n")
 }
 
-// Writes the output that waits, and answers whether all of it went out.
-fn flush(out: &[u8], at: usize) -> bool {
-    io::write_all(1, wire::part(out, 0, at))
+// Writes the output that waits.
+fn flush<W: Write>(to: &mut W, out: &[u8], at: usize) -> Result<()> {
+    to.write_all(wire::part(out, 0, at))
 }
 
 // After a record that was answered.
-fn after(state: State, size: usize, at: usize, out: &[u8]) -> State {
+fn after<W: Write>(to: &mut W, state: State, size: usize, at: usize, out: &[u8]) -> Result<State> {
     let mut waiting = at;
-    let mut over = false;
     if WAITING_LIMIT < at {
-        over = !flush(out, at);
+        flush(to, out, at)?;
         waiting = 0;
     }
-    State {
+    Ok(State {
         start: request::plus(state.start, size),
         have: state.have,
         record: request::plus(state.record, 1),
         at: waiting,
         ended: state.ended,
-        over,
-    }
+        over: false,
+    })
 }
 
 // The end of the run.
-fn finish(state: State, at: usize, out: &[u8]) -> State {
-    flush(out, at);
-    State {
+fn finish<W: Write>(to: &mut W, state: State, at: usize, out: &[u8]) -> Result<State> {
+    flush(to, out, at)?;
+    Ok(State {
         start: state.start,
         have: state.have,
         record: state.record,
         at: 0,
         ended: true,
         over: true,
-    }
+    })
 }
 
 // A record that is short or not given ends the run.
-fn stop(state: State, out: &mut [u8]) -> State {
+fn stop<W: Write>(to: &mut W, state: State, out: &mut [u8]) -> Result<State> {
     let word = line::put(out, state.at, b"stop");
     let record = line::number(out, word, state.record);
     let end = line::put(out, record, b"\n");
-    finish(state, end, out)
+    finish(to, state, end, out)
 }
 
-// One read: the bytes that came.
-fn read_some(space: &mut [u8]) -> usize {
-    let got = libc::read(0, space);
-    io::count(got, space)
-}
-
-fn read_from(input: &mut [u8], at: usize) -> usize {
+// One read behind the bytes in hand: how many came.
+fn read_from<R: Read>(from: &mut R, input: &mut [u8], at: usize) -> Result<usize> {
     if input.len() < at {
-        return 0;
+        return Ok(0);
     }
-    read_some(&mut input[at..])
+    from.read(&mut input[at..])
 }
 
 // Writes the output that waits, and reads more behind the bytes in hand.
-fn refill(state: State, input: &mut [u8], out: &[u8]) -> State {
-    let written = flush(out, state.at);
+fn refill<R: Read, W: Write>(
+    from: &mut R,
+    to: &mut W,
+    state: State,
+    input: &mut [u8],
+    out: &[u8],
+) -> Result<State> {
+    flush(to, out, state.at)?;
     copies::to_front(input, state.start, state.have);
     let kept = request::minus(state.have, state.start);
-    let came = read_from(input, kept);
-    State {
+    let came = read_from(from, input, kept)?;
+    Ok(State {
         start: 0,
         have: request::plus(kept, came),
         record: state.record,
         at: 0,
         ended: came == 0,
-        over: !written,
-    }
+        over: false,
+    })
 }
 
 // A whole record of so many bytes is answered.
-fn answered(
+fn answered<W: Write>(
+    to: &mut W,
     state: State,
     size: usize,
     input: &[u8],
@@ -155,32 +157,42 @@ fn answered(
     b: &mut [u32],
     w: &mut [u8],
     out: &mut [u8],
-) -> State {
+) -> Result<State> {
     let s = wire::part(input, state.start, size);
     let at = answer(s, state.record, a, b, w, out, state.at);
-    after(state, size, at, out)
+    after(to, state, size, at, out)
 }
 
 // One turn: a record is answered, or more is read, or the run ends.
-fn turn(
+fn turn<R: Read, W: Write>(
+    from: &mut R,
+    to: &mut W,
     state: State,
     input: &mut [u8],
     a: &mut [u32],
     b: &mut [u32],
     w: &mut [u8],
     out: &mut [u8],
-) -> State {
+) -> Result<State> {
     let left = request::minus(state.have, state.start);
     match request::judge(wire::part(input, state.start, left), state.ended) {
-        Judged::Whole(size) => answered(state, size, input, a, b, w, out),
-        Judged::More => refill(state, input, out),
-        Judged::Wrong => stop(state, out),
-        Judged::End => finish(state, state.at, out),
+        Judged::Whole(size) => answered(to, state, size, input, a, b, w, out),
+        Judged::More => refill(from, to, state, input, out),
+        Judged::Wrong => stop(to, state, out),
+        Judged::End => finish(to, state, state.at, out),
     }
 }
 
-// The budget is more turns than a run has.
-fn run(input: &mut [u8], a: &mut [u32], b: &mut [u32], w: &mut [u8], out: &mut [u8]) {
+// The budget is more turns than a run has. A read or a write that fails ends the run.
+fn run<R: Read, W: Write>(
+    from: &mut R,
+    to: &mut W,
+    input: &mut [u8],
+    a: &mut [u32],
+    b: &mut [u32],
+    w: &mut [u8],
+    out: &mut [u8],
+) -> Result<()> {
     let mut state = State {
         start: 0,
         have: 0,
@@ -192,11 +204,12 @@ fn run(input: &mut [u8], a: &mut [u32], b: &mut [u32], w: &mut [u8], out: &mut [
     let mut budget = u64::MAX;
     while 0 < budget {
         if state.over {
-            return;
+            return Ok(());
         }
-        state = turn(state, input, a, b, w, out);
+        state = turn(from, to, state, input, a, b, w, out)?;
         budget = budget - 1;
     }
+    Ok(())
 }
 
 // Zeros, for a store and for an output. The `ensures` gives the length, which lending the array as a slice needs.
@@ -213,15 +226,20 @@ fn byte_places() -> [u8; 400000]
 }
 
 // The places that are lent.
-fn run_with_places(input: &mut [u8], out: &mut [u8]) {
+fn run_with_places<R: Read, W: Write>(
+    from: &mut R,
+    to: &mut W,
+    input: &mut [u8],
+    out: &mut [u8],
+) -> Result<()> {
     let mut a = word_places();
     let mut b = word_places();
     let mut w = byte_places();
-    run(input, &mut a, &mut b, &mut w, out);
+    run(from, to, input, &mut a, &mut b, &mut w, out)
 }
 
-fn main() {
+fn main(rt: HostRuntime) -> Result<()> {
     let mut input = [0u8; 1310720];
     let mut out = [0u8; 65536];
-    run_with_places(&mut input, &mut out);
+    run_with_places(&mut rt.stdin(), &mut rt.stdout(), &mut input, &mut out)
 }

@@ -2,30 +2,28 @@
 // slot_table says what is put and how far it came, copies keeps what is left.
 #![tactic(auto)]
 
-ghost use Rattle.std.specs.Prelude.{◌≡◌, ◌≤◌, length};
+ghost use Rattle.std.specs.Prelude.{◌≡◌, ◌+◌, ◌≤◌, length, IfOk};
 
 use slot_table::{Ending, Then};
+use std::io::{Read, Result, Write};
 
 // A record of the largest size, 65,540 bytes, and nearly as much again to read.
 const INPUT_SIZE: usize = 131072;
 
-const INPUT: i32 = 0;
-
-const OUTPUT: i32 = 1;
-
 // Where the program that started this one hears how the table ended.
 const TOLD: i32 = 3;
 
-// Reads after the bytes in hand, and answers as the system does.
-fn read_after(input: &mut [u8], have: usize) -> isize
+// Reads after the bytes in hand, and answers how many came.
+fn read_after<R: Read>(from: &mut R, input: &mut [u8], have: usize) -> Result<usize>
     requires { have ≤ length input.old }
+    ensures { IfOk result (λ n. have + n ≤ length input.new) }
 {
-    libc::read(INPUT, &mut input[have..])
+    from.read(&mut input[have..])
 }
 
 // Writes the first n bytes of the output. Answers false where they cannot all be written.
-fn write(out: &[u8], n: usize) -> bool {
-    io::write_all(OUTPUT, wire::part(out, 0, n))
+fn write<W: Write>(to: &mut W, out: &[u8], n: usize) -> bool {
+    to.write_all(wire::part(out, 0, n)).is_ok()
 }
 
 // The end of a table where no more can be read after those bytes and those in hand.
@@ -36,7 +34,7 @@ fn unread(byte: u64, have: usize) -> Ending {
 }
 
 // The lines of all records, block by block. A turn uses or reads a byte or ends, so that the turns never run out.
-fn list(input: &mut [u8], out: &mut [u8]) -> Ending {
+fn list<R: Read, W: Write>(from: &mut R, to: &mut W, input: &mut [u8], out: &mut [u8]) -> Ending {
     let mut at: usize = 0;
     let mut have: usize = 0;
     let mut last = false;
@@ -46,7 +44,7 @@ fn list(input: &mut [u8], out: &mut [u8]) -> Ending {
     while 0 < turns {
         turns = turns - 1;
         let block = slot_table::put_records(&input[at..have], last, nth, out);
-        if !write(out, block.put) {
+        if !write(to, out, block.put) {
             return Ending::Unwritten;
         }
         at = at + block.used;
@@ -59,11 +57,9 @@ fn list(input: &mut [u8], out: &mut [u8]) -> Ending {
                 copies::to_front(input, at, have);
                 have = have - at;
                 at = 0;
-                let got = read_after(input, have);
-                if got < 0 {
+                let Ok(more) = read_after(from, input, have) else {
                     return unread(byte, have);
-                }
-                let more = io::count(got, &input[have..]);
+                };
                 last = more == 0;
                 have = have + more;
             }
@@ -75,12 +71,12 @@ fn list(input: &mut [u8], out: &mut [u8]) -> Ending {
 }
 
 // The whole table: its heading, and its lines.
-fn table(input: &mut [u8], out: &mut [u8]) -> Ending {
+fn table<R: Read, W: Write>(from: &mut R, to: &mut W, input: &mut [u8], out: &mut [u8]) -> Ending {
     let heading = slot_table::put_heading(out);
-    if !write(out, heading) {
+    if !write(to, out, heading) {
         return Ending::Unwritten;
     }
-    list(input, out)
+    list(from, to, input, out)
 }
 
 // Zeros. The `ensures` gives the length, which lending the array as a slice needs.
@@ -90,10 +86,10 @@ fn input_buffer() -> [u8; INPUT_SIZE]
     [0; INPUT_SIZE]
 }
 
-fn main() {
+fn main(rt: HostRuntime) {
     let mut input = input_buffer();
     let mut out = io::large_buffer();
-    let ending = table(&mut input, &mut out);
+    let ending = table(&mut rt.stdin(), &mut rt.stdout(), &mut input, &mut out);
     let told = slot_table::put_ending(ending, &mut out);
     io::write_all(TOLD, wire::part(&out, 0, told));
 }

@@ -5,173 +5,194 @@
 use families::AddPath;
 use slot_table::{Ending, Listed, Then};
 use slots::SlotAnswer;
+use std::io;
 
-fn text(s: &[u8]) {
-    io::write_all(1, s);
+fn text(rt: &impl Print, s: &[u8]) -> io::Result<()> {
+    rt.write_all(s)
 }
 
-fn number(n: usize) {
-    io::print_decimal(1, n as u64);
+fn number(rt: &impl Print, n: usize) -> io::Result<()> {
+    rt.print(n)
 }
 
-fn show(answer: SlotAnswer) {
+fn show(rt: &impl Print, answer: SlotAnswer) -> io::Result<()> {
     match answer {
         SlotAnswer::Slot { kept, mode } => {
-            text(b" slot ");
-            number(kept);
+            text(rt, b" slot ")?;
+            number(rt, kept)?;
             match mode {
-                AddPath::On => text(b" on"),
-                AddPath::Off => text(b" off"),
-                AddPath::Guess => text(b" guess"),
+                AddPath::On => text(rt, b" on")?,
+                AddPath::Off => text(rt, b" off")?,
+                AddPath::Guess => text(rt, b" guess")?,
             }
         }
-        SlotAnswer::More => text(b" more"),
-        SlotAnswer::Stop => text(b" stop"),
-        SlotAnswer::End => text(b" end"),
+        SlotAnswer::More => text(rt, b" more")?,
+        SlotAnswer::Stop => text(rt, b" stop")?,
+        SlotAnswer::End => text(rt, b" end")?,
     }
+    Ok(())
 }
 
 // What stands at the front of s where more may come, and where it is the last of the input.
-fn front(name: &[u8], s: &[u8]) {
-    text(name);
-    text(b":");
-    show(slots::next_slot(s, false));
-    text(b",");
-    show(slots::next_slot(s, true));
-    text(b"\n");
+fn front(rt: &impl Print, name: &[u8], s: &[u8]) -> io::Result<()> {
+    text(rt, name)?;
+    text(rt, b":")?;
+    show(rt, slots::next_slot(s, false))?;
+    text(rt, b",")?;
+    show(rt, slots::next_slot(s, true))?;
+    text(rt, b"\n")
 }
 
 // The bytes put, and the front of the output.
-fn shown(out: &[u8], put: usize) {
-    number(put);
-    text(b" ");
-    text(wire::part(out, 0, put));
+fn shown(rt: &impl Print, out: &[u8], put: usize) -> io::Result<()> {
+    number(rt, put)?;
+    text(rt, b" ")?;
+    text(rt, wire::part(out, 0, put))?;
     if put == 0 {
-        text(b"\n");
+        text(rt, b"\n")?;
     }
+    Ok(())
 }
 
 // How far a call came.
-fn came(listed: Listed) {
-    text(b"used ");
-    number(listed.used);
-    text(b", next ");
-    io::print_decimal(1, listed.nth);
+fn came(rt: &impl Print, listed: Listed) -> io::Result<()> {
+    text(rt, b"used ")?;
+    number(rt, listed.used)?;
+    text(rt, b", next ")?;
+    rt.print(listed.nth)?;
     let then = listed.then;
     match then {
-        Then::Write => text(b", write\n"),
-        Then::Read => text(b", read\n"),
-        Then::Whole => text(b", whole\n"),
-        Then::Stop => text(b", stop\n"),
+        Then::Write => text(rt, b", write\n")?,
+        Then::Read => text(rt, b", read\n")?,
+        Then::Whole => text(rt, b", whole\n")?,
+        Then::Stop => text(rt, b", stop\n")?,
     }
+    Ok(())
 }
 
 // The lines of a block, whose first record has the largest number, where more may come and where it is the last of the input.
-fn block(name: &[u8], s: &[u8], out: &mut [u8]) {
-    text(name);
-    text(b"\n");
+fn block(rt: &impl Print, name: &[u8], s: &[u8], out: &mut [u8]) -> io::Result<()> {
+    text(rt, name)?;
+    text(rt, b"\n")?;
     let more = slot_table::put_records(s, false, 18446744073709551615, out);
-    shown(out, more.put);
-    came(more);
+    shown(rt, out, more.put)?;
+    came(rt, more)?;
     let last = slot_table::put_records(s, true, 18446744073709551615, out);
-    shown(out, last.put);
-    came(last);
+    shown(rt, out, last.put)?;
+    came(rt, last)
 }
 
 // The size of an output, and the heading in it.
-fn heading(out: &mut [u8]) {
-    text(b"places ");
-    number(out.len());
-    text(b"\n");
+fn heading(rt: &impl Print, out: &mut [u8]) -> io::Result<()> {
+    text(rt, b"places ")?;
+    number(rt, out.len())?;
+    text(rt, b"\n")?;
     let put = slot_table::put_heading(out);
-    shown(out, put);
+    shown(rt, out, put)
 }
 
 // Blocks of records that keep nothing, and of a KEEPALIVE.
-fn blocks(out: &mut [u8]) {
-    block(b"nothing in hand", b"", out);
+fn blocks(rt: &impl Print, out: &mut [u8]) -> io::Result<()> {
+    block(rt, b"nothing in hand", b"", out)?;
     block(
+        rt,
         b"two records",
         b"\xC5\x3A\x00\x00\x00\xC5\x3A\x00\x00\x00",
         out,
-    );
+    )?;
     block(
+        rt,
         b"a record and half of one",
         b"\xC5\x3A\x00\x00\x00\xC5\x3A",
         out,
-    );
-    block(b"a record and none", b"\xC5\x3A\x00\x00\x00\xC5\x3B", out);
+    )?;
     block(
+        rt,
+        b"a record and none",
+        b"\xC5\x3A\x00\x00\x00\xC5\x3B",
+        out,
+    )?;
+    block(
+        rt,
         b"a KEEPALIVE",
         b"\xC5\x3A\x00\x13\x00\xFF\xFF\xFF\xFF\xFF\xFF\xFF\xFF\xFF\xFF\xFF\xFF\xFF\xFF\xFF\xFF\x00\x13\x04",
         out,
-    );
+    )
 }
 
 // How a table ended, in an output of any size.
-fn ending(how: Ending, out: &mut [u8]) {
+fn ending(rt: &impl Print, how: Ending, out: &mut [u8]) -> io::Result<()> {
     let told = slot_table::put_ending(how, out);
-    shown(out, told);
+    shown(rt, out, told)
 }
 
-fn endings(out: &mut [u8]) {
-    ending(Ending::Whole, out);
-    ending(Ending::Stop { nth: 1, byte: 0 }, out);
+fn endings(rt: &impl Print, out: &mut [u8]) -> io::Result<()> {
+    ending(rt, Ending::Whole, out)?;
+    ending(rt, Ending::Stop { nth: 1, byte: 0 }, out)?;
     ending(
+        rt,
         Ending::Unread {
             byte: 18446744073709551615,
         },
         out,
-    );
-    ending(Ending::Unwritten, out);
+    )?;
+    ending(rt, Ending::Unwritten, out)
 }
 
 // Records that are not all there.
-fn short_records() {
-    front(b"nothing", b"");
-    front(b"half a mark", b"\xC5");
-    front(b"a mark", b"\xC5\x3A");
-    front(b"half a count", b"\xC5\x3A\x00");
-    front(b"no settings", b"\xC5\x3A\x00\x01");
-    front(b"no kept bytes yet", b"\xC5\x3A\x00\x01\x00");
-    front(b"one of two kept bytes", b"\xC5\x3A\x00\x02\x03\xFF");
+fn short_records(rt: &impl Print) -> io::Result<()> {
+    front(rt, b"nothing", b"")?;
+    front(rt, b"half a mark", b"\xC5")?;
+    front(rt, b"a mark", b"\xC5\x3A")?;
+    front(rt, b"half a count", b"\xC5\x3A\x00")?;
+    front(rt, b"no settings", b"\xC5\x3A\x00\x01")?;
+    front(rt, b"no kept bytes yet", b"\xC5\x3A\x00\x01\x00")?;
+    front(rt, b"one of two kept bytes", b"\xC5\x3A\x00\x02\x03\xFF")
 }
 
 // What is no record.
-fn strange_records() {
-    front(b"another first byte", b"\xC4");
-    front(b"another second byte", b"\xC5\x3B");
-    front(b"another mark of a whole record", b"\x3A\xC5\x00\x00\x00");
-    front(b"settings 4", b"\xC5\x3A\x00\x00\x04");
-    front(b"settings 255, kept bytes missing", b"\xC5\x3A\xFF\xFF\xFF");
+fn strange_records(rt: &impl Print) -> io::Result<()> {
+    front(rt, b"another first byte", b"\xC4")?;
+    front(rt, b"another second byte", b"\xC5\x3B")?;
+    front(
+        rt,
+        b"another mark of a whole record",
+        b"\x3A\xC5\x00\x00\x00",
+    )?;
+    front(rt, b"settings 4", b"\xC5\x3A\x00\x00\x04")?;
+    front(
+        rt,
+        b"settings 255, kept bytes missing",
+        b"\xC5\x3A\xFF\xFF\xFF",
+    )
 }
 
-fn whole_records() {
-    front(b"no kept bytes", b"\xC5\x3A\x00\x00\x00");
-    front(b"settings 1", b"\xC5\x3A\x00\x00\x01");
-    front(b"settings 2", b"\xC5\x3A\x00\x00\x02");
-    front(b"settings 3", b"\xC5\x3A\x00\x00\x03");
-    front(b"a record and more", b"\xC5\x3A\x00\x01\x00\xFF\x00");
+fn whole_records(rt: &impl Print) -> io::Result<()> {
+    front(rt, b"no kept bytes", b"\xC5\x3A\x00\x00\x00")?;
+    front(rt, b"settings 1", b"\xC5\x3A\x00\x00\x01")?;
+    front(rt, b"settings 2", b"\xC5\x3A\x00\x00\x02")?;
+    front(rt, b"settings 3", b"\xC5\x3A\x00\x00\x03")?;
+    front(rt, b"a record and more", b"\xC5\x3A\x00\x01\x00\xFF\x00")
 }
 
 // What is put into outputs with too few places, with places for one line, and for several.
-fn all_sizes() {
+fn all_sizes(rt: &impl Print) -> io::Result<()> {
     let mut small = [0u8; 223];
-    heading(&mut small);
-    blocks(&mut small);
-    endings(&mut small);
+    heading(rt, &mut small)?;
+    blocks(rt, &mut small)?;
+    endings(rt, &mut small)?;
     let mut enough = [0u8; 224];
-    heading(&mut enough);
-    blocks(&mut enough);
-    endings(&mut enough);
+    heading(rt, &mut enough)?;
+    blocks(rt, &mut enough)?;
+    endings(rt, &mut enough)?;
     let mut more = [0u8; 400];
-    heading(&mut more);
-    blocks(&mut more);
+    heading(rt, &mut more)?;
+    blocks(rt, &mut more)
 }
 
-fn main() {
-    short_records();
-    strange_records();
-    whole_records();
-    all_sizes();
+fn main(rt: HostRuntime) -> io::Result<()> {
+    short_records(&rt)?;
+    strange_records(&rt)?;
+    whole_records(&rt)?;
+    all_sizes(&rt)
 }

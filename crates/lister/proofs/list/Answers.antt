@@ -1,35 +1,26 @@
-use Rattle.std.proofs.Common.{◌≡◌, ◌+◌, ◌-◌, ◌≤◌, length, take, drop, arith, length-drop, length-take-le, rules}
+use Rattle.std.proofs.Common.{◌≡◌, ℕ, ◌+◌, ◌-◌, ◌≤◌, Bool, List, length, take, drop, arith, length-drop, length-take-le, rules}
+use Rattle.slot_table.specs.Table.{listing, listed_of}
+use Rattle.slot_table.specs.declared.Listed.{Listed}
 use Rattle.slot_table.proofs.TableLaws.{used_within}
 use Rattle.lister.proofs.list.Goals as goal
 
+-- a block is the bytes in hand from a place on, and no more of them are used than there are
+block_within : (a : Listed) (last : Bool) (nth room at till : ℕ) (input : List ℕ) → at ≤ till → till ≤ length input
+    → a ≡ listed_of (listing last nth room (take (till - at) (drop at input))) → at + a.used ≤ till
+block_within a last nth room at till input h k e =
+    let size : length (take (till - at) (drop at input)) ≡ till - at = length-take-le (till - at) (drop at input) (omega (arith, length-drop at input)) in
+    omega (arith, used_within a last nth room (take (till - at) (drop at input)) e)
+
 pub overflow_add-at : goal.overflow_add-at
-overflow_add-at c =
-    let used : c.loop.at + c.put_records-arg-in-loop-turns-1.result.used ≤ c.loop.have = let l = c.loop in
-    let block = take (l.have - l.at) (drop l.at l.input) in
-    let size : length block ≡ l.have - l.at = length-take-le (l.have - l.at) (drop l.at l.input) (omega (arith, length-drop l.at l.input, l.invariant.1)) in
-    omega (arith, used_within c.put_records-arg-in-loop-turns-1.result l.last l.nth (length l.out) block c.put_records-arg-in-loop-turns-1.ensures.0, size, l.invariant.0) in
-    let h = used in omega arith
+overflow_add-at g c =
+    let used : c.loop-turns.at + c.put_records-block.result.used ≤ c.loop-turns.have =
+        block_within _ _ _ _ _ _ _ c.loop-turns.invariant.0 c.loop-turns.invariant.1 c.put_records-block.ensures.answer in
+    omega arith
 
 pub loop-turns-preserved-in-Write : goal.loop-turns-preserved-in-Write
-loop-turns-preserved-in-Write c =
-    let used : c.loop.at + c.put_records-arg-in-loop-turns-1.result.used ≤ c.loop.have = let l = c.loop in
-    let block = take (l.have - l.at) (drop l.at l.input) in
-    let size : length block ≡ l.have - l.at = length-take-le (l.have - l.at) (drop l.at l.input) (omega (arith, length-drop l.at l.input, l.invariant.1)) in
-    omega (arith, used_within c.put_records-arg-in-loop-turns-1.result l.last l.nth (length l.out) block c.put_records-arg-in-loop-turns-1.ensures.0, size, l.invariant.0) in
-    let l = c.loop in (used, l.invariant.1, l.invariant.2, search rules)
+loop-turns-preserved-in-Write g c =
+    (block_within _ _ _ _ _ _ _ c.loop-turns.invariant.0 c.loop-turns.invariant.1 c.put_records-block.ensures.answer,
+    c.loop-turns.invariant.1, c.loop-turns.invariant.2, search rules)
 
 pub overflow_sub-have : goal.overflow_sub-have
-overflow_sub-have c =
-    let used : c.loop.at + c.put_records-arg-in-loop-turns-1.result.used ≤ c.loop.have = let l = c.loop in
-    let block = take (l.have - l.at) (drop l.at l.input) in
-    let size : length block ≡ l.have - l.at = length-take-le (l.have - l.at) (drop l.at l.input) (omega (arith, length-drop l.at l.input, l.invariant.1)) in
-    omega (arith, used_within c.put_records-arg-in-loop-turns-1.result l.last l.nth (length l.out) block c.put_records-arg-in-loop-turns-1.ensures.0, size, l.invariant.0) in
-    used
-
-pub overflow_add-have : goal.overflow_add-have
-overflow_add-have c =
-    let used : c.loop.at + c.put_records-arg-1.result.used ≤ c.loop.have = let l = c.loop in
-    let block = take (l.have - l.at) (drop l.at l.input) in
-    let size : length block ≡ l.have - l.at = length-take-le (l.have - l.at) (drop l.at l.input) (omega (arith, length-drop l.at l.input, l.invariant.1)) in
-    omega (arith, used_within c.put_records-arg-1.result l.last l.nth (length l.out) block c.put_records-arg-1.ensures.0, size, l.invariant.0) in
-    let h = used in omega (arith, c.before.before.before.well-formed.0.0)
+overflow_sub-have g c = block_within _ _ _ _ _ _ _ c.loop-turns.invariant.0 c.loop-turns.invariant.1 c.put_records-block.ensures.answer

@@ -3,7 +3,7 @@ use lib.ListN.{length}
 use Rattle.mp_examples.proofs.show_rows.Given as goal
 
 abbrev pub invariant-loop-i : goal.invariant-loop-i
-invariant-loop-i l = i ≤ length l.words
+invariant-loop-i g l = l.i ≤ length l.words
 
 abbrev pub decreases-loop-i : goal.decreases-loop-i
-decreases-loop-i l = length l.words - i
+decreases-loop-i g l = length l.words - l.i

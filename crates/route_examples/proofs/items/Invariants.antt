@@ -3,7 +3,7 @@ use lib.ListN.{length}
 use Rattle.route_examples.proofs.items.Given as goal
 
 abbrev pub invariant-loop-at : goal.invariant-loop-at
-invariant-loop-at l = at ≤ length l.s
+invariant-loop-at g l = l.at ≤ length l.s
 
 abbrev pub decreases-loop-at : goal.decreases-loop-at
-decreases-loop-at l = length l.s - at
+decreases-loop-at g l = length l.s - l.at
