@@ -14,13 +14,16 @@ block_within a last nth room at till input h k e =
 pub overflow_add-at : goal.overflow_add-at
 overflow_add-at g c =
     let used : c.loop-turns.at + c.put_records-block.result.used ≤ c.loop-turns.have =
-        block_within _ _ _ _ _ _ _ c.loop-turns.invariant.0 c.loop-turns.invariant.1 c.put_records-block.ensures.answer in
+    block_within _ _ _ _ _ _ _ c.loop-turns.invariant.0 c.loop-turns.invariant.1 c.put_records-block.ensures.answer in
     omega arith
 
 pub loop-turns-preserved-in-Write : goal.loop-turns-preserved-in-Write
-loop-turns-preserved-in-Write g c =
-    (block_within _ _ _ _ _ _ _ c.loop-turns.invariant.0 c.loop-turns.invariant.1 c.put_records-block.ensures.answer,
-    c.loop-turns.invariant.1, c.loop-turns.invariant.2, search rules)
+loop-turns-preserved-in-Write g c = (
+  block_within _ _ _ _ _ _ _ c.loop-turns.invariant.0 c.loop-turns.invariant.1 c.put_records-block.ensures.answer,
+  c.loop-turns.invariant.1,
+  c.loop-turns.invariant.2,
+  search rules,
+)
 
 pub overflow_sub-have : goal.overflow_sub-have
 overflow_sub-have g c = block_within _ _ _ _ _ _ _ c.loop-turns.invariant.0 c.loop-turns.invariant.1 c.put_records-block.ensures.answer
