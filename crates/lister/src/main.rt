@@ -5,13 +5,17 @@
 ghost use Rattle.std.specs.Prelude.{◌≡◌, ◌+◌, ◌≤◌, length, IfOk};
 
 use slot_table::{Ending, Then};
-use std::io::{Read, Result, Write};
+use std::io::{ErrorKind, Read, Result, Write};
+use std::process::ExitCode;
 
 // A record of the largest size, 65,540 bytes, and nearly as much again to read.
 const INPUT_SIZE: usize = 131072;
 
 // Where the program that started this one hears how the table ended.
 const TOLD: i32 = 3;
+
+// The status where whoever read the output has closed it: what a shell gives a program that ends by the signal for that.
+const CLOSED: u8 = 141;
 
 // Reads after the bytes in hand, and answers how many came.
 fn read_after<R: Read>(from: &mut R, input: &mut [u8], have: usize) -> Result<usize>
@@ -21,9 +25,9 @@ fn read_after<R: Read>(from: &mut R, input: &mut [u8], have: usize) -> Result<us
     from.read(&mut input[have..])
 }
 
-// Writes the first n bytes of the output. Answers false where they cannot all be written.
-fn write<W: Write>(to: &mut W, out: &[u8], n: usize) -> bool {
-    to.write_all(wire::part(out, 0, n)).is_ok()
+// Writes the first n bytes of the output.
+fn write<W: Write>(to: &mut W, out: &[u8], n: usize) -> Result<()> {
+    to.write_all(wire::part(out, 0, n))
 }
 
 // The end of a table where no more can be read after those bytes and those in hand.
@@ -33,8 +37,13 @@ fn unread(byte: u64, have: usize) -> Ending {
     }
 }
 
-// The lines of all records, block by block. A turn uses or reads a byte or ends, so that the turns never run out.
-fn list<R: Read, W: Write>(from: &mut R, to: &mut W, input: &mut [u8], out: &mut [u8]) -> Ending {
+// The lines of all records, block by block. A turn uses or reads a byte or ends, so that the turns never run out. An error is of a write.
+fn list<R: Read, W: Write>(
+    from: &mut R,
+    to: &mut W,
+    input: &mut [u8],
+    out: &mut [u8],
+) -> Result<Ending> {
     let mut at: usize = 0;
     let mut have: usize = 0;
     let mut last = false;
@@ -44,9 +53,7 @@ fn list<R: Read, W: Write>(from: &mut R, to: &mut W, input: &mut [u8], out: &mut
     while 0 < turns {
         turns = turns - 1;
         let block = slot_table::put_records(&input[at..have], last, nth, out);
-        if !write(to, out, block.put) {
-            return Ending::Unwritten;
-        }
+        write(to, out, block.put)?;
         at = at + block.used;
         byte = std::num::wrapping_add_u64(byte, block.used as u64);
         nth = block.nth;
@@ -58,24 +65,27 @@ fn list<R: Read, W: Write>(from: &mut R, to: &mut W, input: &mut [u8], out: &mut
                 have = have - at;
                 at = 0;
                 let Ok(more) = read_after(from, input, have) else {
-                    return unread(byte, have);
+                    return Ok(unread(byte, have));
                 };
                 last = more == 0;
                 have = have + more;
             }
-            Then::Whole => return Ending::Whole,
-            Then::Stop => return Ending::Stop { nth, byte },
+            Then::Whole => return Ok(Ending::Whole),
+            Then::Stop => return Ok(Ending::Stop { nth, byte }),
         }
     }
-    unread(byte, have)
+    Ok(unread(byte, have))
 }
 
 // The whole table: its heading, and its lines.
-fn table<R: Read, W: Write>(from: &mut R, to: &mut W, input: &mut [u8], out: &mut [u8]) -> Ending {
+fn table<R: Read, W: Write>(
+    from: &mut R,
+    to: &mut W,
+    input: &mut [u8],
+    out: &mut [u8],
+) -> Result<Ending> {
     let heading = slot_table::put_heading(out);
-    if !write(to, out, heading) {
-        return Ending::Unwritten;
-    }
+    write(to, out, heading)?;
     list(from, to, input, out)
 }
 
@@ -86,10 +96,19 @@ fn input_buffer() -> [u8; INPUT_SIZE]
     [0; INPUT_SIZE]
 }
 
-fn main(rt: HostRuntime) {
+fn main(rt: HostRuntime) -> ExitCode {
     let mut input = input_buffer();
     let mut out = io::large_buffer();
-    let ending = table(&mut rt.stdin(), &mut rt.stdout(), &mut input, &mut out);
+    let ending = match table(&mut rt.stdin(), &mut rt.stdout(), &mut input, &mut out) {
+        Ok(ending) => ending,
+        Err(error) => {
+            if error.kind() == ErrorKind::BrokenPipe {
+                return ExitCode::from(CLOSED);
+            }
+            Ending::Unwritten
+        }
+    };
     let told = slot_table::put_ending(ending, &mut out);
     io::write_all(TOLD, wire::part(&out, 0, told));
+    ExitCode::SUCCESS
 }
