@@ -3,7 +3,7 @@
  * taken off rows.
  *
  * The functions are those of the static library that `tools/staticlib` writes, target/staticlib/libfirmware.a. Each is proved to
- * give the answer that its contract in crates/firmware/src names, for every input, and to end. None keeps a pointer, allocates, or
+ * give the answer that its contract in crates/firmware_c/src names, for every input, and to end. None keeps a pointer, allocates, or
  * has state of its own.
  *
  * Slices. A slice is two arguments: a pointer to its first element, and its length in elements. The caller owes
