@@ -49,7 +49,9 @@ pub extern "C" fn doorbramble_count_update_hosts(body: &[u8], settings: u8) -> u
     firmware::update::doorbramble_count_update_hosts(body, settings)
 }
 
-// The routes of an UPDATE body, into a lent store for each section.
+// The routes of an UPDATE body, into a lent store for each section. Not copied into what C calls: as it is, both take less of the stack
+// (DOORBRAMBLE_STACK_LIMIT).
+#[inline(never)]
 #[unsafe(no_mangle)]
 pub extern "C" fn doorbramble_parse_bgp_update_message(
     body: &[u8],

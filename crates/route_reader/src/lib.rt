@@ -353,7 +353,8 @@ fn refused(n: u8) -> RoutesAnswer
     }
 }
 
-// A list into a lent store, six words a row.
+// A list into a lent store, six words a row. Copied into its callers, whose calls from C so take a frame of the stack less (DOORBRAMBLE_STACK_LIMIT).
+#[inline(always)]
 pub fn parse_nlri_list(s: &[u8], afi: Afi, mode: AddPath, store: &mut [u32]) -> RoutesAnswer
     ensures answer { result ≡ read_list (up_to (max_of afi)) s.now mode (length store.old) }
     ensures store { store.new ≡ store_after s.now (list_of s.now (max_of afi) mode) store.old }
