@@ -1,0 +1,2 @@
+pub mod Called
+pub mod Tight
