@@ -1,83 +1,76 @@
--- Laws of answers.
+-- Laws of verdicts and of answers.
 -- Assumes nothing.
-use Prim.Native.Nat.{ℕ, zero, suc, ◌-◌, ◌≤◌, ◌<◌}
+use Prim.Native.Nat.{ℕ, ◌≤◌, ◌<◌}
 use mathlib.Core.Path.{◌≡◌, refl, sym, ap, ◌∙◌}
 use mathlib.Core.List.{List}
-use native.Mathlib.Nat.{not-suc-le-zero}
 use native.Mathlib.Omega.{arith}
 use borrow.Author.Tests.{le-leb, lt-leb}
 use lib.ListN.{length, take}
 use lib.Seq.{take_at}
-use Rattle.wire.specs.Answer.{filled, answer_by, either, unpacked, write_meaning, limited}
-use Rattle.wire.specs.Refusal.{too_long, no_room, past_all}
-use Rattle.wire.specs.declared.WriteAnswer.{WriteAnswer}
-use Rattle.wire.specs.declared.WriteAnswer.TheVariants.{Bytes, Refused}
+use Rattle.std.specs.Prelude.{Result, Ok, Err}
+use Rattle.wire.specs.Answer.{filled, count_meaning, limited}
+use Rattle.wire.specs.Verdict.{Verdict, fine, answer_by, either}
+use Rattle.wire.specs.declared.refusal.Refusal.{Refusal}
+use Rattle.wire.specs.declared.refusal.Refusal.TheVariants.{TooLong, NoRoom}
 use Rattle.wire.proofs.ChoiceLaws.{pick_leb}
 
 -- ---- by a verdict
 
-pub answer_refused : {X : Type 0} (n : ℕ) (good : X) (refused : ℕ → X) → 0 < n → answer_by n good refused ≡ refused n
-answer_refused zero good refused h = absurd (not-suc-le-zero h)
-answer_refused (suc n) good refused h = refl
+-- what is refused is not fine
+pub refused_not_fine : (r : Refusal) → ◌≡◌ {A = Verdict} (Err r) fine → ⊥
+refused_not_fine r e = let z : ◌≡◌ {A = ℕ} 0 1 = cc in omega arith
+
+pub answer_fine : {X : Type 0} (v : Verdict) (good : X) (refused : Refusal → X) → v ≡ fine → answer_by v good refused ≡ good
+answer_fine (Ok tt) good refused e = refl
+answer_fine (Err r) good refused e = absurd (refused_not_fine r e)
+
+pub answer_refused : {X : Type 0} (v : Verdict) (r : Refusal) (good : X) (refused : Refusal → X) → v ≡ Err r → answer_by v good refused ≡ refused r
+answer_refused (Ok tt) r good refused e = absurd (refused_not_fine r (sym e))
+answer_refused (Err r') r good refused e = let is : r' ≡ r = cc in ap refused is
 
 -- ---- the first of two faults
 
-pub either_none : (m n : ℕ) → either m n ≡ 0 → (m ≡ 0) × (n ≡ 0)
-either_none zero n e = (refl, e)
-either_none (suc m) n e = absurd (omega (arith, e))
+pub either_none : (v w : Verdict) → either v w ≡ fine → (v ≡ fine) × (w ≡ fine)
+either_none (Ok tt) w e = (refl, e)
+either_none (Err r) w e = absurd (refused_not_fine r e)
 
-pub either_zero : (m : ℕ) → either m 0 ≡ m
-either_zero zero = refl
-either_zero (suc m) = refl
+pub either_fine : (v : Verdict) → either v fine ≡ v
+either_fine (Ok tt) = refl
+either_fine (Err r) = refl
 
-module _ (m n k : ℕ) where
-  pub either_first : k ≡ m → 0 < k → k ≡ either m n
-  either_first e pos = e ∙ sym (by m (omega (arith, e)))
-    where
-      by : (j : ℕ) → 0 < j → either j n ≡ j
-      by zero h = absurd (not-suc-le-zero h)
-      by (suc j) h = refl
+module _ (v w : Verdict) where
+  pub either_first : (r : Refusal) → v ≡ Err r → either v w ≡ Err r
+  either_first r e = ap (λ (u : Verdict). either u w) e
 
-  pub either_second : 0 ≡ m → k ≡ n → k ≡ either m n
-  either_second e f = f ∙ ap (λ (j : ℕ). either j n) e
+  pub either_second : v ≡ fine → either v w ≡ w
+  either_second e = ap (λ (u : Verdict). either u w) e
 
--- ---- by one number
-
-module _ {X : Type 0} (counted refused : ℕ → X) where
-  pub unpacked_count : (v : ℕ) → past_all ≤ v → unpacked counted refused v ≡ counted (v - past_all)
-  unfolding unpacked
-  unpacked_count v h = rw (le-leb past_all v h)
-
-  pub unpacked_refused : (v : ℕ) → v < past_all → unpacked counted refused v ≡ refused v
-  unfolding unpacked
-  unpacked_refused v h = rw (lt-leb past_all v h)
-
--- ---- the answer of a writer
+-- ---- so many bytes, under a limit
 
 module _ (limit size places : ℕ) where
-  pub limited_long : limit < size → limited limit size places ≡ Refused too_long
+  pub limited_long : limit < size → limited limit size places ≡ Err TooLong
   unfolding limited
   limited_long h = rw (lt-leb size limit h)
 
-  pub limited_full : size ≤ limit → places < size → limited limit size places ≡ Refused no_room
+  pub limited_full : size ≤ limit → places < size → limited limit size places ≡ Err NoRoom
   unfolding limited
   limited_full h k = rw (le-leb size limit h, lt-leb size places k)
 
-  pub limited_fits : size ≤ limit → size ≤ places → limited limit size places ≡ Bytes size
+  pub limited_fits : size ≤ limit → size ≤ places → limited limit size places ≡ Ok size
   unfolding limited
   limited_fits h k = rw (le-leb size limit h, le-leb size places k)
 
   -- and back
-  pub limited_bytes : (n : ℕ) → limited limit size places ≡ Bytes n → (size ≤ limit) × (size ≤ places) × (size ≡ n)
+  pub limited_bytes : (n : ℕ) → limited limit size places ≡ Ok n → (size ≤ limit) × (size ≤ places) × (size ≡ n)
   unfolding limited
   limited_bytes n =
-      pick_leb (λ (a : WriteAnswer). a ≡ Bytes n → (size ≤ limit) × (size ≤ places) × (size ≡ n)) size limit _ _
-      (λ h. pick_leb (λ (a : WriteAnswer). a ≡ Bytes n → (size ≤ limit) × (size ≤ places) × (size ≡ n)) size places _ _
+      pick_leb (λ (a : Result ℕ Refusal). a ≡ Ok n → (size ≤ limit) × (size ≤ places) × (size ≡ n)) size limit _ _
+      (λ h. pick_leb (λ (a : Result ℕ Refusal). a ≡ Ok n → (size ≤ limit) × (size ≤ places) × (size ≡ n)) size places _ _
       (λ k e. (h, k, cc))
       (λ _ e. let z : ◌≡◌ {A = ℕ} 0 1 = cc in absurd (omega arith)))
       (λ _ e. let z : ◌≡◌ {A = ℕ} 0 1 = cc in absurd (omega arith))
 
 -- what was written stands at the front of the output
-pub written_front : (a : WriteAnswer) (n : ℕ) (bytes out : List ℕ) → a ≡ Bytes n → length bytes ≡ n → take n (filled (write_meaning a) bytes out) ≡ bytes
-written_front (Bytes m) n bytes out e size = take_at bytes _ n size
-written_front (Refused m) n bytes out e size = let z : ◌≡◌ {A = ℕ} 0 1 = cc in absurd (omega arith)
+pub written_front : (a : Result ℕ Refusal) (n : ℕ) (bytes out : List ℕ) → a ≡ Ok n → length bytes ≡ n → take n (filled (count_meaning a) bytes out) ≡ bytes
+written_front (Ok m) n bytes out e size = take_at bytes _ n size
+written_front (Err m) n bytes out e size = let z : ◌≡◌ {A = ℕ} 0 1 = cc in absurd (omega arith)

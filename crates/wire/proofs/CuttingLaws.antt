@@ -9,6 +9,10 @@ use native.Mathlib.Omega.{arith}
 use lib.ListN.{length, take, drop, length-append, take-append-drop}
 use lib.Seq.{take-append_seam, drop-append_seam, take-add}
 use Rattle.wire.specs.Number.{Bytes}
+use Rattle.std.specs.Prelude.{Err}
+use Rattle.wire.specs.Verdict.{Verdict, fine}
+use Rattle.wire.specs.declared.refusal.Refusal.{Refusal}
+use Rattle.wire.proofs.AnswerLaws.{refused_not_fine}
 use Rattle.wire.specs.Walk.{Step, took, stop, Reading, more, read_all, pieces, flat}
 use Rattle.wire.specs.Cutting.{Each, none, one, Some, here, later, joined, Cutting}
 use Rattle.wire.proofs.NumberLaws.{bytes_take, bytes_drop}
@@ -51,13 +55,13 @@ module _ {S A : Type 0} (step : S → List ℕ → Step S A) (Formed : List ℕ 
       )
 
   -- the reading and the pieces of items laid end to end
-  pub items_read : (st : S) (items : List (List ℕ)) → Each Formed items → read_all step st (joined items) ≡ record { rows = map value items; verdict = 0 }
+  pub items_read : (st : S) (items : List (List ℕ)) → Each Formed items → read_all step st (joined items) ≡ record { rows = map value items; verdict = fine }
   items_read st items fs =
       let f = front_read st items [] fs in
       ap (read_all step st) (sym (append-nil (joined items)))
       ∙ f.1
       ∙ ap (λ (r : Reading A). record { rows = map value items ++ r.rows; verdict = r.verdict }) (all_nil step f.0)
-      ∙ ap (λ (l : List A). record { rows = l; verdict = 0 }) (append-nil (map value items))
+      ∙ ap (λ (l : List A). record { rows = l; verdict = fine }) (append-nil (map value items))
 
   pub items_pieces : (st : S) (items : List (List ℕ)) → Each Formed items → pieces step st (joined items) ≡ items
   unfolding joined
@@ -71,7 +75,7 @@ module _ {S A : Type 0} (step : S → List ℕ → Step S A) (Formed : List ℕ 
 
   module _ (st : S) (s : List ℕ) where
     -- bytes that can be cut are read to their end, and what is read are the values of the items
-    pub cut_read : (items : List (List ℕ)) → Cutting Formed s items → read_all step st s ≡ record { rows = map value items; verdict = 0 }
+    pub cut_read : (items : List (List ℕ)) → Cutting Formed s items → read_all step st s ≡ record { rows = map value items; verdict = fine }
     cut_read items c = ap (read_all step st) (sym c.whole) ∙ items_read st items c.each
 
     -- the pieces that are read are the items
@@ -84,13 +88,13 @@ module _ {S A : Type 0} (step : S → List ℕ → Step S A) (Formed : List ℕ 
 
     -- what is read of any bytes, before a refusal, are the values of items at their front; nothing follows these where none is refused
     pub read_front : (items : List (List ℕ)) × (rest : List ℕ) × Each Formed items × (joined items ++ rest ≡ s)
-        × (map value items ≡ (read_all step st s).rows) × ((read_all step st s).verdict ≡ 0 → rest ≡ [])
+        × (map value items ≡ (read_all step st s).rows) × ((read_all step st s).verdict ≡ fine → rest ≡ [])
     unfolding joined
     read_front =
         all_ind step decides.sound
-        (λ _ t r. (items : List (List ℕ)) × (rest : List ℕ) × Each Formed items × (joined items ++ rest ≡ t) × (map value items ≡ r.rows) × (r.verdict ≡ 0 → rest ≡ []))
+        (λ _ t r. (items : List (List ℕ)) × (rest : List ℕ) × Each Formed items × (joined items ++ rest ≡ t) × (map value items ≡ r.rows) × (r.verdict ≡ fine → rest ≡ []))
         (λ _. ([], [], none, refl, refl, λ _. refl))
-        (λ st₁ t n pos e. ([], t, none, refl, refl, λ v. absurd (let lt : 0 < n = decides.sound.names st₁ t n e in omega arith)))
+        (λ st₁ t n pos e. ([], t, none, refl, refl, λ v. absurd (refused_not_fine n v)))
         (λ st₁ st₂ t used a pos e again.
         let item : List ℕ = take used t in
         let f = decides.formed st₁ st₂ t used a e in
@@ -108,7 +112,7 @@ module _ {S A : Type 0} (step : S → List ℕ → Step S A) (Formed : List ℕ 
         st s
 
     -- bytes that are read to their end can be cut
-    pub read_cut : (read_all step st s).verdict ≡ 0 → (items : List (List ℕ)) × Cutting Formed s items
+    pub read_cut : (read_all step st s).verdict ≡ fine → (items : List (List ℕ)) × Cutting Formed s items
     read_cut v =
         let f = read_front in (
           f.0,
@@ -116,8 +120,8 @@ module _ {S A : Type 0} (step : S → List ℕ → Step S A) (Formed : List ℕ 
         )
 
   -- what is read up to a place, and the item that stands there
-  pub read_more : (st st₁ st₂ : S) (s : List ℕ) (at used : ℕ) (a : A) → (read_all step st (take at s)).verdict ≡ 0 → step st₁ (drop at s) ≡ took used a st₂
-      → read_all step st (take (at + used) s) ≡ record { rows = (read_all step st (take at s)).rows ++ a ∷ []; verdict = 0 }
+  pub read_more : (st st₁ st₂ : S) (s : List ℕ) (at used : ℕ) (a : A) → (read_all step st (take at s)).verdict ≡ fine → step st₁ (drop at s) ≡ took used a st₂
+      → read_all step st (take (at + used) s) ≡ record { rows = (read_all step st (take at s)).rows ++ a ∷ []; verdict = fine }
   unfolding joined
   read_more st st₁ st₂ s at used a good e =
       let cut = read_cut st (take at s) good in
@@ -127,12 +131,12 @@ module _ {S A : Type 0} (step : S → List ℕ → Step S A) (Formed : List ℕ 
       let same = decides.taken st₁ item (drop used (drop at s)) formed in
       let told : took used a st₂ ≡ took (length item) (value item) same.0 = sym e ∙ ap (step st₁) (sym (take-append-drop used (drop at s))) ∙ same.1 in
       let is : value item ≡ a = cc in
-      let last : read_all step front.0 item ≡ record { rows = a ∷ []; verdict = 0 } =
-      ap (read_all step front.0) (sym (append-nil item)) ∙ items_read front.0 (item ∷ []) (one formed none) ∙ ap (λ (x : A). record { rows = x ∷ []; verdict = 0 }) is in
+      let last : read_all step front.0 item ≡ record { rows = a ∷ []; verdict = fine } =
+      ap (read_all step front.0) (sym (append-nil item)) ∙ items_read front.0 (item ∷ []) (one formed none) ∙ ap (λ (x : A). record { rows = x ∷ []; verdict = fine }) is in
       ap (read_all step st) (take-add at used s ∙ ap (λ (l : List ℕ). l ++ item) (sym cut.1.whole))
       ∙ front.1
       ∙ ap (λ (r : Reading A). record { rows = map value cut.0 ++ r.rows; verdict = r.verdict }) last
-      ∙ ap (λ (r : Reading A). record { rows = r.rows ++ a ∷ []; verdict = 0 }) (sym (cut_read st (take at s) cut.0 cut.1))
+      ∙ ap (λ (r : Reading A). record { rows = r.rows ++ a ∷ []; verdict = fine }) (sym (cut_read st (take at s) cut.0 cut.1))
 
 -- ---- two ideas of an item, the wider of which allows all that the other does
 
@@ -147,16 +151,16 @@ cut_wider f s items c = record { each = each_map f items c.each; whole = c.whole
 module _ {S A : Type 0} (step : S → List ℕ → Step S A) (Formed : List ℕ → Type 0) (value : List ℕ → A) (decides : Decides step Formed value) (Wider : List ℕ → Type 0) where
   -- what is read to its end by the narrower is read the same by the wider
   pub wider_read : {S' : Type 0} (step' : S' → List ℕ → Step S' A) → Decides step' Wider value → ((item : List ℕ) → Formed item → Wider item)
-      → (st : S) (st' : S') (s : List ℕ) → (read_all step st s).verdict ≡ 0 → read_all step st s ≡ read_all step' st' s
+      → (st : S) (st' : S') (s : List ℕ) → (read_all step st s).verdict ≡ fine → read_all step st s ≡ read_all step' st' s
   wider_read step' decides' wider st st' s v =
       let c = read_cut step Formed value decides st s v in
       cut_read step Formed value decides st s c.0 c.1 ∙ sym (cut_read step' Wider value decides' st' s c.0 (cut_wider wider s c.0 c.1))
 
-  -- where an item of the wider is one of the narrower, or odd and refused by it with a number: items of the wider are all of the narrower,
-  -- or some are odd and the narrower refuses them with that number
-  module _ (Odd : List ℕ → Type 0) (n : ℕ) (sorted : (item : List ℕ) → Wider item → Formed item ⊎ Odd item)
+  -- where an item of the wider is one of the narrower, or odd and refused by it for a reason: items of the wider are all of the narrower,
+  -- or some are odd and the narrower refuses them for that reason
+  module _ (Odd : List ℕ → Type 0) (n : Refusal) (sorted : (item : List ℕ) → Wider item → Formed item ⊎ Odd item)
       (refuses : (st : S) (item rest : List ℕ) → Wider item → Odd item → (0 < length (item ++ rest)) × (step st (item ++ rest) ≡ stop n)) where
-    pub all_or_odd : (st : S) (items : List (List ℕ)) → Each Wider items → Each Formed items ⊎ (Some Odd items × ((read_all step st (joined items)).verdict ≡ n))
+    pub all_or_odd : (st : S) (items : List (List ℕ)) → Each Wider items → Each Formed items ⊎ (Some Odd items × ((read_all step st (joined items)).verdict ≡ Err n))
     unfolding joined
     all_or_odd st [] none = inl none
     all_or_odd st (item ∷ items) (one w ws) =

@@ -1,22 +1,10 @@
 -- Two results that the promise of a call allows are equal, and so is what it leaves: of the ensures clauses themselves.
 use mathlib.Core.Path.{◌≡◌, sym, ◌∙◌}
 use Rattle.wire.proofs.ExtentLaws.{one_part}
-use Rattle.wire.proofs.wide.Reads as wide
-use Rattle.wire.proofs.least.Reads as least
-use Rattle.wire.proofs.most.Reads as most
 use Rattle.wire.proofs.octet.Reads as octet
 use Rattle.wire.proofs.u16_at.Reads as u16_at
 use Rattle.wire.proofs.u32_at.Reads as u32_at
 use Rattle.wire.proofs.part.Reads as part
-
-pub tight_wide : (κs : _) (a : _) (z z' : _) (e e' : _) → wide.Learnt κs a z e → wide.Learnt κs a z' e' → z ≡ z'
-tight_wide κs a z z' e e' p q = p ∙ sym q
-
-pub tight_least : (κs : _) (a : _) (z z' : _) (e e' : _) → least.Learnt κs a z e → least.Learnt κs a z' e' → z ≡ z'
-tight_least κs a z z' e e' p q = p ∙ sym q
-
-pub tight_most : (κs : _) (a : _) (z z' : _) (e e' : _) → most.Learnt κs a z e → most.Learnt κs a z' e' → z ≡ z'
-tight_most κs a z z' e e' p q = p ∙ sym q
 
 pub tight_octet : (κs : _) (a : _) (z z' : _) (e e' : _) → octet.Learnt κs a z e → octet.Learnt κs a z' e' → z ≡ z'
 tight_octet κs a z z' e e' p q = p ∙ sym q

@@ -7,6 +7,10 @@ use native.Mathlib.Nat.{mul-add}
 use native.Mathlib.Omega.{arith}
 use lib.ListN.{length, take, drop, drop_of_length-le, length-drop, length-append, take-append-drop}
 use lib.Seq.{drop-drop, take_all, length-take-le}
+use Rattle.std.specs.Prelude.{Err}
+use Rattle.wire.specs.Verdict.{Verdict, fine}
+use Rattle.wire.specs.declared.refusal.Refusal.{Refusal}
+use Rattle.wire.proofs.AnswerLaws.{refused_not_fine}
 use Rattle.wire.specs.Walk.{Step, took, stop, Reading, whole, refused, more, read_all, tally, flat}
 use Rattle.wire.proofs.WalkLaws.{all_nil, all_took, all_stop, all_ind, Sound}
 use Rattle.wire.specs.Store.{laid}
@@ -33,7 +37,7 @@ module _ {S A : Type 0} (step : S → List ℕ → Step S A) where
   -- of one that fills: the store has the places of what stands before `at`, and is as it was from `to` on
   pub record Filled (emit : A → List ℕ) (st₀ : S) (s : List ℕ) (d₀ : List ℕ) (st : S) (at to : ℕ) (d : List ℕ) : Type 0 where
     pub within : at ≤ length s
-    pub good : (read_all step st (drop at s)).verdict ≡ 0
+    pub good : (read_all step st (drop at s)).verdict ≡ fine
     pub long : length d ≡ length d₀
     pub room : to + length (flat emit (read_all step st (drop at s)).rows) ≤ length d₀
     pub front : take to d ++ flat emit (read_all step st (drop at s)).rows ≡ flat emit (read_all step st₀ s).rows
@@ -55,22 +59,21 @@ module _ {S A : Type 0} (step : S → List ℕ → Step S A) (sound : Sound step
     pub turn_end : length s ≤ at → read_all step st (drop at s) ≡ whole
     turn_end le = rw (drop_of_length-le s le) (all_nil step st)
 
-    pub turn_stop : (n : ℕ) → at < length s → step st (drop at s) ≡ stop n → read_all step st (drop at s) ≡ refused n
+    pub turn_stop : (n : Refusal) → at < length s → step st (drop at s) ≡ stop n → read_all step st (drop at s) ≡ refused n
     turn_stop n lt e = all_stop step st (drop at s) n (omega (arith, length-drop at s)) e
 
     -- where the rest is good, no turn refuses
-    good_never : (n : ℕ) → (read_all step st (drop at s)).verdict ≡ 0 → at < length s → step st (drop at s) ≡ stop n → ⊥
+    good_never : (n : Refusal) → (read_all step st (drop at s)).verdict ≡ fine → at < length s → step st (drop at s) ≡ stop n → ⊥
     good_never n good lt e =
-        let v : (read_all step st (drop at s)).verdict ≡ n = ap (λ (r : Reading A). r.verdict) (turn_stop n lt e) in
-        omega (arith, good, sound.names st (drop at s) n e)
+        refused_not_fine n (sym (ap (λ (r : Reading A). r.verdict) (turn_stop n lt e)) ∙ good)
 
     -- so that each takes an item
-    good_by : (x : Step S A) → (read_all step st (drop at s)).verdict ≡ 0 → at < length s → step st (drop at s) ≡ x
+    good_by : (x : Step S A) → (read_all step st (drop at s)).verdict ≡ fine → at < length s → step st (drop at s) ≡ x
         → (used : ℕ) × (a : A) × (st' : S) × (step st (drop at s) ≡ took used a st')
     good_by (took used a st') good lt e = (used, a, st', e)
     good_by (stop n) good lt e = absurd (good_never n good lt e)
 
-    pub good_takes : (read_all step st (drop at s)).verdict ≡ 0 → at < length s → (used : ℕ) × (a : A) × (st' : S) × (step st (drop at s) ≡ took used a st')
+    pub good_takes : (read_all step st (drop at s)).verdict ≡ fine → at < length s → (used : ℕ) × (a : A) × (st' : S) × (step st (drop at s) ≡ took used a st')
     good_takes good lt = good_by (step st (drop at s)) good lt refl
 
   -- ---- a loop that counts
@@ -95,10 +98,10 @@ module _ {S A : Type 0} (step : S → List ℕ → Step S A) (sound : Sound step
             total = omega (arith, h.total, n);
           }
 
-      pub count_stop : (n : ℕ) → at < length s → step st (drop at s) ≡ stop n → (read_all step st₀ s).verdict ≡ n
+      pub count_stop : (n : Refusal) → at < length s → step st (drop at s) ≡ stop n → (read_all step st₀ s).verdict ≡ Err n
       count_stop n lt e = h.verdict ∙ ap (λ (r : Reading A). r.verdict) (turn_stop s st at n lt e)
 
-      pub count_done : length s ≤ at → ((read_all step st₀ s).verdict ≡ 0) × (tally weight (read_all step st₀ s).rows ≡ sum)
+      pub count_done : length s ≤ at → ((read_all step st₀ s).verdict ≡ fine) × (tally weight (read_all step st₀ s).rows ≡ sum)
       unfolding tally
       count_done le =
           let k : tally weight (read_all step st (drop at s)).rows ≡ 0 = ap (λ (r : Reading A). tally weight r.rows) (turn_end s st at le) in
@@ -107,7 +110,7 @@ module _ {S A : Type 0} (step : S → List ℕ → Step S A) (sound : Sound step
   -- ---- a loop that fills
 
   module _ (emit : A → List ℕ) (st₀ : S) (s : List ℕ) (d₀ : List ℕ) where
-    pub fill_start : (read_all step st₀ s).verdict ≡ 0 → length (flat emit (read_all step st₀ s).rows) ≤ length d₀ → Filled step emit st₀ s d₀ st₀ 0 0 d₀
+    pub fill_start : (read_all step st₀ s).verdict ≡ fine → length (flat emit (read_all step st₀ s).rows) ≤ length d₀ → Filled step emit st₀ s d₀ st₀ 0 0 d₀
     fill_start v r = record { within = omega arith; good = v; long = refl; room = omega arith; front = refl; back = refl }
 
     module _ (st : S) (at to : ℕ) (d : List ℕ) (h : Filled step emit st₀ s d₀ st at to d) where
@@ -138,7 +141,7 @@ module _ {S A : Type 0} (step : S → List ℕ → Step S A) (sound : Sound step
               back = drop_laid d to (emit a) f.2 ∙ sym (drop-drop (length (emit a)) to d) ∙ ap (drop (length (emit a))) h.back ∙ drop-drop (length (emit a)) to d₀;
             }
 
-      pub fill_never : (n : ℕ) → at < length s → step st (drop at s) ≡ stop n → ⊥
+      pub fill_never : (n : Refusal) → at < length s → step st (drop at s) ≡ stop n → ⊥
       fill_never n lt e = good_never s st at n h.good lt e
 
       pub fill_takes : at < length s → (used : ℕ) × (a : A) × (st' : S) × (step st (drop at s) ≡ took used a st')

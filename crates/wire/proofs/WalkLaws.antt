@@ -8,6 +8,7 @@ use native.Mathlib.Numerals.{sub-one}
 use native.Mathlib.Omega.{arith}
 use lib.ListN.{length, get_or, take, drop, length-drop, length-append}
 use lib.Seq.{drop-drop, length-take-le}
+use Rattle.wire.specs.declared.refusal.Refusal.{Refusal}
 use Rattle.wire.specs.Walk.{Step, took, stop, Reading, whole, refused, more, after, walk, read_all, noted, notes, pieces, starts, past, tally, flat}
 
 -- ---- the equations that a reader expects
@@ -24,7 +25,7 @@ module _ {S A : Type 0} (step : S → List ℕ → Step S A) where
   unfolding read_all walk
   all_nil st = refl
 
-  pub all_stop : (st : S) (s : List ℕ) (n : ℕ) → 0 < length s → step st s ≡ stop n → read_all step st s ≡ refused n
+  pub all_stop : (st : S) (s : List ℕ) (n : Refusal) → 0 < length s → step st s ≡ stop n → read_all step st s ≡ refused n
   unfolding read_all walk
   all_stop st [] n pos e = absurd (not-suc-le-zero pos)
   all_stop st (b ∷ s) n pos e = rw e
@@ -36,11 +37,10 @@ module _ {S A : Type 0} (step : S → List ℕ → Step S A) where
   all_took st st' (b ∷ s) zero a pos up e = absurd (not-suc-le-zero up)
   all_took st st' (b ∷ s) (suc k) a pos up e = rw (e, sub-one (suc k)) (ap (more a) (walk_skip st' k s))
 
--- ---- a step that takes one place at least, and no more than there are, and whose refusals have a number
+-- ---- a step that takes one place at least, and no more than there are
 
 pub record Sound {S A : Type 0} (step : S → List ℕ → Step S A) : Type 0 where
   pub takes : (st st' : S) (s : List ℕ) (used : ℕ) (a : A) → step st s ≡ took used a st' → (0 < used) × (used ≤ length s)
-  pub names : (st : S) (s : List ℕ) (n : ℕ) → step st s ≡ stop n → 0 < n
 
 -- ---- induction along a reading
 
@@ -48,7 +48,7 @@ module _ {S A : Type 0} (step : S → List ℕ → Step S A) (sound : Sound step
   -- what holds at the end, at a refusal, and of an item and what follows where it holds of what follows, holds of every reading
   module _ {ℓ} (P : S → List ℕ → Reading A → Type ℓ)
       (at_end : (st : S) → P st [] whole)
-      (at_stop : (st : S) (s : List ℕ) (n : ℕ) → 0 < length s → step st s ≡ stop n → P st s (refused n))
+      (at_stop : (st : S) (s : List ℕ) (n : Refusal) → 0 < length s → step st s ≡ stop n → P st s (refused n))
       (at_took : (st st' : S) (s : List ℕ) (used : ℕ) (a : A) → 0 < length s → step st s ≡ took used a st'
       → P st' (drop used s) (read_all step st' (drop used s)) → P st s (more a (read_all step st' (drop used s)))) where
     turn : (st : S) (s : List ℕ) (x : Step S A) → 0 < length s → ((st' : S) (t : List ℕ) → length t < length s → P st' t (read_all step st' t))
@@ -79,7 +79,7 @@ module _ {S A B : Type 0} (f : S → List ℕ → B) (step : S → List ℕ → 
   unfolding notes
   notes_nil st = ap (λ (r : Reading B). r.rows) (all_nil says st)
 
-  pub notes_stop : (st : S) (s : List ℕ) (n : ℕ) → 0 < length s → step st s ≡ stop n → notes f step st s ≡ []
+  pub notes_stop : (st : S) (s : List ℕ) (n : Refusal) → 0 < length s → step st s ≡ stop n → notes f step st s ≡ []
   unfolding notes
   notes_stop st s n pos e = ap (λ (r : Reading B). r.rows) (all_stop says st s n pos (ap (noted f s) e))
 
@@ -93,7 +93,7 @@ module _ {S A : Type 0} (step : S → List ℕ → Step S A) where
   pub pieces_nil : (st : S) → pieces step st [] ≡ []
   pieces_nil st = notes_nil (λ _ item. item) step st
 
-  pub pieces_stop : (st : S) (s : List ℕ) (n : ℕ) → 0 < length s → step st s ≡ stop n → pieces step st s ≡ []
+  pub pieces_stop : (st : S) (s : List ℕ) (n : Refusal) → 0 < length s → step st s ≡ stop n → pieces step st s ≡ []
   pieces_stop st s n pos e = notes_stop (λ _ item. item) step st s n pos e
 
   pub pieces_took : (st st' : S) (s : List ℕ) (used : ℕ) (a : A) → 0 < length s → 0 < used → step st s ≡ took used a st'
@@ -106,7 +106,7 @@ module _ {S A B : Type 0} (f : S → List ℕ → B) (s : List ℕ) where
   noted_took (took u a st₁) used b st e = (a, let p : u ≡ used = cc in let q : st₁ ≡ st = cc in ap₂ (λ (n : ℕ) (st₂ : S). took n a st₂) p q)
   noted_took (stop n) used b st e = let z : ◌≡◌ {A = ℕ} 0 1 = cc in absurd (omega arith)
 
-  noted_stop : (x : Step S A) (n : ℕ) → noted f s x ≡ stop n → x ≡ stop n
+  noted_stop : (x : Step S A) (n : Refusal) → noted f s x ≡ stop n → x ≡ stop n
   noted_stop (took u a st₁) n e = let z : ◌≡◌ {A = ℕ} 0 1 = cc in absurd (omega arith)
   noted_stop (stop m) n e = let p : m ≡ n = cc in ap stop p
 
@@ -114,7 +114,6 @@ module _ {S A B : Type 0} (f : S → List ℕ → B) (step : S → List ℕ → 
   pub noted_sound : Sound (says f step)
   noted_sound = record {
     takes = λ st st' s used b e. (let t = noted_took f s (step st s) used b st' e in sound.takes st st' s used t.0 t.1);
-    names = λ st s n e. sound.names st s n (noted_stop f s (step st s) n e);
   }
 
   -- something is said of as many items as are read, up to the same verdict

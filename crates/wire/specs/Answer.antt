@@ -1,12 +1,12 @@
--- An answer as document 01 has it: the values that it names, in its order, or a refusal number. Each answer enum has beside it a definition that
--- says which one each of its cases is.
-use Rattle.std.specs.Prelude.{ℕ, zero, suc, ◌-◌, List, [], ◌∷◌, Bool, true, false, get_or, leb}
+-- An answer as a list of the values that the documents name, in their order, or a refusal number. Beside each type that a call answers stands a definition
+-- that says which one its values are.
+use Rattle.std.specs.Prelude.{ℕ, List, [], ◌∷◌, Bool, true, false, get_or, leb, Result, Ok, Err}
 use Rattle.wire.specs.Choice.{pick}
 use Rattle.wire.specs.Extent.{Extent, nothing}
-use Rattle.wire.specs.Refusal.{too_long, no_room, past_all}
+use Rattle.wire.specs.Refusal.{number_of}
 use Rattle.wire.specs.Store.{laid}
-use Rattle.wire.specs.declared.WriteAnswer.{WriteAnswer}
-use Rattle.wire.specs.declared.WriteAnswer.TheVariants as W
+use Rattle.wire.specs.declared.refusal.Refusal.{Refusal}
+use Rattle.wire.specs.declared.refusal.Refusal.TheVariants.{TooLong, NoRoom}
 
 pub data Answer : Type 0 where
   given : List ℕ → Answer
@@ -37,27 +37,17 @@ abbrev pub handed : Answer → Extent → Extent
 handed (given values) part = part
 handed (refusal n) part = nothing
 
--- by a verdict: what is good where it is 0, and else a refusal
-abbrev pub answer_by : {X : Type 0} → ℕ → X → (ℕ → X) → X
-answer_by zero good refused = good
-answer_by (suc n) good refused = refused (suc n)
+-- a result as an answer, by the values of what it holds
+abbrev pub meaning_of : {X : Type 0} → (X → List ℕ) → Result X Refusal → Answer
+meaning_of values (Ok x) = given (values x)
+meaning_of values (Err r) = refusal (number_of r)
 
--- the first of two faults, 0 where there is none
-abbrev pub either : ℕ → ℕ → ℕ
-either zero n = n
-either (suc m) n = suc m
+-- ---- a count, of rows, places or bytes
 
--- by one number: a refusal number, or a count from `past_all` on
-unfoldable pub unpacked : {X : Type 0} → (ℕ → X) → (ℕ → X) → ℕ → X
-unpacked counted refused v = pick (leb past_all v) (counted (v - past_all)) (refused v)
-
--- ---- the answer of a writer
-
--- the bytes that it wrote
-abbrev pub write_meaning : WriteAnswer → Answer
-write_meaning (W.Bytes n) = given (n ∷ [])
-write_meaning (W.Refused n) = refusal n
+-- the one number that it names
+abbrev pub count_meaning : Result ℕ Refusal → Answer
+count_meaning = meaning_of (λ n. n ∷ [])
 
 -- so many bytes, under a limit, into an output of so many places: 1, then 11
-unfoldable pub limited : ℕ → ℕ → ℕ → WriteAnswer
-limited limit size places = pick (leb size limit) (pick (leb size places) (W.Bytes size) (W.Refused no_room)) (W.Refused too_long)
+unfoldable pub limited : ℕ → ℕ → ℕ → Result ℕ Refusal
+limited limit size places = pick (leb size limit) (pick (leb size places) (Ok size) (Err NoRoom)) (Err TooLong)

@@ -1,4 +1,5 @@
 pub mod Refusal
+pub mod Verdict
 pub mod Choice
 pub mod Number
 pub mod Walk

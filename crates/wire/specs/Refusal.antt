@@ -1,6 +1,8 @@
 -- The refusal numbers of documents 01 and 02, by name, each with when it is given. src/refusal.rt has the same for code, and .ci/check-refusals holds
 -- every other list of them to this one.
 use Rattle.std.specs.Prelude.{ℕ}
+use Rattle.wire.specs.declared.refusal.Refusal.{Refusal}
+use Rattle.wire.specs.declared.refusal.Refusal.TheVariants as R
 
 -- a list, value or section, read or to write, is over 65,535 bytes; an UPDATE body, read or to write, is over 65,516
 abbrev pub too_long : ℕ
@@ -82,11 +84,29 @@ not_an_index = 19
 abbrev pub no_such_route : ℕ
 no_such_route = 20
 
--- ---- past them all
+-- ---- of each reason
 
--- an answer in one number is a refusal number, or a count from here on
-abbrev pub past_all : ℕ
-past_all = 32
+abbrev pub number_of : Refusal → ℕ
+number_of R.TooLong = too_long
+number_of R.Truncated = truncated
+number_of R.MessageLength = message_length
+number_of R.MessageType = message_type
+number_of R.ShortBody = short_body
+number_of R.BadMarker = bad_marker
+number_of R.PrefixLength = prefix_length
+number_of R.OneByteSection = one_byte_section
+number_of R.SegmentType = segment_type
+number_of R.AggregatorLength = aggregator_length
+number_of R.NoRoom = no_room
+number_of R.LongSegment = long_segment
+number_of R.WideNumber = wide_number
+number_of R.NotWritable = not_writable
+number_of R.RepeatedMpNlri = repeated_mp_nlri
+number_of R.EmptySegment = empty_segment
+number_of R.OtherFamily = other_family
+number_of R.NextHopLength = next_hop_length
+number_of R.NotAnIndex = not_an_index
+number_of R.NoSuchRoute = no_such_route
 
 -- ---- the limits behind number 1
 

@@ -1,21 +1,23 @@
 -- Reading item by item, over any step and any state: a step looks at what is left, and takes some of it for a value or refuses.
-use Rattle.std.specs.Prelude.{ℕ, zero, suc, ◌+◌, ◌-◌, List, [], ◌∷◌, ◌++◌, length, take, drop}
+use Rattle.std.specs.Prelude.{ℕ, zero, suc, ◌+◌, ◌-◌, List, [], ◌∷◌, ◌++◌, length, take, drop, Err}
+use Rattle.wire.specs.Verdict.{Verdict, fine}
+use Rattle.wire.specs.declared.refusal.Refusal.{Refusal}
 
--- what a step finds: it takes that many places for a value and goes on in a state, or it refuses with a number
+-- what a step finds: it takes that many places for a value and goes on in a state, or it refuses for a reason
 pub data Step (S A : Type 0) : Type 0 where
   took : ℕ → A → S → Step S A
-  stop : ℕ → Step S A
+  stop : Refusal → Step S A
 
--- the values before the refusal, and its number: 0 where there is none
+-- the values before the refusal, and whether there is one
 pub record Reading (A : Type 0) : Type 0 where
   pub rows : List A
-  pub verdict : ℕ
+  pub verdict : Verdict
 
 abbrev pub whole : {A : Type 0} → Reading A
-whole = record { rows = []; verdict = 0 }
+whole = record { rows = []; verdict = fine }
 
-abbrev pub refused : {A : Type 0} → ℕ → Reading A
-refused n = record { rows = []; verdict = n }
+abbrev pub refused : {A : Type 0} → Refusal → Reading A
+refused r = record { rows = []; verdict = Err r }
 
 abbrev pub more : {A : Type 0} → A → Reading A → Reading A
 more a r = record { rows = a ∷ r.rows; verdict = r.verdict }
@@ -23,7 +25,7 @@ more a r = record { rows = a ∷ r.rows; verdict = r.verdict }
 -- after a step: on past the other places of the item, all but the one that stands here
 abbrev pub after : {S A : Type 0} → Step S A → (S → ℕ → Reading A) → Reading A
 after (took used a st) go = more a (go st (used - 1))
-after (stop n) go = refused n
+after (stop r) go = refused r
 
 -- pass over `skip` places, then step
 unfoldable pub walk : {S A : Type 0} → (S → List ℕ → Step S A) → S → ℕ → List ℕ → Reading A
@@ -38,7 +40,7 @@ read_all step st s = walk step st 0 s
 -- the same step, whose value is what f says of the state that it leaves and of the places that it takes
 abbrev pub noted : {S A B : Type 0} → (S → List ℕ → B) → List ℕ → Step S A → Step S B
 noted f s (took used a st) = took used (f st (take used s)) st
-noted f s (stop n) = stop n
+noted f s (stop r) = stop r
 
 -- what f says of each item that a reading takes, before its refusal
 unfoldable pub notes : {S A B : Type 0} → (S → List ℕ → B) → (S → List ℕ → Step S A) → S → List ℕ → List B

@@ -1,7 +1,7 @@
-// Numbers as bytes at a place of a slice, and parts of a slice: reads that take every place. The refusal numbers, and the answer of a writer.
+// Numbers as bytes at a place of a slice, and parts of a slice: reads that take every place. And why calls refuse.
 #![tactic(auto)]
 
-ghost use Rattle.std.specs.Prelude.{◌≡◌, min, max, [], ◌∷◌, length, get_or};
+ghost use Rattle.std.specs.Prelude.{◌≡◌, [], ◌∷◌, length, get_or};
 ghost use Rattle.wire.specs.Number.{be, be_at};
 ghost use Rattle.wire.specs.Extent.{extent, clipped, PartOf};
 
@@ -12,52 +12,25 @@ pub const LIST_LIMIT: usize = 65535;
 
 pub const BODY_LIMIT: usize = 65516;
 
-// What a writer answers: the bytes that it wrote, or a refusal number.
-#[derive(Clone, Copy)]
-pub enum WriteAnswer {
-    Bytes(usize),
-    Refused(u8),
-}
-
-// A byte as a wider number.
-pub fn wide(b: u8) -> u32
-    ensures { result ≡ b }
-{
-    b as u32
-}
-
-// The smaller and the larger of two numbers.
-pub fn least(a: usize, b: usize) -> usize
-    ensures { result ≡ min a b }
-{
-    if a <= b { a } else { b }
-}
-
-pub fn most(a: usize, b: usize) -> usize
-    ensures { result ≡ max a b }
-{
-    if a <= b { b } else { a }
-}
-
 // The byte at a place, 0 past the end.
 pub fn octet(s: &[u8], i: usize) -> u8
     ensures { result ≡ get_or s.now i 0 }
 {
-    if i < s.len() { s[i] } else { 0 }
+    s.get(i).copied().unwrap_or(0)
 }
 
 // Two bytes as one number.
 fn join2(a: u8, b: u8) -> u32
     ensures { result ≡ be (a ∷ b ∷ []) }
 {
-    wide(a) * 256 + wide(b)
+    u32::from(a) * 256 + u32::from(b)
 }
 
 // Four bytes as one number.
 fn join4(a: u8, b: u8, c: u8, d: u8) -> u32
     ensures { result ≡ be (a ∷ b ∷ c ∷ d ∷ []) }
 {
-    ((wide(a) * 256 + wide(b)) * 256 + wide(c)) * 256 + wide(d)
+    ((u32::from(a) * 256 + u32::from(b)) * 256 + u32::from(c)) * 256 + u32::from(d)
 }
 
 // The number of the two bytes at a place.
