@@ -5,7 +5,7 @@ use Rattle.families.proofs.id_size.Reads as id_size
 use Rattle.families.proofs.mark_of.Reads as mark_of
 use Rattle.families.proofs.guess_mark.Reads as guess_mark
 use Rattle.families.proofs.octet_count.Reads as octet_count
-use Rattle.families.proofs.mode_of.Reads as mode_of
+use Rattle.families.proofs.AddPathFromU8.from.Reads as add_path
 use Rattle.families.proofs.octets.counts.Reads as counts
 use Rattle.families.proofs.octets.put_counts.Reads as put_counts
 use Rattle.families.proofs.octets.after.Reads as after
@@ -22,8 +22,8 @@ tight_guess_mark κs a z z' e e' p q = p ∙ sym q
 pub tight_octet_count : (κs : _) (a : _) (z z' : _) (e e' : _) → octet_count.Learnt κs a z e → octet_count.Learnt κs a z' e' → z ≡ z'
 tight_octet_count κs a z z' e e' p q = p ∙ sym q
 
-pub tight_mode_of : (κs : _) (a : _) (z z' : _) (e e' : _) → mode_of.Learnt κs a z e → mode_of.Learnt κs a z' e' → z ≡ z'
-tight_mode_of κs a z z' e e' p q = p ∙ sym q
+pub tight_add_path : (κs : _) (a : _) (z z' : _) (e e' : _) → add_path.Learnt κs a z e → add_path.Learnt κs a z' e' → z ≡ z'
+tight_add_path κs a z z' e e' p q = p ∙ sym q
 
 pub tight_counts : (κs : _) (a : _) (z z' : _) (e e' : _) → counts.Learnt κs a z e → counts.Learnt κs a z' e' → z ≡ z'
 tight_counts κs a z z' e e' p q = p ∙ sym q

@@ -8,21 +8,21 @@ ghost use Rattle.families.specs.Family.{id_size, mark_of, guess_mark, octets, mo
 pub mod octets;
 
 // The family of a route.
-#[derive(Clone, Copy)]
+#[derive(Clone, Copy, Debug, PartialEq, Eq, Hash)]
 pub enum Afi {
     Ipv4,
     Ipv6,
 }
 
 // How an item stands: Plain without a path id, Tagged with one. They are also the two states of the guess.
-#[derive(Clone, Copy)]
+#[derive(Clone, Copy, Debug, PartialEq, Eq, Hash)]
 pub enum Form {
     Plain,
     Tagged,
 }
 
 // The Add-Path setting of a list: off, on, or off with the guess.
-#[derive(Clone, Copy)]
+#[derive(Clone, Copy, Debug, PartialEq, Eq, Hash)]
 pub enum AddPath {
     Off,
     On,
@@ -66,19 +66,21 @@ pub fn guess_mark(form: Form) -> u32
 pub fn octet_count(len: u8) -> usize
     ensures { result ≡ octets len }
 {
-    (len as usize + 7) / 8
+    usize::from(len).div_ceil(8)
 }
 
 // The setting of a settings byte, as a slot has it: the lowest bit is Add-Path, and the next one the guess, which is for Add-Path off alone.
 // No other bit is read.
-pub fn mode_of(settings: u8) -> AddPath
-    ensures { result ≡ mode_of settings }
-{
-    if settings % 2 == 1 {
-        return AddPath::On;
+impl From<u8> for AddPath {
+    ghost from_gives = { λ settings mode. mode ≡ mode_of settings };
+
+    fn from(settings: u8) -> AddPath {
+        if settings % 2 == 1 {
+            AddPath::On
+        } else if settings / 2 % 2 == 1 {
+            AddPath::Guess
+        } else {
+            AddPath::Off
+        }
     }
-    if settings / 2 % 2 == 1 {
-        return AddPath::Guess;
-    }
-    AddPath::Off
 }
