@@ -4,7 +4,7 @@
 use Rattle.std.specs.Prelude.{ℕ, ◌-◌, Bool, true, ◌&&◌, List, [], ◌∷◌, ◌++◌, length, take, drop, ◌==◌, nat_le, slice_index}
 use Rattle.wire.specs.Choice.{pick}
 use Rattle.wire.specs.Number.{to_be}
-use Rattle.wire.specs.Refusal.{not_writable}
+use Rattle.wire.specs.declared.refusal.Refusal.TheVariants.{NotWritable}
 use Rattle.wire.specs.Walk.{Step, took, stop, Reading, read_all, flat}
 use Rattle.families.specs.Family.{id_size, mark_of, octets}
 use Rattle.families.specs.declared.Form.{Form}
@@ -49,11 +49,11 @@ writable max form r =
 unfoldable pub front_row : List ℕ → Row
 front_row ws = record { first = slice_index ws 0; id = slice_index ws 1; w0 = slice_index ws 2; w1 = slice_index ws 3; w2 = slice_index ws 4; w3 = slice_index ws 5 }
 
--- six words that are a row that can be written, and else 14
+-- six words that are a row that can be written, and else a refusal
 unfoldable pub write_step : ℕ → Form → Unit {0} → List ℕ → Step (Unit {0}) Row
-write_step max form st ws = pick (nat_le 6 (length ws) && writable max form (front_row ws)) (took 6 (front_row ws) tt) (stop not_writable)
+write_step max form st ws = pick (nat_le 6 (length ws) && writable max form (front_row ws)) (took 6 (front_row ws) tt) (stop NotWritable)
 
--- the rows of a store before the first that cannot be written, and the refusal's number
+-- the rows of a store before the first that cannot be written, and whether one is there
 unfoldable pub writing : List ℕ → ℕ → Form → Reading Row
 writing ws max form = read_all (write_step max form) tt ws
 

@@ -2,16 +2,14 @@
 #![tactic(auto)]
 
 ghost use Rattle.std.specs.Prelude.{◌≡◌, ◌+◌, ◌*◌, ◌<◌, ◌≤◌, ◌&&◌, length, drop, ◌==◌};
-ghost use Rattle.wire.specs.Answer.{unpacked};
 ghost use Rattle.wire.specs.Number.{to_be};
-ghost use Rattle.wire.specs.declared.WriteAnswer.TheVariants.{Bytes, Refused};
 ghost use Rattle.families.specs.Family.{max_of, octets};
 ghost use Rattle.route_bytes.specs.Encode.{four_words, all_zero, id_fits, write_step};
 ghost use Rattle.route_bytes.specs.Promises.{measured};
 ghost use Rattle.route_bytes.specs.Private.{size_by};
 
 use families::{Afi, Form};
-use wire::{WriteAnswer, refusal};
+use wire::refusal::Refusal;
 
 // Whether the form has an id, or the id word is 0.
 fn id_fits(id: u32, form: Form) -> bool
@@ -66,26 +64,26 @@ fn clear_past(n: usize, max: u8, w0: u32, w1: u32, w2: u32, w3: u32) -> bool
 }
 
 // How many bytes the row at the front takes. A first word under the form's mark wraps to a length over every maximum.
-fn row_size(ws: &[u32], max: u8, form: Form) -> WriteAnswer
+fn row_size(ws: &[u32], max: u8, form: Form) -> Result<usize, Refusal>
     requires { (max ≤ 128) × (6 ≤ length ws.now) }
     ensures { result ≡ size_by form (write_step max form tt ws.now) }
 {
-    let len = std::num::wrapping_sub_u32(ws[0], families::mark_of(form));
-    if wire::wide(max) < len {
-        return WriteAnswer::Refused(refusal::NOT_WRITABLE);
+    let len = ws[0].wrapping_sub(families::mark_of(form));
+    if u32::from(max) < len {
+        return Err(Refusal::NotWritable);
     }
     if !id_fits(ws[1], form) {
-        return WriteAnswer::Refused(refusal::NOT_WRITABLE);
+        return Err(Refusal::NotWritable);
     }
     let n = families::octet_count(len as u8);
     if !clear_past(n, max, ws[2], ws[3], ws[4], ws[5]) {
-        return WriteAnswer::Refused(refusal::NOT_WRITABLE);
+        return Err(Refusal::NotWritable);
     }
-    WriteAnswer::Bytes(families::id_size(form) + 1 + n)
+    Ok(families::id_size(form) + 1 + n)
 }
 
 // The same, with a copy of it for each form: a loop over rows is then one for each form too, and asks for it no more.
-fn row_size_by_form(ws: &[u32], max: u8, form: Form) -> WriteAnswer
+fn row_size_by_form(ws: &[u32], max: u8, form: Form) -> Result<usize, Refusal>
     requires { (max ≤ 128) × (6 ≤ length ws.now) }
     ensures { result ≡ size_by form (write_step max form tt ws.now) }
 {
@@ -95,59 +93,31 @@ fn row_size_by_form(ws: &[u32], max: u8, form: Form) -> WriteAnswer
     }
 }
 
-// How many bytes the rows take, none over the maximum length, in one number: from PAST_ALL on, and else a refusal number.
-fn size_rows(ws: &[u32], max: u8, form: Form) -> usize
+// How many bytes the rows take, none over the maximum length.
+#[inline(always)]
+fn size_rows(ws: &[u32], max: u8, form: Form) -> Result<usize, Refusal>
     requires { max ≤ 128 }
-    ensures { unpacked Bytes Refused result ≡ measured ws.now max form }
+    ensures { result ≡ measured ws.now max form }
 {
     if ws.len() % 6 != 0 {
-        return refusal::NOT_WRITABLE as usize;
+        return Err(Refusal::NotWritable);
     }
     let mut at: usize = 0;
     let mut total: usize = 0;
     while at < ws.len() {
-        match row_size_by_form(&ws[at..], max, form) {
-            WriteAnswer::Bytes(n) => {
-                at = at + 6;
-                total = total + n;
-            }
-            WriteAnswer::Refused(_) => {
-                return refusal::NOT_WRITABLE as usize;
-            }
-        }
+        total = total + row_size_by_form(&ws[at..], max, form)?;
+        at = at + 6;
     }
-    refusal::PAST_ALL + total
+    Ok(total)
 }
 
-// The same for a family, with a call for each family and form: only such calls, with nothing left to choose, are copied into their callers.
-// With `&rows[..]` the slice stays in registers.
-fn size_within(rows: &[u32], afi: Afi, form: Form) -> usize
-    ensures { unpacked Bytes Refused result ≡ measured rows.now (max_of afi) form }
-{
-    let ws = &rows[..];
-    match afi {
-        Afi::Ipv4 => match form {
-            Form::Plain => size_rows(ws, 32, Form::Plain),
-            Form::Tagged => size_rows(ws, 32, Form::Tagged),
-        },
-        Afi::Ipv6 => match form {
-            Form::Plain => size_rows(ws, 128, Form::Plain),
-            Form::Tagged => size_rows(ws, 128, Form::Tagged),
-        },
-    }
-}
-
-// How many bytes rows take as a list. With two calls of size_within this function is copied into its callers, and the number stays in a
-// register.
-pub fn measure_nlri_prefixes(rows: &[u32], afi: Afi, form: Form) -> WriteAnswer
+// How many bytes rows take as a list: a loop for each family and form, copied into the callers with its answer in registers.
+#[inline(always)]
+pub fn measure_nlri_prefixes(rows: &[u32], afi: Afi, form: Form) -> Result<usize, Refusal>
     ensures { result ≡ measured rows.now (max_of afi) form }
 {
-    let n = match afi {
-        Afi::Ipv4 => size_within(rows, Afi::Ipv4, form),
-        Afi::Ipv6 => size_within(rows, Afi::Ipv6, form),
-    };
-    if n < refusal::PAST_ALL {
-        return WriteAnswer::Refused(n as u8);
+    match afi {
+        Afi::Ipv4 => size_rows(rows, 32, form),
+        Afi::Ipv6 => size_rows(rows, 128, form),
     }
-    WriteAnswer::Bytes(n - refusal::PAST_ALL)
 }

@@ -1,41 +1,39 @@
 -- What the call on two lists answers and leaves: both are written, with bytes before and between them, or nothing is.
-use Rattle.std.specs.Prelude.{ℕ, ◌+◌, List, [], ◌∷◌, get_or, ltb}
-use Rattle.wire.specs.Answer.{Answer, given, refusal}
+use Rattle.std.specs.Prelude.{ℕ, ◌+◌, List, [], ◌∷◌, get_or, ltb, Result, Ok, Err}
+use Rattle.wire.specs.Answer.{Answer, given, refusal, meaning_of}
 use Rattle.wire.specs.Choice.{pick}
-use Rattle.wire.specs.Refusal.{too_long, no_room, list_limit}
+use Rattle.wire.specs.Refusal.{list_limit}
 use Rattle.wire.specs.Store.{laid}
-use Rattle.wire.specs.declared.WriteAnswer.{WriteAnswer}
-use Rattle.wire.specs.declared.WriteAnswer.TheVariants as W
+use Rattle.wire.specs.declared.refusal.Refusal.{Refusal}
+use Rattle.wire.specs.declared.refusal.Refusal.TheVariants.{TooLong, NoRoom}
 use Rattle.families.specs.declared.Form.{Form}
 use Rattle.route_bytes.specs.Promises.{measured}
-use Rattle.route_writer.specs.declared.ListsAnswer.{ListsAnswer}
-use Rattle.route_writer.specs.declared.ListsAnswer.TheVariants.{Lists, Refused}
+use Rattle.route_writer.specs.declared.Lists.{Lists}
 
 -- two lists as document 01 has them: the bytes of each
-abbrev pub lists_meaning : ListsAnswer → Answer
-lists_meaning (Lists first second) = given (first ∷ second ∷ [])
-lists_meaning (Refused n) = refusal n
+abbrev pub lists_meaning : Result Lists Refusal → Answer
+lists_meaning = meaning_of (λ sizes. sizes.first ∷ sizes.second ∷ [])
 
 -- where the second list ends
 abbrev pub write_pair_end : ℕ → ℕ → ℕ → ℕ → ℕ
 write_pair_end start between first second = start + first + between + second
 
 -- lists of these sizes: 1 for a list, 1 for all of it, then 11 where an output has fewer places
-unfoldable pub write_pair_sized : ℕ → ℕ → ℕ → ℕ → ℕ → ℕ → ListsAnswer
+unfoldable pub write_pair_sized : ℕ → ℕ → ℕ → ℕ → ℕ → ℕ → Result Lists Refusal
 write_pair_sized start between most places first second =
-    pick (ltb list_limit first) (Refused too_long)
-    (pick (ltb list_limit second) (Refused too_long)
-    (pick (ltb most (write_pair_end start between first second)) (Refused too_long)
-    (pick (ltb places (write_pair_end start between first second)) (Refused no_room)
-    (Lists first second))))
+    pick (ltb list_limit first) (Err TooLong)
+    (pick (ltb list_limit second) (Err TooLong)
+    (pick (ltb most (write_pair_end start between first second)) (Err TooLong)
+    (pick (ltb places (write_pair_end start between first second)) (Err NoRoom)
+    (Ok (record { first = first; second = second })))))
 
 -- 14 in either list comes first, in the first before the second
-abbrev pub if_both : WriteAnswer → WriteAnswer → (ℕ → ℕ → ListsAnswer) → ListsAnswer
-if_both (W.Bytes a) (W.Bytes b) next = next a b
-if_both (W.Bytes a) (W.Refused n) next = Refused n
-if_both (W.Refused n) second next = Refused n
+abbrev pub if_both : Result ℕ Refusal → Result ℕ Refusal → (ℕ → ℕ → Result Lists Refusal) → Result Lists Refusal
+if_both (Ok a) (Ok b) next = next a b
+if_both (Ok a) (Err r) next = Err r
+if_both (Err r) second next = Err r
 
-unfoldable pub write_pair_answer : List ℕ → List ℕ → ℕ → Form → ℕ → ℕ → ℕ → ℕ → ListsAnswer
+unfoldable pub write_pair_answer : List ℕ → List ℕ → ℕ → Form → ℕ → ℕ → ℕ → ℕ → Result Lists Refusal
 write_pair_answer first second max form start between most places =
     if_both (measured first max form) (measured second max form) (write_pair_sized start between most places)
 

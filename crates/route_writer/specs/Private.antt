@@ -1,6 +1,7 @@
 -- What private functions ask of each other and leave; no promise rests on it.
 use Rattle.std.specs.Prelude.{ℕ, ◌+◌, ◌≤◌, ◌≡◌, List, [], ◌∷◌, ◌++◌, length, get_or}
 use Rattle.wire.specs.Number.{to_be}
+use Rattle.wire.specs.Verdict.{fine}
 use Rattle.wire.proofs.StoreLaws.{Like}
 use Rattle.wire.proofs.Turn.{Filled}
 use Rattle.families.specs.Family.{id_size}
@@ -18,7 +19,7 @@ head_bytes form r = to_be (id_size form) r.id ++ (length_of form r ∷ [])
 
 -- rows that can be written, with `total` bytes, which the output has room for
 pub record Fillable (rows : List ℕ) (max : ℕ) (form : Form) (out : List ℕ) (total : ℕ) : Type 0 where
-  pub good : (writing rows max form).verdict ≡ 0
+  pub good : (writing rows max form).verdict ≡ fine
   pub size : length (bytes_of rows max form) ≡ total
   pub room : total ≤ length out
 

@@ -2,25 +2,24 @@
 #![tactic(auto)]
 
 ghost use Rattle.std.specs.Prelude.{◌≡◌, ◌+◌, ◌≤◌, ◌<◌, length, get_or, take};
-ghost use Rattle.wire.specs.Answer.{write_meaning};
+ghost use Rattle.wire.specs.Answer.{count_meaning};
 ghost use Rattle.wire.specs.Number.{to_be};
 ghost use Rattle.wire.specs.Store.{laid};
 ghost use Rattle.families.specs.Family.{max_of, id_size, mark_of};
 ghost use Rattle.route_bytes.specs.Encode.{address, length_of, row_bytes, bytes_of};
 ghost use Rattle.route_bytes.specs.Promises.{measured};
-ghost use Rattle.wire.specs.declared.WriteAnswer.TheVariants.{Bytes};
 ghost use Rattle.route_writer.specs.Private.{row_at, head_bytes, Fillable, Ahead};
 ghost use Rattle.route_writer.specs.Promises.{write_after, filled_after, write_answer, out_after};
 ghost use Rattle.route_writer.specs.Pair.{lists_meaning, write_pair_sized, write_pair_answer, write_pair_after};
 
 use families::{Afi, Form};
-use wire::{WriteAnswer, refusal};
+use wire::refusal::Refusal;
 
-// The bytes of two lists that were written, or a refusal number.
-#[derive(Clone, Copy)]
-pub enum ListsAnswer {
-    Lists { first: usize, second: usize },
-    Refused(u8),
+// The bytes of two lists that were written.
+#[derive(Clone, Copy, Debug, PartialEq, Eq, Hash)]
+pub struct Lists {
+    pub first: usize,
+    pub second: usize,
 }
 
 // The four bytes of a word of the store, at a place of the output: just those four are lent, so that no test of room is left when it is compiled.
@@ -192,7 +191,7 @@ fn fill(rows: &[u32], afi: Afi, form: Form, out: &mut [u8], total: usize)
 // Rows that were measured, as a list at a place of an output that has room. With two calls of fill this function is copied into its
 // callers.
 fn put_rows(rows: &[u32], afi: Afi, form: Form, size: usize, out: &mut [u8], to: usize)
-    requires { (measured rows.now (max_of afi) form ≡ Bytes size) × (to + size ≤ length out.old) }
+    requires { (measured rows.now (max_of afi) form ≡ Ok size) × (to + size ≤ length out.old) }
     ensures { out.new ≡ laid out.old to (bytes_of rows.now (max_of afi) form) }
 {
     match afi {
@@ -203,7 +202,7 @@ fn put_rows(rows: &[u32], afi: Afi, form: Form, size: usize, out: &mut [u8], to:
 
 // The same for one of two lists, which often has no rows.
 fn put_list(rows: &[u32], afi: Afi, form: Form, size: usize, out: &mut [u8], to: usize)
-    requires { (measured rows.now (max_of afi) form ≡ Bytes size) × (to + size ≤ length out.old) }
+    requires { (measured rows.now (max_of afi) form ≡ Ok size) × (to + size ≤ length out.old) }
     ensures { out.new ≡ laid out.old to (bytes_of rows.now (max_of afi) form) }
 {
     if size == 0 {
@@ -219,30 +218,31 @@ pub fn encode_nlri_after(
     afi: Afi,
     form: Form,
     out: &mut [u8],
-) -> WriteAnswer
+) -> Result<usize, Refusal>
     ensures answer { result ≡ write_after before rows.now (max_of afi) form (length out.old) }
-    ensures out { out.new ≡ filled_after (write_meaning result) before (bytes_of rows.now (max_of afi) form) out.old }
+    ensures out { out.new ≡ filled_after (count_meaning result) before (bytes_of rows.now (max_of afi) form) out.old }
 {
-    match route_bytes::measure_nlri_prefixes(rows, afi, form) {
-        WriteAnswer::Bytes(n) => {
-            if wire::LIST_LIMIT < before {
-                return WriteAnswer::Refused(refusal::TOO_LONG);
-            }
-            if wire::LIST_LIMIT - before < n {
-                return WriteAnswer::Refused(refusal::TOO_LONG);
-            }
-            if out.len() < before + n {
-                return WriteAnswer::Refused(refusal::NO_ROOM);
-            }
-            put_rows(rows, afi, form, n, out, before);
-            WriteAnswer::Bytes(before + n)
-        }
-        WriteAnswer::Refused(n) => WriteAnswer::Refused(n),
+    let size = route_bytes::measure_nlri_prefixes(rows, afi, form)?;
+    if wire::LIST_LIMIT < before {
+        return Err(Refusal::TooLong);
     }
+    if wire::LIST_LIMIT - before < size {
+        return Err(Refusal::TooLong);
+    }
+    if out.len() < before + size {
+        return Err(Refusal::NoRoom);
+    }
+    put_rows(rows, afi, form, size, out, before);
+    Ok(before + size)
 }
 
 // Rows as a list, at the front of the output.
-pub fn encode_nlri_prefixes(rows: &[u32], afi: Afi, form: Form, out: &mut [u8]) -> WriteAnswer
+pub fn encode_nlri_prefixes(
+    rows: &[u32],
+    afi: Afi,
+    form: Form,
+    out: &mut [u8],
+) -> Result<usize, Refusal>
     ensures answer { result ≡ write_answer rows.now (max_of afi) form (length out.old) }
     ensures out { out.new ≡ out_after rows.now (max_of afi) form out.old }
 {
@@ -257,28 +257,28 @@ fn pair_size(
     between: usize,
     most: usize,
     places: usize,
-) -> ListsAnswer
+) -> Result<Lists, Refusal>
     ensures { result ≡ write_pair_sized start between most places first second }
 {
     if wire::LIST_LIMIT < first {
-        return ListsAnswer::Refused(refusal::TOO_LONG);
+        return Err(Refusal::TooLong);
     }
     if wire::LIST_LIMIT < second {
-        return ListsAnswer::Refused(refusal::TOO_LONG);
+        return Err(Refusal::TooLong);
     }
     if most < start {
-        return ListsAnswer::Refused(refusal::TOO_LONG);
+        return Err(Refusal::TooLong);
     }
     if most - start < between {
-        return ListsAnswer::Refused(refusal::TOO_LONG);
+        return Err(Refusal::TooLong);
     }
     if most - start - between < first + second {
-        return ListsAnswer::Refused(refusal::TOO_LONG);
+        return Err(Refusal::TooLong);
     }
     if places < start + first + between + second {
-        return ListsAnswer::Refused(refusal::NO_ROOM);
+        return Err(Refusal::NoRoom);
     }
-    ListsAnswer::Lists { first, second }
+    Ok(Lists { first, second })
 }
 
 // The sizes of two lists of rows, if they can be written and fit.
@@ -291,16 +291,12 @@ fn measure_pair(
     between: usize,
     most: usize,
     places: usize,
-) -> ListsAnswer
+) -> Result<Lists, Refusal>
     ensures { result ≡ write_pair_answer first.now second.now (max_of afi) form start between most places }
 {
-    match route_bytes::measure_nlri_prefixes(first, afi, form) {
-        WriteAnswer::Bytes(a) => match route_bytes::measure_nlri_prefixes(second, afi, form) {
-            WriteAnswer::Bytes(b) => pair_size(a, b, start, between, most, places),
-            WriteAnswer::Refused(n) => ListsAnswer::Refused(n),
-        },
-        WriteAnswer::Refused(n) => ListsAnswer::Refused(n),
-    }
+    let a = route_bytes::measure_nlri_prefixes(first, afi, form)?;
+    let b = route_bytes::measure_nlri_prefixes(second, afi, form)?;
+    pair_size(a, b, start, between, most, places)
 }
 
 // Two lists, both or neither: the first at `start`, the second `between` bytes after its end, all within `most` bytes. What stands
@@ -314,22 +310,19 @@ pub fn encode_nlri_pair(
     between: usize,
     most: usize,
     out: &mut [u8],
-) -> ListsAnswer
+) -> Result<Lists, Refusal>
     ensures answer { result ≡ write_pair_answer first.now second.now (max_of afi) form start between most (length out.old) }
     ensures out { out.new ≡ write_pair_after (lists_meaning result) start between (bytes_of first.now (max_of afi) form) (bytes_of second.now (max_of afi) form) out.old }
 {
-    match measure_pair(first, second, afi, form, start, between, most, out.len()) {
-        ListsAnswer::Lists {
-            first: a,
-            second: b,
-        } => {
-            put_list(first, afi, form, a, out, start);
-            put_list(second, afi, form, b, out, start + a + between);
-            ListsAnswer::Lists {
-                first: a,
-                second: b,
-            }
-        }
-        ListsAnswer::Refused(n) => ListsAnswer::Refused(n),
-    }
+    let sizes = measure_pair(first, second, afi, form, start, between, most, out.len())?;
+    put_list(first, afi, form, sizes.first, out, start);
+    put_list(
+        second,
+        afi,
+        form,
+        sizes.second,
+        out,
+        start + sizes.first + between,
+    );
+    Ok(sizes)
 }

@@ -1,18 +1,18 @@
 -- An UPDATE body to write. RFC 4271 section 4.3: a two-octet length and the withdrawn routes, a two-octet length and the path attributes, and
 -- the announced routes.
-use Rattle.std.specs.Prelude.{ℕ, ◌+◌, List, ◌++◌, length, ltb}
+use Rattle.std.specs.Prelude.{ℕ, ◌+◌, List, ◌++◌, length, ltb, Result, Ok, Err}
 use Rattle.wire.specs.Answer.{limited}
 use Rattle.wire.specs.Choice.{pick}
 use Rattle.wire.specs.Number.{to_be}
-use Rattle.wire.specs.Refusal.{too_long, list_limit, body_limit}
+use Rattle.wire.specs.Refusal.{list_limit, body_limit}
 use Rattle.families.specs.Family.{max_of}
 use Rattle.families.specs.declared.Afi.TheVariants.{Ipv4}
 use Rattle.families.specs.declared.Form.{Form}
 use Rattle.route_bytes.specs.Encode.{bytes_of}
 use Rattle.route_bytes.specs.Promises.{measured}
 use Rattle.updates.specs.Body.{length_size}
-use Rattle.wire.specs.declared.WriteAnswer.{WriteAnswer}
-use Rattle.wire.specs.declared.WriteAnswer.TheVariants.{Bytes, Refused}
+use Rattle.wire.specs.declared.refusal.Refusal.{Refusal}
+use Rattle.wire.specs.declared.refusal.Refusal.TheVariants.{TooLong}
 
 -- the three sections, one after another
 unfoldable pub sections : List ℕ → List ℕ → List ℕ → List ℕ
@@ -27,18 +27,18 @@ abbrev pub body_size : ℕ → ℕ → ℕ → ℕ
 body_size withdrawn attributes announced = length_size + withdrawn + length_size + attributes + announced
 
 -- 1 for the withdrawn section, for the attributes and for all of it, then 11 where an output has fewer places
-unfoldable pub body_sized : ℕ → ℕ → ℕ → ℕ → WriteAnswer
+unfoldable pub body_sized : ℕ → ℕ → ℕ → ℕ → Result ℕ Refusal
 body_sized withdrawn attributes announced places =
-    pick (ltb list_limit withdrawn) (Refused too_long)
-    (pick (ltb list_limit attributes) (Refused too_long)
+    pick (ltb list_limit withdrawn) (Err TooLong)
+    (pick (ltb list_limit attributes) (Err TooLong)
     (limited body_limit (body_size withdrawn attributes announced) places))
 
 -- 14 in either list comes first, in the withdrawn one before the other
-abbrev pub if_writable : WriteAnswer → (ℕ → WriteAnswer) → WriteAnswer
-if_writable (Bytes n) next = next n
-if_writable (Refused n) next = Refused n
+abbrev pub if_writable : Result ℕ Refusal → (ℕ → Result ℕ Refusal) → Result ℕ Refusal
+if_writable (Ok n) next = next n
+if_writable (Err r) next = Err r
 
-unfoldable pub body_answer : List ℕ → List ℕ → List ℕ → Form → ℕ → WriteAnswer
+unfoldable pub body_answer : List ℕ → List ℕ → List ℕ → Form → ℕ → Result ℕ Refusal
 body_answer withdrawn attributes announced form places =
     if_writable (measured withdrawn (max_of Ipv4) form) (λ w.
     if_writable (measured announced (max_of Ipv4) form) (λ a.

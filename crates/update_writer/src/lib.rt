@@ -3,13 +3,12 @@
 #![tactic(auto)]
 
 ghost use Rattle.std.specs.Prelude.{◌≡◌, length};
-ghost use Rattle.wire.specs.Answer.{filled, write_meaning};
+ghost use Rattle.wire.specs.Answer.{filled, count_meaning};
 ghost use Rattle.update_writer.specs.Body.{body_bytes, body_answer};
 
 use families::{Afi, Form};
-use route_writer::ListsAnswer;
 use updates::LENGTH_SIZE;
-use wire::WriteAnswer;
+use wire::refusal::Refusal;
 
 // Writes an UPDATE body; both lists are written with ids or both without. What stands around them follows once they fit.
 pub fn encode_bgp_update_message(
@@ -18,11 +17,11 @@ pub fn encode_bgp_update_message(
     announced: &[u32],
     form: Form,
     out: &mut [u8],
-) -> WriteAnswer
+) -> Result<usize, Refusal>
     ensures answer { result ≡ body_answer withdrawn.now attributes.now announced.now form (length out.old) }
-    ensures out { out.new ≡ filled (write_meaning result) (body_bytes withdrawn.now attributes.now announced.now form) out.old }
+    ensures out { out.new ≡ filled (count_meaning result) (body_bytes withdrawn.now attributes.now announced.now form) out.old }
 {
-    match route_writer::encode_nlri_pair(
+    let sizes = route_writer::encode_nlri_pair(
         withdrawn,
         announced,
         Afi::Ipv4,
@@ -31,14 +30,10 @@ pub fn encode_bgp_update_message(
         LENGTH_SIZE + attributes.len(),
         wire::BODY_LIMIT,
         out,
-    ) {
-        ListsAnswer::Lists { first, second } => {
-            let at = LENGTH_SIZE + first;
-            outputs::put_u16(out, 0, first as u16);
-            outputs::put_u16(out, at, attributes.len() as u16);
-            copies::copy_at(out, at + LENGTH_SIZE, attributes);
-            WriteAnswer::Bytes(at + LENGTH_SIZE + attributes.len() + second)
-        }
-        ListsAnswer::Refused(n) => WriteAnswer::Refused(n),
-    }
+    )?;
+    let at = LENGTH_SIZE + sizes.first;
+    outputs::put_u16(out, 0, sizes.first as u16);
+    outputs::put_u16(out, at, attributes.len() as u16);
+    copies::copy_at(out, at + LENGTH_SIZE, attributes);
+    Ok(at + LENGTH_SIZE + attributes.len() + sizes.second)
 }
