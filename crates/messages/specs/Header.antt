@@ -1,20 +1,16 @@
 -- The message header. RFC 4271 section 4.1: sixteen octets of marker, two of length, header and all, and one of type.
-use Rattle.std.specs.Prelude.{ℕ, ◌-◌, ◌≤◌, ◌<◌, min, ◌≡◌, List, [], ◌∷◌, Bool, true, false, not, ◌⊎◌, length, get_or, take, ltb, eqb}
-use Rattle.wire.specs.Answer.{Answer, given, refusal, value_in, flag, handed}
+use Rattle.std.specs.Prelude.{ℕ, ◌-◌, ◌≤◌, ◌<◌, min, ◌≡◌, List, [], ◌∷◌, Bool, true, false, not, ◌⊎◌, length, get_or, take, ltb, eqb, Result, Ok, Err}
+use Rattle.wire.specs.Answer.{Answer, value_in, flag, handed, meaning_of}
 use Rattle.wire.specs.Choice.{pick}
 use Rattle.wire.specs.Extent.{Extent, extent}
 use Rattle.wire.specs.Number.{be_at}
-use Rattle.wire.specs.Refusal.{truncated, message_length, message_type, short_body, bad_marker}
+use Rattle.wire.specs.declared.refusal.Refusal.{Refusal}
+use Rattle.wire.specs.declared.refusal.Refusal.TheVariants.{Truncated, MessageLength, MessageType, ShortBody, BadMarker}
 use Rattle.messages.specs.declared.Edition.{Edition}
 use Rattle.messages.specs.declared.Edition.TheVariants.{Rfc4271, Rfc8654}
-use Rattle.messages.specs.declared.MessageAnswer.{MessageAnswer}
-use Rattle.messages.specs.declared.MessageAnswer.TheVariants.{Message, Refused}
-
--- ---- a message as document 01 has it: type, claimed, taken, and the flags marker, cut and trailing
-
-abbrev pub message_meaning : MessageAnswer → Answer
-message_meaning (Message kind claimed taken marker cut trailing) = given (kind ∷ claimed ∷ taken ∷ flag marker ∷ flag cut ∷ flag trailing ∷ [])
-message_meaning (Refused n) = refusal n
+use Rattle.messages.specs.declared.Message.{Message}
+use Rattle.messages.specs.declared.kind.Kind.{Kind}
+use Rattle.messages.specs.declared.kind.Kind.TheVariants.{Open, Update, Notification, Keepalive, RouteRefresh}
 
 -- ---- the types (RFC 4271 section 4.1, RFC 2918 section 3)
 
@@ -32,6 +28,29 @@ keepalive_kind = 4
 
 abbrev pub route_refresh_kind : ℕ
 route_refresh_kind = 5
+
+abbrev pub kind_number : Kind → ℕ
+kind_number Open = open_kind
+kind_number Update = update_kind
+kind_number Notification = notification_kind
+kind_number Keepalive = keepalive_kind
+kind_number RouteRefresh = route_refresh_kind
+
+-- the type that a number names, which is one of these
+unfoldable pub kind_named : ℕ → Kind
+kind_named number =
+    pick (eqb number open_kind) Open
+    (pick (eqb number update_kind) Update
+    (pick (eqb number notification_kind) Notification
+    (pick (eqb number keepalive_kind) Keepalive RouteRefresh)))
+
+-- ---- a message as document 01 has it: type, claimed, taken, and the flags marker, cut and trailing
+
+abbrev pub message_values : Message → List ℕ
+message_values m = kind_number m.kind ∷ m.claimed ∷ m.taken ∷ flag m.marker ∷ flag m.cut ∷ flag m.trailing ∷ []
+
+abbrev pub message_meaning : Result Message Refusal → Answer
+message_meaning = meaning_of message_values
 
 -- ---- sizes and limits
 
@@ -83,6 +102,10 @@ is_outside lo hi n = pick (ltb n lo) true (ltb hi n)
 unfoldable pub is_unknown : ℕ → Bool
 is_unknown kind = is_outside open_kind route_refresh_kind kind
 
+-- the type of that number, or 4
+unfoldable pub kind_read : ℕ → Result Kind Refusal
+kind_read number = pick (is_unknown number) (Err MessageType) (Ok (kind_named number))
+
 -- all ones
 unfoldable pub all_ff : List ℕ → Bool
 all_ff [] = true
@@ -106,35 +129,49 @@ abbrev pub taken_of : List ℕ → ℕ
 taken_of s = min (claimed_of s) (length s)
 
 -- a message that the crate accepts, and one that the strict reading does
-abbrev pub accepted : List ℕ → MessageAnswer
-accepted s = Message (kind_of s) (claimed_of s) (taken_of s) (not (all_ff (marker_of s))) (ltb (length s) (claimed_of s)) (ltb (claimed_of s) (length s))
+abbrev pub accepted : List ℕ → Message
+accepted s = record {
+  kind = kind_named (kind_of s);
+  claimed = claimed_of s;
+  taken = taken_of s;
+  marker = not (all_ff (marker_of s));
+  cut = ltb (length s) (claimed_of s);
+  trailing = ltb (claimed_of s) (length s);
+}
 
-abbrev pub accepted_whole : List ℕ → MessageAnswer
-accepted_whole s = Message (kind_of s) (claimed_of s) (claimed_of s) false false (ltb (claimed_of s) (length s))
+abbrev pub accepted_whole : List ℕ → Message
+accepted_whole s = record {
+  kind = kind_named (kind_of s);
+  claimed = claimed_of s;
+  taken = claimed_of s;
+  marker = false;
+  cut = false;
+  trailing = ltb (claimed_of s) (length s);
+}
 
 -- the crate's reading
-unfoldable pub message_of : List ℕ → MessageAnswer
+unfoldable pub message_of : List ℕ → Result Message Refusal
 message_of s =
-    pick (ltb (length s) header_size) (Refused truncated)
-    (pick (ltb (claimed_of s) header_size) (Refused message_length)
-    (pick (is_unknown (kind_of s)) (Refused message_type)
-    (pick (ltb (crate_limit (kind_of s)) (claimed_of s)) (Refused message_length)
-    (pick (ltb (length s - header_size) (taken_of s - header_size)) (Refused short_body)
-    (accepted s)))))
+    pick (ltb (length s) header_size) (Err Truncated)
+    (pick (ltb (claimed_of s) header_size) (Err MessageLength)
+    (pick (is_unknown (kind_of s)) (Err MessageType)
+    (pick (ltb (crate_limit (kind_of s)) (claimed_of s)) (Err MessageLength)
+    (pick (ltb (length s - header_size) (taken_of s - header_size)) (Err ShortBody)
+    (Ok (accepted s))))))
 
 -- the strict reading, under a limit
-unfoldable pub strict_within : ℕ → List ℕ → MessageAnswer
+unfoldable pub strict_within : ℕ → List ℕ → Result Message Refusal
 strict_within limit s =
-    pick (ltb (length s) header_size) (Refused truncated)
-    (pick (not (all_ff (marker_of s))) (Refused bad_marker)
-    (pick (is_outside header_size limit (claimed_of s)) (Refused message_length)
-    (pick (is_unknown (kind_of s)) (Refused message_type)
-    (pick (is_outside (least_length (kind_of s)) (most_length (kind_of s)) (claimed_of s)) (Refused message_length)
-    (pick (ltb (length s) (claimed_of s)) (Refused truncated)
-    (accepted_whole s))))))
+    pick (ltb (length s) header_size) (Err Truncated)
+    (pick (not (all_ff (marker_of s))) (Err BadMarker)
+    (pick (is_outside header_size limit (claimed_of s)) (Err MessageLength)
+    (pick (is_unknown (kind_of s)) (Err MessageType)
+    (pick (is_outside (least_length (kind_of s)) (most_length (kind_of s)) (claimed_of s)) (Err MessageLength)
+    (pick (ltb (length s) (claimed_of s)) (Err Truncated)
+    (Ok (accepted_whole s)))))))
 
 -- and under an edition
-abbrev pub strict_of : Edition → List ℕ → MessageAnswer
+abbrev pub strict_of : Edition → List ℕ → Result Message Refusal
 strict_of edition s = strict_within (limit_of edition) s
 
 -- ---- long messages (RFC 8654 section 4)
@@ -153,5 +190,5 @@ pub record LongMessage (s : List ℕ) : Type 0 where
 -- ---- the body
 
 -- what is taken past the header, and nothing where the message is refused
-abbrev pub body_at : MessageAnswer → Extent
+abbrev pub body_at : Result Message Refusal → Extent
 body_at a = handed (message_meaning a) (extent header_size (value_in 2 (message_meaning a) - header_size))

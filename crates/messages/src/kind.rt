@@ -1,11 +1,95 @@
-// The message types (RFC 4271 section 4.1, RFC 2918 section 3), by name: specs/Header.antt has the same for definitions.
+// The message types (RFC 4271 section 4.1, RFC 2918 section 3), and the lengths that messages of each may have.
+ghost use Rattle.std.specs.Prelude.{◌≡◌, not};
+ghost use Rattle.messages.specs.Header.{kind_number, kind_read, crate_limit, least_length, most_length, is_outside};
 
-pub const OPEN: u8 = 1;
+use super::{EXTENDED_LIMIT, HEADER_SIZE, MESSAGE_LIMIT};
+use std::fmt;
+use wire::refusal::Refusal;
 
-pub const UPDATE: u8 = 2;
+#[derive(Clone, Copy, Debug, PartialEq, Eq, Hash)]
+pub enum Kind {
+    Open = 1,
+    Update = 2,
+    Notification = 3,
+    Keepalive = 4,
+    RouteRefresh = 5,
+}
 
-pub const NOTIFICATION: u8 = 3;
+// The number by which a header names a type.
+impl From<Kind> for u8 {
+    ghost from_gives = { λ kind number. number ≡ kind_number kind };
 
-pub const KEEPALIVE: u8 = 4;
+    fn from(kind: Kind) -> u8 {
+        kind as u8
+    }
+}
 
-pub const ROUTE_REFRESH: u8 = 5;
+impl TryFrom<u8> for Kind {
+    type Error = Refusal;
+
+    ghost try_from_gives = { λ number kind. kind ≡ kind_read number };
+
+    fn try_from(number: u8) -> Result<Self, Refusal> {
+        match number {
+            1 => Ok(Kind::Open),
+            2 => Ok(Kind::Update),
+            3 => Ok(Kind::Notification),
+            4 => Ok(Kind::Keepalive),
+            5 => Ok(Kind::RouteRefresh),
+            _ => Err(Refusal::MessageType),
+        }
+    }
+}
+
+impl fmt::Display for Kind {
+    fn fmt<W: fmt::Write>(&self, f: &mut fmt::Formatter<W>) -> fmt::Result {
+        f.write_str(match self {
+            Kind::Open => "OPEN",
+            Kind::Update => "UPDATE",
+            Kind::Notification => "NOTIFICATION",
+            Kind::Keepalive => "KEEPALIVE",
+            Kind::RouteRefresh => "ROUTE-REFRESH",
+        })
+    }
+}
+
+impl Kind {
+    // The most bytes that the crate takes of a type: OPEN and KEEPALIVE are never long.
+    pub(crate) fn crate_limit(self) -> usize
+        ensures { result ≡ crate_limit (kind_number self) }
+    {
+        match self {
+            Kind::Open | Kind::Keepalive => MESSAGE_LIMIT,
+            Kind::Update | Kind::Notification | Kind::RouteRefresh => EXTENDED_LIMIT,
+        }
+    }
+
+    // The fewest bytes of a type: the header and what its body always has. A byte each, so that they become one number to shift, and no jumps.
+    fn least_length(self) -> u8
+        ensures { result ≡ least_length (kind_number self) }
+    {
+        match self {
+            Kind::Open => 29,
+            Kind::Update | Kind::RouteRefresh => 23,
+            Kind::Notification => 21,
+            Kind::Keepalive => 19,
+        }
+    }
+
+    // The most bytes of a type under any edition: a KEEPALIVE is a header.
+    fn most_length(self) -> usize
+        ensures { result ≡ most_length (kind_number self) }
+    {
+        match self {
+            Kind::Keepalive => HEADER_SIZE,
+            _ => self.crate_limit(),
+        }
+    }
+
+    // Whether a type has messages of that length.
+    pub(crate) fn allows(self, length: usize) -> bool
+        ensures { result ≡ not (is_outside (least_length (kind_number self)) (most_length (kind_number self)) length) }
+    {
+        (usize::from(self.least_length())..=self.most_length()).contains(&length)
+    }
+}

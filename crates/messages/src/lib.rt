@@ -1,15 +1,16 @@
 // Messages by their header (RFC 4271 section 4.1): the crate's reading of messages.rs, the strict one of RFC 4271 or RFC 8654, and the writer.
 #![tactic(auto)]
 
-ghost use Rattle.std.specs.Prelude.{◌≡◌, ◌+◌, ◌≤◌, [], ◌∷◌, length, drop, ltb};
+ghost use Rattle.std.specs.Prelude.{◌≡◌, ◌+◌, ◌≤◌, [], ◌∷◌, length, drop};
 ghost use Rattle.wire.specs.Extent.{PartOf};
 ghost use Rattle.wire.specs.Number.{be, padded};
 ghost use Rattle.wire.specs.Store.{laid};
-ghost use Rattle.messages.specs.Header.{marker_size, header_size, extended_limit, marker_of, all_ff, is_outside, is_unknown, least_length, most_length, crate_limit, limit_of, message_of, strict_within, strict_of, body_at};
+ghost use Rattle.messages.specs.Header.{marker_size, header_size, extended_limit, kind_number, marker_of, all_ff, limit_of, message_of, strict_within, strict_of, body_at};
 ghost use Rattle.messages.specs.Written.{header, write_message, message_after};
 ghost use Rattle.messages.specs.Private.{Fits};
 
-use wire::{WriteAnswer, refusal};
+use kind::Kind;
+use wire::refusal::Refusal;
 
 pub mod kind;
 
@@ -25,101 +26,28 @@ const ALL_ONES: u32 = 4294967295;
 
 const EIGHT_ONES: u64 = 18446744073709551615;
 
-// The least lengths of the types 0 to 5 (19, 29, 23, 21, 19, 23), one to a byte, the lowest first.
-const LEAST_LENGTHS: u64 = 25370725653779;
-
 // The most bytes of a message (RFC 4271 section 4.1), and of one where both ends agreed on long ones (RFC 8654 section 4).
 pub const MESSAGE_LIMIT: usize = 4096;
 
 pub const EXTENDED_LIMIT: usize = 65535;
 
 // Which RFC a strict reading goes by: RFC 4271, where no message is over 4,096 bytes, or RFC 8654, where both ends agreed on long ones.
-#[derive(Clone, Copy)]
+#[derive(Clone, Copy, Debug, PartialEq, Eq, Hash)]
 pub enum Edition {
     Rfc4271,
     Rfc8654,
 }
 
 // A message: its type, the length it claims, the bytes taken with the header, and whether its marker is not all FF, it claims
-// more than there is, or less; or a refusal number.
-#[derive(Clone, Copy)]
-pub enum MessageAnswer {
-    Message {
-        kind: u8,
-        claimed: usize,
-        taken: usize,
-        marker: bool,
-        cut: bool,
-        trailing: bool,
-    },
-    Refused(u8),
-}
-
-// Whether n is under lo or over hi.
-fn outside(lo: usize, hi: usize, n: usize) -> bool
-    ensures { result ≡ is_outside lo hi n }
-{
-    if n < lo {
-        return true;
-    }
-    hi < n
-}
-
-// Whether no message has this type.
-fn unknown(kind: u8) -> bool
-    ensures { result ≡ is_unknown kind }
-{
-    outside(
-        kind::OPEN as usize,
-        kind::ROUTE_REFRESH as usize,
-        kind as usize,
-    )
-}
-
-// The most bytes that the crate takes of a type: OPEN and KEEPALIVE are never long.
-fn crate_limit(kind: u8) -> usize
-    ensures { result ≡ crate_limit kind }
-{
-    if kind == kind::OPEN {
-        return MESSAGE_LIMIT;
-    }
-    if kind == kind::KEEPALIVE {
-        return MESSAGE_LIMIT;
-    }
-    EXTENDED_LIMIT
-}
-
-// The fewest bytes of a type: the header and what its body always has. By a shift: a chain of tests becomes a jump, which is guessed wrongly.
-fn least_length(kind: u8) -> usize
-    ensures { result ≡ least_length kind }
-{
-    if kind::ROUTE_REFRESH < kind {
-        return HEADER_SIZE;
-    }
-    (LEAST_LENGTHS >> (8 * kind) as u32) as usize % 256
-}
-
-// Whether a message of a type is longer than the crate takes: no type has a limit under that of RFC 4271.
-fn over_limit(kind: u8, n: usize) -> bool
-    ensures { result ≡ ltb (crate_limit kind) n }
-{
-    if n <= MESSAGE_LIMIT {
-        return false;
-    }
-    crate_limit(kind) < n
-}
-
-// Whether a type has no messages of that length: a KEEPALIVE is a header, and the others are held to what their body always has.
-fn misfit(kind: u8, n: usize) -> bool
-    ensures { result ≡ is_outside (least_length kind) (most_length kind) n }
-{
-    if kind == kind::KEEPALIVE {
-        return outside(HEADER_SIZE, HEADER_SIZE, n);
-    }
-    if n < least_length(kind) {
-        return true;
-    }
-    over_limit(kind, n)
+// more than there is, or less.
+#[derive(Clone, Copy, Debug, PartialEq, Eq, Hash)]
+pub struct Message {
+    pub kind: Kind,
+    pub claimed: usize,
+    pub taken: usize,
+    pub marker: bool,
+    pub cut: bool,
+    pub trailing: bool,
 }
 
 // Eight bytes as one number: a sum of each in its place, which becomes one load on x86-64 and on aarch64 alike.
@@ -165,69 +93,59 @@ fn marked(s: &[u8]) -> bool
 }
 
 // The crate's reading: a message may be cut short, or followed by other bytes, and may have any marker.
-pub fn parse_bgp_message(s: &[u8]) -> MessageAnswer
+pub fn parse_bgp_message(s: &[u8]) -> Result<Message, Refusal>
     ensures { result ≡ message_of s.now }
 {
     if s.len() < HEADER_SIZE {
-        return MessageAnswer::Refused(refusal::TRUNCATED);
+        return Err(Refusal::Truncated);
     }
     let claimed = wire::u16_at(s, LENGTH_AT) as usize;
     if claimed < HEADER_SIZE {
-        return MessageAnswer::Refused(refusal::MESSAGE_LENGTH);
+        return Err(Refusal::MessageLength);
     }
-    let kind = s[KIND_AT];
-    if unknown(kind) {
-        return MessageAnswer::Refused(refusal::MESSAGE_TYPE);
+    let kind = Kind::try_from(s[KIND_AT])?;
+    if kind.crate_limit() < claimed {
+        return Err(Refusal::MessageLength);
     }
-    let taken = wire::least(claimed, s.len());
-    if over_limit(kind, claimed) {
-        return MessageAnswer::Refused(refusal::MESSAGE_LENGTH);
-    }
-    if s.len() - HEADER_SIZE < taken - HEADER_SIZE {
-        return MessageAnswer::Refused(refusal::SHORT_BODY);
-    }
-    MessageAnswer::Message {
+    Ok(Message {
         kind,
         claimed,
-        taken,
+        taken: claimed.min(s.len()),
         marker: !marked(s),
         cut: s.len() < claimed,
         trailing: claimed < s.len(),
-    }
+    })
 }
 
 // The strict reading under a limit: the whole message is there, and the bytes after it belong to the next.
-fn parse_within(s: &[u8], limit: usize) -> MessageAnswer
+fn parse_within(s: &[u8], limit: usize) -> Result<Message, Refusal>
     ensures { result ≡ strict_within limit s.now }
 {
     if s.len() < HEADER_SIZE {
-        return MessageAnswer::Refused(refusal::TRUNCATED);
+        return Err(Refusal::Truncated);
     }
     if !marked(s) {
-        return MessageAnswer::Refused(refusal::BAD_MARKER);
+        return Err(Refusal::BadMarker);
     }
     let claimed = wire::u16_at(s, LENGTH_AT) as usize;
-    let kind = s[KIND_AT];
-    if outside(HEADER_SIZE, limit, claimed) {
-        return MessageAnswer::Refused(refusal::MESSAGE_LENGTH);
+    if !(HEADER_SIZE..=limit).contains(&claimed) {
+        return Err(Refusal::MessageLength);
     }
-    if unknown(kind) {
-        return MessageAnswer::Refused(refusal::MESSAGE_TYPE);
-    }
-    if misfit(kind, claimed) {
-        return MessageAnswer::Refused(refusal::MESSAGE_LENGTH);
+    let kind = Kind::try_from(s[KIND_AT])?;
+    if !kind.allows(claimed) {
+        return Err(Refusal::MessageLength);
     }
     if s.len() < claimed {
-        return MessageAnswer::Refused(refusal::TRUNCATED);
+        return Err(Refusal::Truncated);
     }
-    MessageAnswer::Message {
+    Ok(Message {
         kind,
         claimed,
         taken: claimed,
         marker: false,
         cut: false,
         trailing: claimed < s.len(),
-    }
+    })
 }
 
 // The most bytes that an edition lets a message claim, whatever its type: OPEN and KEEPALIVE have less by their own lengths.
@@ -241,27 +159,20 @@ fn limit_of(edition: Edition) -> usize
 }
 
 // The strict reading of an edition.
-pub fn parse_bgp_message_strict(s: &[u8], edition: Edition) -> MessageAnswer
+pub fn parse_bgp_message_strict(s: &[u8], edition: Edition) -> Result<Message, Refusal>
     ensures { result ≡ strict_of edition s.now }
 {
     parse_within(s, limit_of(edition))
 }
 
 // The body of a message that was found in s: that part of s, and nothing where it is refused.
-fn body_part(s: &[u8], found: MessageAnswer) -> &[u8]
+fn body_part(s: &[u8], found: Result<Message, Refusal>) -> &[u8]
     requires { Fits found (length s.now) }
     ensures { PartOf s.entry (body_at found) result }
 {
     match found {
-        MessageAnswer::Message {
-            kind: _,
-            claimed: _,
-            taken,
-            marker: _,
-            cut: _,
-            trailing: _,
-        } => &s[HEADER_SIZE..taken],
-        MessageAnswer::Refused(_) => &s[..0],
+        Ok(message) => &s[HEADER_SIZE..message.taken],
+        Err(_) => &s[..0],
     }
 }
 
@@ -280,9 +191,9 @@ pub fn message_body_strict(s: &[u8], edition: Edition) -> &[u8]
 }
 
 // A header of an all-FF marker, at the front of the output.
-fn put_header(out: &mut [u8], total: usize, kind: u8)
+fn put_header(out: &mut [u8], total: usize, kind: Kind)
     requires { (total ≤ extended_limit) × (header_size ≤ length out.old) }
-    ensures { out.new ≡ laid out.old 0 (header total kind) }
+    ensures { out.new ≡ laid out.old 0 (header total (kind_number kind)) }
 {
     outputs::put_octets(out, 0, ALL_ONES, 4);
     outputs::put_octets(out, 4, ALL_ONES, 4);
@@ -291,30 +202,25 @@ fn put_header(out: &mut [u8], total: usize, kind: u8)
     outputs::put_octets(
         out,
         LENGTH_AT,
-        (total as u32) * 65536 + (kind as u32) * 256,
+        (total as u32) * 65536 + u32::from(u8::from(kind)) * 256,
         3,
     );
 }
 
-// Writes a message of a type and a body.
-pub fn encode_bgp_message(kind: u8, body: &[u8], out: &mut [u8]) -> WriteAnswer
+// Writes a message of a type, which any byte may name, and a body.
+pub fn encode_bgp_message(kind: u8, body: &[u8], out: &mut [u8]) -> Result<usize, Refusal>
     ensures answer { result ≡ write_message kind body.now (length out.old) }
     ensures output { out.new ≡ message_after kind body.now out.old }
 {
-    if unknown(kind) {
-        return WriteAnswer::Refused(refusal::MESSAGE_TYPE);
-    }
-    if EXTENDED_LIMIT < body.len() {
-        return WriteAnswer::Refused(refusal::MESSAGE_LENGTH);
-    }
+    let kind = Kind::try_from(kind)?;
     let total = HEADER_SIZE + body.len();
-    if misfit(kind, total) {
-        return WriteAnswer::Refused(refusal::MESSAGE_LENGTH);
+    if !kind.allows(total) {
+        return Err(Refusal::MessageLength);
     }
     if out.len() < total {
-        return WriteAnswer::Refused(refusal::NO_ROOM);
+        return Err(Refusal::NoRoom);
     }
     put_header(out, total, kind);
     copies::copy_at(out, HEADER_SIZE, body);
-    WriteAnswer::Bytes(total)
+    Ok(total)
 }
