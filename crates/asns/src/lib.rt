@@ -5,26 +5,23 @@
 ghost use Rattle.std.specs.Prelude.{◌≡◌, length};
 ghost use Rattle.wire.specs.Number.{be_at};
 ghost use Rattle.asns.specs.Asn.{width_of, span, fits_width, with_number, eight_for};
-ghost use Rattle.asns.specs.Aggregator.{unlike, aggregator_of, aggregator_written, aggregator_left};
+ghost use Rattle.asns.specs.Aggregator.{aggregator_in, aggregator_of, aggregator_written, aggregator_left};
 
-use wire::{WriteAnswer, refusal};
+use wire::refusal::Refusal;
 
 // The width of AS numbers: two bytes, or four.
-#[derive(Clone, Copy)]
+#[derive(Clone, Copy, Debug, PartialEq, Eq, Hash)]
 pub enum AsnLength {
     Bits16,
     Bits32,
 }
 
-// An AGGREGATOR, with a flag where its width is not the configured one, or a refusal number.
-#[derive(Clone, Copy)]
-pub enum AggregatorAnswer {
-    Aggregator {
-        asn: u32,
-        identifier: u32,
-        differs: bool,
-    },
-    Refused(u8),
+// An AGGREGATOR, with a flag where its width is not the configured one.
+#[derive(Clone, Copy, Debug, PartialEq, Eq, Hash)]
+pub struct Aggregator {
+    pub asn: u32,
+    pub identifier: u32,
+    pub differs: bool,
 }
 
 // The bytes of an AS number.
@@ -42,8 +39,8 @@ pub fn numbers_size(n: u16, width: AsnLength) -> usize
     ensures { result ≡ span (width_of width) n }
 {
     match width {
-        AsnLength::Bits16 => n as usize * 2,
-        AsnLength::Bits32 => n as usize * 4,
+        AsnLength::Bits16 => usize::from(n) * 2,
+        AsnLength::Bits32 => usize::from(n) * 4,
     }
 }
 
@@ -96,65 +93,55 @@ pub fn put_number(out: &mut [u8], to: usize, asn: u32, width: AsnLength)
     }
 }
 
+// An AGGREGATOR whose number has the width.
+fn aggregator_in(value: &[u8], found: AsnLength, width: AsnLength) -> Aggregator
+    ensures { result ≡ aggregator_in value.now found width }
+{
+    Aggregator {
+        asn: number_at(value, 0, found),
+        identifier: wire::u32_at(value, asn_bytes(found)),
+        differs: found != width,
+    }
+}
+
 // An AGGREGATOR by the length of its value, whatever the configured width: a flag tells when they differ.
-pub fn parse_aggregator(value: &[u8], width: AsnLength) -> AggregatorAnswer
+pub fn parse_aggregator(value: &[u8], width: AsnLength) -> Result<Aggregator, Refusal>
     ensures { result ≡ aggregator_of value.now width }
 {
     if wire::LIST_LIMIT < value.len() {
-        return AggregatorAnswer::Refused(refusal::TOO_LONG);
+        return Err(Refusal::TooLong);
     }
-    if value.len() == 8 {
-        return AggregatorAnswer::Aggregator {
-            asn: number_at(value, 0, AsnLength::Bits32),
-            identifier: wire::u32_at(value, 4),
-            differs: differs(AsnLength::Bits32, width),
-        };
-    }
-    if value.len() == 6 {
-        return AggregatorAnswer::Aggregator {
-            asn: number_at(value, 0, AsnLength::Bits16),
-            identifier: wire::u32_at(value, 2),
-            differs: differs(AsnLength::Bits16, width),
-        };
-    }
-    AggregatorAnswer::Refused(refusal::AGGREGATOR_LENGTH)
-}
-
-// Whether two widths differ.
-fn differs(found: AsnLength, width: AsnLength) -> bool
-    ensures { result ≡ unlike found width }
-{
-    match found {
-        AsnLength::Bits16 => match width {
-            AsnLength::Bits16 => false,
-            AsnLength::Bits32 => true,
-        },
-        AsnLength::Bits32 => match width {
-            AsnLength::Bits16 => true,
-            AsnLength::Bits32 => false,
-        },
+    match value.len() {
+        8 => Ok(aggregator_in(value, AsnLength::Bits32, width)),
+        6 => Ok(aggregator_in(value, AsnLength::Bits16, width)),
+        _ => Err(Refusal::AggregatorLength),
     }
 }
 
 // An AGGREGATOR of the width.
-fn encode_in(asn: u32, identifier: u32, width: AsnLength, out: &mut [u8]) -> WriteAnswer
+fn encode_in(asn: u32, identifier: u32, width: AsnLength, out: &mut [u8]) -> Result<usize, Refusal>
     ensures answer { result ≡ aggregator_written asn identifier width (length out.old) }
     ensures out { out.new ≡ aggregator_left asn identifier width out.old }
 {
     if !fits_width(asn, width) {
-        return WriteAnswer::Refused(refusal::WIDE_NUMBER);
+        return Err(Refusal::WideNumber);
     }
     let w = asn_bytes(width);
     if out.len() < w + 4 {
-        return WriteAnswer::Refused(refusal::NO_ROOM);
+        return Err(Refusal::NoRoom);
     }
     put_number(out, 0, asn, width);
     outputs::put_octets(out, w, identifier, 4);
-    WriteAnswer::Bytes(w + 4)
+    Ok(w + 4)
 }
 
 // An AGGREGATOR of the width: a call for each, so that the width is known where it is compiled.
-pub fn encode_aggregator(asn: u32, identifier: u32, width: AsnLength, out: &mut [u8]) -> WriteAnswer
+pub fn encode_aggregator(
+    asn: u32,
+    identifier: u32,
+    width: AsnLength,
+    out: &mut [u8],
+) -> Result<usize, Refusal>
     ensures answer { result ≡ aggregator_written asn identifier width (length out.old) }
     ensures out { out.new ≡ aggregator_left asn identifier width out.old }
 {

@@ -1,10 +1,10 @@
 -- Writing a path that is lent as pairs of type and count and as numbers back to back. RFC 4271 section 4.3, RFC 6793 section 4.1.
-use Rattle.std.specs.Prelude.{ℕ, ◌-◌, ◌^◌, List, [], ◌∷◌, Bool, true, false, length, get_or, take, drop, leb, ltb, eqb}
+use Rattle.std.specs.Prelude.{ℕ, ◌-◌, ◌^◌, List, [], ◌∷◌, Bool, true, false, length, get_or, take, drop, leb, ltb, eqb, Err}
 use Rattle.wire.specs.Choice.{pick}
 use Rattle.wire.specs.Number.{to_be}
-use Rattle.wire.specs.Refusal.{long_segment, wide_number, not_writable}
+use Rattle.wire.specs.Verdict.{Verdict, fine, answer_by, either}
 use Rattle.wire.specs.Walk.{Step, took, stop, Reading, read_all, flat}
-use Rattle.wire.specs.Answer.{answer_by, either}
+use Rattle.wire.specs.declared.refusal.Refusal.TheVariants.{LongSegment, WideNumber, NotWritable}
 use Rattle.paths.specs.Segment.{Segment, Rule}
 
 -- the bytes of a segment: its type, its count, and its numbers of w bytes each
@@ -27,9 +27,9 @@ abbrev pub most_numbers : ℕ
 most_numbers = 255
 
 -- what stands against writing a segment: the rule; then the count, 12; then a number, 13
-unfoldable pub write_fault : Rule → ℕ → ℕ → ℕ → List ℕ → ℕ
+unfoldable pub write_fault : Rule → ℕ → ℕ → ℕ → List ℕ → Verdict
 write_fault rule w kind count asns =
-    either (rule kind count) (pick (leb count most_numbers) (pick (all_fit w asns) 0 wide_number) long_segment)
+    either (rule kind count) (pick (leb count most_numbers) (pick (all_fit w asns) fine (Err WideNumber)) (Err LongSegment))
 
 -- the segment of the pair at the front and of its numbers
 abbrev pub lent_segment : List ℕ → List ℕ → Segment
@@ -41,9 +41,9 @@ lent_of rule w numbers pairs =
     let count : ℕ = get_or pairs 1 0 in
     pick (leb 2 (length pairs))
     (answer_by (write_fault rule w (get_or pairs 0 0) count (take count numbers)) (took 2 (lent_segment numbers pairs) (drop count numbers)) stop)
-    (stop not_writable)
+    (stop NotWritable)
 
--- the segments lent before the first that cannot be written, and its refusal number
+-- the segments lent before the first that cannot be written, and whether there is one
 unfoldable pub lent_path : Rule → ℕ → List ℕ → List ℕ → Reading Segment
 lent_path rule w pairs numbers = read_all (lent_of rule w) numbers pairs
 

@@ -5,6 +5,7 @@
 ghost use Rattle.std.specs.Prelude.{◌≡◌, true, ◌+◌, ◌≤◌, ◌<◌, [], ◌∷◌, length, take, drop};
 ghost use Rattle.wire.specs.Number.{to_be};
 ghost use Rattle.wire.specs.Store.{laid, PutAhead};
+ghost use Rattle.wire.specs.Verdict.{fine};
 ghost use Rattle.wire.specs.Walk.{flat};
 ghost use Rattle.asns.specs.Asn.{width_of};
 ghost use Rattle.paths.specs.Segment.{known_type, rule_of};
@@ -13,7 +14,7 @@ ghost use Rattle.path_writer.specs.Promises.{lent_bytes, encode_answer, encode_l
 
 use asns::AsnLength;
 use paths::PathRule;
-use wire::{WriteAnswer, refusal};
+use wire::refusal::Refusal;
 
 // The count byte's largest value.
 const MOST_NUMBERS: u32 = 255;
@@ -35,8 +36,8 @@ fn adds_up(pairs: &[u32], n: usize) -> bool
         if left < count {
             return false;
         }
-        left = left - count;
-        at = at + 2;
+        left -= count;
+        at += 2;
     }
     left == 0
 }
@@ -69,7 +70,7 @@ fn all_fit(numbers: &[u32], from: usize, n: usize, width: AsnLength) -> bool
     }
 }
 
-// What stands against writing a segment whose numbers start at a place, 0 where nothing does. Where all numbers are known to fit, its own do.
+// What stands against writing a segment whose numbers start at a place. Where all numbers are known to fit, its own do.
 fn segment_fault(
     kind: u32,
     count: u32,
@@ -78,29 +79,32 @@ fn segment_fault(
     width: AsnLength,
     rule: PathRule,
     fit: bool,
-) -> u8
+) -> Result<(), Refusal>
     requires count_in_bounds { from + count ≤ length numbers.now }
     requires fit_value { fit ≡ all_fit (width_of width) numbers.now }
     ensures { result ≡ write_fault (rule_of rule) (width_of width) kind count (take count (drop from numbers.now)) }
 {
-    let fault = paths::rule_fault(kind, count, rule);
-    if fault != 0 {
-        return fault;
-    }
+    paths::rule_fault(kind, count, rule)?;
     if MOST_NUMBERS < count {
-        return refusal::LONG_SEGMENT;
+        return Err(Refusal::LongSegment);
     }
     if fit {
-        return 0;
+        return Ok(());
     }
     if !all_fit(numbers, from, count as usize, width) {
-        return refusal::WIDE_NUMBER;
+        return Err(Refusal::WideNumber);
     }
-    0
+    Ok(())
 }
 
-// The refusal of the first segment that cannot be written, 0 where there is none.
-fn first_fault(pairs: &[u32], numbers: &[u32], width: AsnLength, rule: PathRule, fit: bool) -> u8
+// The refusal of the first segment that cannot be written.
+fn first_fault(
+    pairs: &[u32],
+    numbers: &[u32],
+    width: AsnLength,
+    rule: PathRule,
+    fit: bool,
+) -> Result<(), Refusal>
     requires numbers_value { adds_up pairs.now (length numbers.now) ≡ true }
     requires fit_value { fit ≡ all_fit (width_of width) numbers.now }
     ensures { result ≡ (lent_path (rule_of rule) (width_of width) pairs.now numbers.now).verdict }
@@ -109,18 +113,20 @@ fn first_fault(pairs: &[u32], numbers: &[u32], width: AsnLength, rule: PathRule,
     let mut from: usize = 0;
     while at < pairs.len() {
         let count = pairs[at + 1];
-        let fault = segment_fault(pairs[at], count, numbers, from, width, rule, fit);
-        if 0 < fault {
-            return fault;
-        }
-        from = from + count as usize;
-        at = at + 2;
+        segment_fault(pairs[at], count, numbers, from, width, rule, fit)?;
+        from += count as usize;
+        at += 2;
     }
-    0
+    Ok(())
 }
 
 // The same. The numbers are looked at all at once, and again in their segments only where one does not fit.
-fn path_fault(pairs: &[u32], numbers: &[u32], width: AsnLength, rule: PathRule) -> u8
+fn path_fault(
+    pairs: &[u32],
+    numbers: &[u32],
+    width: AsnLength,
+    rule: PathRule,
+) -> Result<(), Refusal>
     requires { adds_up pairs.now (length numbers.now) ≡ true }
     ensures { result ≡ (lent_path (rule_of rule) (width_of width) pairs.now numbers.now).verdict }
 {
@@ -233,7 +239,7 @@ fn put_ahead(
 // crate's does.
 fn write_segments(pairs: &[u32], numbers: &[u32], width: AsnLength, out: &mut [u8], total: usize)
     requires numbers_value { adds_up pairs.now (length numbers.now) ≡ true }
-    requires numbers_value_2 { (lent_path known_type (width_of width) pairs.now numbers.now).verdict ≡ 0 }
+    requires path_good { (lent_path known_type (width_of width) pairs.now numbers.now).verdict ≡ fine }
     requires total_value { (total ≡ length (lent_bytes known_type (width_of width) pairs.now numbers.now)) × (total ≤ length out.old) }
     ensures { out.new ≡ laid out.old 0 (lent_bytes known_type (width_of width) pairs.now numbers.now) }
 {
@@ -257,30 +263,27 @@ pub fn encode_as_path(
     width: AsnLength,
     rule: PathRule,
     out: &mut [u8],
-) -> WriteAnswer
+) -> Result<usize, Refusal>
     ensures answer { result ≡ encode_answer (rule_of rule) (width_of width) pairs.now numbers.now (length out.old) }
     ensures out { out.new ≡ encode_left (rule_of rule) (width_of width) pairs.now numbers.now out.old }
 {
     if !adds_up(pairs, numbers.len()) {
-        return WriteAnswer::Refused(refusal::NOT_WRITABLE);
+        return Err(Refusal::NotWritable);
     }
-    let fault = path_fault(pairs, numbers, width, rule);
-    if fault != 0 {
-        return WriteAnswer::Refused(fault);
-    }
+    path_fault(pairs, numbers, width, rule)?;
     if wire::LIST_LIMIT < pairs.len() {
-        return WriteAnswer::Refused(refusal::TOO_LONG);
+        return Err(Refusal::TooLong);
     }
     if wire::LIST_LIMIT < numbers.len() {
-        return WriteAnswer::Refused(refusal::TOO_LONG);
+        return Err(Refusal::TooLong);
     }
     let size = pairs.len() + asns::numbers_size(numbers.len() as u16, width);
     if wire::LIST_LIMIT < size {
-        return WriteAnswer::Refused(refusal::TOO_LONG);
+        return Err(Refusal::TooLong);
     }
     if out.len() < size {
-        return WriteAnswer::Refused(refusal::NO_ROOM);
+        return Err(Refusal::NoRoom);
     }
     write_segments(pairs, numbers, width, out, size);
-    WriteAnswer::Bytes(size)
+    Ok(size)
 }

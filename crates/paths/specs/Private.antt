@@ -1,6 +1,8 @@
 -- What only private functions' contracts name: whether a segment's bytes and its numbers are enough, and four bytes as a word.
-use Rattle.std.specs.Prelude.{ℕ, ◌+◌, ◌*◌, ◌/◌, ◌%◌, List, get_or, leb}
+use Rattle.std.specs.Prelude.{ℕ, ◌+◌, ◌*◌, ◌/◌, ◌%◌, List, get_or, leb, Err}
 use Rattle.wire.specs.Choice.{pick}
+use Rattle.wire.specs.Verdict.{Verdict, fine}
+use Rattle.wire.specs.declared.refusal.Refusal.{Refusal}
 use Rattle.paths.specs.declared.PathRule.{PathRule}
 use Rattle.paths.specs.declared.PathRule.TheVariants.{Crate, Strict}
 
@@ -9,9 +11,9 @@ abbrev pub fewest_by : PathRule → ℕ
 fewest_by Crate = 0
 fewest_by Strict = 1
 
--- what is wrong where so few are there of so many: that number
-unfoldable pub few_fault : ℕ → ℕ → ℕ → ℕ
-few_fault there asked number = pick (leb asked there) 0 number
+-- a refusal where so few are there of so many
+unfoldable pub few_fault : ℕ → ℕ → Refusal → Verdict
+few_fault there asked few = pick (leb asked there) fine (Err few)
 
 -- the number of the four bytes at a place, the first byte lowest
 unfoldable pub low_first : List ℕ → ℕ → ℕ

@@ -1,10 +1,10 @@
 -- One segment of an AS_PATH, and a path of them. RFC 4271 section 4.3: a type octet, a count octet, and that many AS numbers, of two
 -- octets each, or of four (RFC 6793 section 4.1). RFC 4271 has the types 1 and 2, RFC 5065 section 3 the types 3 and 4.
-use Rattle.std.specs.Prelude.{ℕ, zero, suc, ◌+◌, ◌≡◌, List, [], ◌∷◌, length, get_or, drop, leb}
+use Rattle.std.specs.Prelude.{ℕ, zero, suc, ◌+◌, ◌≡◌, List, [], ◌∷◌, length, get_or, drop, leb, Err}
 use Rattle.wire.specs.Choice.{pick}
 use Rattle.wire.specs.Number.{be_at}
-use Rattle.wire.specs.Refusal.{truncated, segment_type, empty_segment}
-use Rattle.wire.specs.Answer.{answer_by, either}
+use Rattle.wire.specs.Verdict.{Verdict, fine, answer_by, either}
+use Rattle.wire.specs.declared.refusal.Refusal.TheVariants.{Truncated, SegmentType, EmptySegment}
 use Rattle.asns.specs.Asn.{span}
 use Rattle.wire.specs.Walk.{Step, took, stop, Reading, read_all}
 use Rattle.paths.specs.declared.PathRule.{PathRule}
@@ -20,9 +20,9 @@ unfoldable pub numbers_of : ℕ → ℕ → List ℕ → List ℕ
 numbers_of w zero s = []
 numbers_of w (suc n) s = be_at s 0 w ∷ numbers_of w n (drop w s)
 
--- a rule for segments: what is wrong with one of that type and count, 0 where nothing is
+-- a rule for segments: what is wrong with one of that type and count
 abbrev pub Rule : Type 0
-Rule = ℕ → ℕ → ℕ
+Rule = ℕ → ℕ → Verdict
 
 -- the least and the greatest type: 1 set, 2 sequence, 3 confederation sequence, 4 confederation set
 abbrev pub as_set : ℕ
@@ -31,8 +31,8 @@ as_set = 1
 abbrev pub confed_set : ℕ
 confed_set = 4
 
-unfoldable pub type_fault : ℕ → ℕ
-type_fault kind = pick (leb as_set kind) (pick (leb kind confed_set) 0 segment_type) segment_type
+unfoldable pub type_fault : ℕ → Verdict
+type_fault kind = pick (leb as_set kind) (pick (leb kind confed_set) fine (Err SegmentType)) (Err SegmentType)
 
 -- the crate's rule: a known type, and every count
 abbrev pub known_type : Rule
@@ -40,7 +40,7 @@ known_type kind count = type_fault kind
 
 -- the strict rule: the same, and then a count that is not 0, since a segment of length zero is malformed (RFC 7606 section 7.2)
 abbrev pub non_empty : Rule
-non_empty kind count = either (type_fault kind) (pick (leb 1 count) 0 empty_segment)
+non_empty kind count = either (type_fault kind) (pick (leb 1 count) fine (Err EmptySegment))
 
 -- the rule that a call is given
 abbrev pub rule_of : PathRule → Rule
@@ -60,10 +60,10 @@ unfoldable pub segment_of : Rule → ℕ → NoState → List ℕ → Step NoSta
 segment_of rule w st s =
     let size : ℕ = 2 + span w (get_or s 1 0) in
     pick (leb 2 (length s))
-    (pick (leb size (length s)) (answer_by (rule (get_or s 0 0) (get_or s 1 0)) (took size (segment_at w s) tt) stop) (stop truncated))
-    (stop truncated)
+    (pick (leb size (length s)) (answer_by (rule (get_or s 0 0) (get_or s 1 0)) (took size (segment_at w s) tt) stop) (stop Truncated))
+    (stop Truncated)
 
--- the segments of a path before its refusal, and the refusal's number
+-- the segments of a path before its refusal, and whether there is one
 unfoldable pub path_of : Rule → ℕ → List ℕ → Reading Segment
 path_of rule w s = read_all (segment_of rule w) tt s
 

@@ -4,6 +4,7 @@
 
 ghost use Rattle.std.specs.Prelude.{◌≡◌, ◌+◌, ◌≤◌, [], ◌∷◌, length, drop};
 ghost use Rattle.wire.specs.Store.{laid, PutAhead};
+ghost use Rattle.wire.specs.Verdict.{fine};
 ghost use Rattle.wire.specs.Walk.{flat};
 ghost use Rattle.asns.specs.Asn.{width_of, span};
 ghost use Rattle.paths.specs.Segment.{numbers_of, type_fault, known_type, rule_of, pair_of, asns_of, segment_of, path_of};
@@ -11,7 +12,7 @@ ghost use Rattle.paths.specs.Private.{fewest_by, few_fault, low_first, turned_of
 ghost use Rattle.paths.specs.Promises.{count_in, asns_after, count_answer, read_answer, pairs_after, numbers_after};
 
 use asns::AsnLength;
-use wire::refusal;
+use wire::refusal::Refusal;
 
 // The least and the greatest segment type: 1 set, 2 sequence, 3 confederation sequence, 4 confederation set.
 const AS_SET: u32 = 1;
@@ -19,37 +20,30 @@ const AS_SET: u32 = 1;
 const CONFED_SET: u32 = 4;
 
 // Which segments a path may have: the crate takes one of no numbers, the strict rule does not (RFC 7606 section 7.2).
-#[derive(Clone, Copy)]
+#[derive(Clone, Copy, Debug, PartialEq, Eq, Hash)]
 pub enum PathRule {
     Crate,
     Strict,
 }
 
-// A path: its segments and their numbers, or a refusal number.
-#[derive(Clone, Copy)]
-pub enum PathAnswer {
-    Path { segments: usize, numbers: usize },
-    Refused(u8),
+// How many segments and numbers a path has.
+#[derive(Clone, Copy, Debug, PartialEq, Eq, Hash)]
+pub struct Path {
+    pub segments: usize,
+    pub numbers: usize,
 }
 
-// How many numbers a segment has, or a refusal number.
-#[derive(Clone, Copy)]
-pub enum SegmentAnswer {
-    Numbers(u8),
-    Refused(u8),
-}
-
-// What is wrong with a segment of that type, 0 where nothing is: types are 1 to 4.
-fn type_fault(kind: u32) -> u8
+// What is wrong with a segment of that type: types are 1 to 4.
+fn type_fault(kind: u32) -> Result<(), Refusal>
     ensures { result ≡ type_fault kind }
 {
     if kind < AS_SET {
-        return refusal::SEGMENT_TYPE;
+        return Err(Refusal::SegmentType);
     }
     if CONFED_SET < kind {
-        return refusal::SEGMENT_TYPE;
+        return Err(Refusal::SegmentType);
     }
-    0
+    Ok(())
 }
 
 // The fewest numbers of a segment.
@@ -62,71 +56,52 @@ fn fewest_by(rule: PathRule) -> usize
     }
 }
 
-// What is wrong where so few are there of so many: that number, or 0 where nothing is.
-fn few_fault(there: usize, asked: usize, number: u8) -> u8
-    ensures { result ≡ few_fault there asked number }
+// A refusal where so few are there of so many.
+fn few_fault(there: usize, asked: usize, few: Refusal) -> Result<(), Refusal>
+    ensures { result ≡ few_fault there asked few }
 {
-    if there < asked {
-        return number;
-    }
-    0
+    if there < asked { Err(few) } else { Ok(()) }
 }
 
-// What is wrong with a segment of that type and count, 0 where nothing is: the type, 9; the count, 16.
-pub fn rule_fault(kind: u32, count: u32, rule: PathRule) -> u8
+// What is wrong with a segment of that type and count: the type, 9; the count, 16.
+pub fn rule_fault(kind: u32, count: u32, rule: PathRule) -> Result<(), Refusal>
     ensures { result ≡ rule_of rule kind count }
 {
-    let unknown = type_fault(kind);
-    let few = few_fault(count as usize, fewest_by(rule), refusal::EMPTY_SEGMENT);
-    if unknown != 0 {
-        return unknown;
-    }
-    few
+    type_fault(kind)?;
+    few_fault(count as usize, fewest_by(rule), Refusal::EmptySegment)
 }
 
 // How many numbers the segment at the front has: type and count there, 2; the numbers there, 2; then the rule, 9 and 16.
-pub fn segment_count(s: &[u8], width: AsnLength, rule: PathRule) -> SegmentAnswer
+pub fn segment_count(s: &[u8], width: AsnLength, rule: PathRule) -> Result<u8, Refusal>
     ensures { result ≡ count_in (segment_of (rule_of rule) (width_of width) tt s.now) }
 {
     if s.len() < 2 {
-        return SegmentAnswer::Refused(refusal::TRUNCATED);
+        return Err(Refusal::Truncated);
     }
     let count = s[1];
-    let size = 2 + asns::numbers_size(count as u16, width);
-    let short = few_fault(s.len(), size, refusal::TRUNCATED);
-    let fault = rule_fault(wire::wide(s[0]), wire::wide(count), rule);
-    if short != 0 {
-        return SegmentAnswer::Refused(short);
-    }
-    if fault != 0 {
-        return SegmentAnswer::Refused(fault);
-    }
-    SegmentAnswer::Numbers(count)
+    let size = 2 + asns::numbers_size(u16::from(count), width);
+    few_fault(s.len(), size, Refusal::Truncated)?;
+    rule_fault(u32::from(s[0]), u32::from(count), rule)?;
+    Ok(count)
 }
 
 // How many segments and numbers a path has.
-pub fn count_as_path(value: &[u8], width: AsnLength, rule: PathRule) -> PathAnswer
+pub fn count_as_path(value: &[u8], width: AsnLength, rule: PathRule) -> Result<Path, Refusal>
     ensures { result ≡ count_answer value.now (path_of (rule_of rule) (width_of width) value.now) }
 {
     if wire::LIST_LIMIT < value.len() {
-        return PathAnswer::Refused(refusal::TOO_LONG);
+        return Err(Refusal::TooLong);
     }
     let mut at: usize = 0;
     let mut segments: usize = 0;
     let mut numbers: usize = 0;
     while at < value.len() {
-        match segment_count(&value[at..], width, rule) {
-            SegmentAnswer::Numbers(count) => {
-                at = at + (2 + asns::numbers_size(count as u16, width));
-                segments = segments + 1;
-                numbers = numbers + count as usize;
-            }
-            SegmentAnswer::Refused(n) => {
-                return PathAnswer::Refused(n);
-            }
-        }
+        let count = segment_count(&value[at..], width, rule)?;
+        at += 2 + asns::numbers_size(u16::from(count), width);
+        segments += 1;
+        numbers += usize::from(count);
     }
-    PathAnswer::Path { segments, numbers }
+    Ok(Path { segments, numbers })
 }
 
 // A pair of type and count at a place of the store.
@@ -167,8 +142,8 @@ fn low_first(s: &[u8], at: usize) -> u32
     requires { at + 4 ≤ length s.now }
     ensures { result ≡ low_first s.now at }
 {
-    let low = wire::wide(s[at]) + wire::wide(s[at + 1]) * 256;
-    let high = wire::wide(s[at + 2]) + wire::wide(s[at + 3]) * 256;
+    let low = u32::from(s[at]) + u32::from(s[at + 1]) * 256;
+    let high = u32::from(s[at + 2]) + u32::from(s[at + 3]) * 256;
     low + high * 65536
 }
 
@@ -247,13 +222,13 @@ fn put_numbers(s: &[u8], from: usize, n: usize, width: AsnLength, numbers: &mut 
 pub fn read_asns(s: &[u8], n: u8, width: AsnLength, numbers: &mut [u32])
     ensures { numbers.new ≡ asns_after (width_of width) s.now n numbers.old }
 {
-    if s.len() < asns::numbers_size(n as u16, width) {
+    if s.len() < asns::numbers_size(u16::from(n), width) {
         return;
     }
-    if numbers.len() < n as usize {
+    if numbers.len() < usize::from(n) {
         return;
     }
-    put_numbers(s, 0, n as usize, width, numbers, 0);
+    put_numbers(s, 0, usize::from(n), width, numbers, 0);
 }
 
 // The n numbers at a place of the bytes, to a place of the store, and perhaps more after them, below `total`.
@@ -281,7 +256,7 @@ fn put_ahead(
 // The segments of a good path that has room, with `total` numbers. No test of a segment is made again, so it is the same for both rules: what the
 // strict one takes, the crate takes the same.
 fn fill(value: &[u8], width: AsnLength, pairs: &mut [u32], numbers: &mut [u32], total: usize)
-    requires value_value { (path_of known_type (width_of width) value.now).verdict ≡ 0 }
+    requires value_good { (path_of known_type (width_of width) value.now).verdict ≡ fine }
     requires value_in_bounds { length (flat pair_of (path_of known_type (width_of width) value.now).rows) ≤ length pairs.old }
     requires value_len { length (flat asns_of (path_of known_type (width_of width) value.now).rows) ≡ total }
     requires total_in_bounds { total ≤ length numbers.old }
@@ -293,11 +268,11 @@ fn fill(value: &[u8], width: AsnLength, pairs: &mut [u32], numbers: &mut [u32], 
     let mut to: usize = 0;
     while at < value.len() {
         let count = value[at + 1];
-        put_pair(pairs, pair, wire::wide(value[at]), wire::wide(count));
-        put_ahead(value, at + 2, count as usize, width, numbers, to, total);
-        at = at + (2 + asns::numbers_size(count as u16, width));
-        pair = pair + 2;
-        to = to + count as usize;
+        put_pair(pairs, pair, u32::from(value[at]), u32::from(count));
+        put_ahead(value, at + 2, usize::from(count), width, numbers, to, total);
+        at += 2 + asns::numbers_size(u16::from(count), width);
+        pair += 2;
+        to += usize::from(count);
     }
 }
 
@@ -308,28 +283,18 @@ pub fn parse_as_path(
     rule: PathRule,
     pairs: &mut [u32],
     numbers: &mut [u32],
-) -> PathAnswer
+) -> Result<Path, Refusal>
     ensures answer { result ≡ read_answer value.now (path_of (rule_of rule) (width_of width) value.now) (length pairs.old) (length numbers.old) }
     ensures pairs { pairs.new ≡ pairs_after value.now (path_of (rule_of rule) (width_of width) value.now) pairs.old (length numbers.old) }
     ensures numbers { numbers.new ≡ numbers_after value.now (path_of (rule_of rule) (width_of width) value.now) (length pairs.old) numbers.old }
 {
-    match count_as_path(value, width, rule) {
-        PathAnswer::Path {
-            segments,
-            numbers: n,
-        } => {
-            if pairs.len() / 2 < segments {
-                return PathAnswer::Refused(refusal::NO_ROOM);
-            }
-            if numbers.len() < n {
-                return PathAnswer::Refused(refusal::NO_ROOM);
-            }
-            fill(value, width, pairs, numbers, n);
-            PathAnswer::Path {
-                segments,
-                numbers: n,
-            }
-        }
-        PathAnswer::Refused(n) => PathAnswer::Refused(n),
+    let path = count_as_path(value, width, rule)?;
+    if pairs.len() / 2 < path.segments {
+        return Err(Refusal::NoRoom);
     }
+    if numbers.len() < path.numbers {
+        return Err(Refusal::NoRoom);
+    }
+    fill(value, width, pairs, numbers, path.numbers);
+    Ok(path)
 }
