@@ -1,28 +1,25 @@
 -- The fields of the answers whose fields are not their values in order. The others go by `in_fields` of words: a list has its rows and its host rows, an
 -- index its places, an AS_PATH its segments and numbers, a writer its bytes.
-use Rattle.std.specs.Prelude.{ℕ, ◌+◌, ◌*◌, ◌/◌, ◌%◌, Bool, List, [], ◌∷◌, length, leb, ltb}
+use Rattle.std.specs.Prelude.{ℕ, ◌+◌, ◌*◌, ◌/◌, ◌%◌, List, [], ◌∷◌, length, leb, ltb, Option, Result, Ok, Err}
 use Rattle.wire.specs.Answer.{Answer, given, refusal, number_in, value_in, flag, filled, handed}
 use Rattle.wire.specs.Choice.{pick}
 use Rattle.wire.specs.Extent.{Extent, extent}
-use Rattle.wire.specs.Refusal.{no_room}
+use Rattle.wire.specs.Refusal.{number_of, no_room}
+use Rattle.wire.specs.declared.refusal.Refusal.{Refusal}
 use Rattle.as4.specs.Standing.{standing_meaning, owner_of}
-use Rattle.as4.specs.declared.StandingAnswer.{StandingAnswer}
+use Rattle.as4.specs.declared.Standing.{Standing}
 use Rattle.messages.specs.Header.{message_meaning}
-use Rattle.messages.specs.declared.MessageAnswer.{MessageAnswer}
+use Rattle.messages.specs.declared.Message.{Message}
 use Rattle.attributes.specs.Promises.{attribute_meaning}
-use Rattle.attributes.specs.declared.AttributeAnswer.{AttributeAnswer}
+use Rattle.attributes.specs.declared.Attribute.{Attribute}
 use Rattle.mp_nlri.specs.Read.{reach_meaning}
-use Rattle.mp_nlri.specs.declared.ReachAnswer.{ReachAnswer}
+use Rattle.mp_nlri.specs.declared.Reach.{Reach}
 use Rattle.routes.specs.Prefix.{words}
-use Rattle.routes.specs.declared.ListAnswer.{ListAnswer}
-use Rattle.routes.specs.declared.ListAnswer.TheVariants.{Rows, Refused}
-use Rattle.routes.specs.declared.PrefixAnswer.{PrefixAnswer}
-use Rattle.routes.specs.declared.PrefixAnswer.TheVariants as P
-use Rattle.routes.specs.declared.RouteAnswer.{RouteAnswer}
+use Rattle.routes.specs.declared.Route.{Route}
 use Rattle.updates.specs.Body.{parts_meaning}
 use Rattle.updates.specs.Update.{update_meaning}
-use Rattle.updates.specs.declared.PartsAnswer.{PartsAnswer}
-use Rattle.updates.specs.declared.UpdateAnswer.{UpdateAnswer}
+use Rattle.updates.specs.declared.Parts.{Parts}
+use Rattle.updates.specs.declared.Update.{Update}
 use Rattle.slots.specs.declared.SlotAnswer.{SlotAnswer}
 use Rattle.slots.specs.declared.SlotAnswer.TheVariants.{Slot, More, Stop, End}
 use Rattle.words.specs.Settings.{settings_of}
@@ -31,7 +28,7 @@ use Rattle.words.specs.Word.{Fields, fields}
 -- ---- messages
 
 -- what it claims, what is taken of it, and its type with its three flags
-abbrev pub message_fields : MessageAnswer → Fields
+abbrev pub message_fields : Result Message Refusal → Fields
 message_fields a =
     fields (value_in 1 (message_meaning a)) (value_in 2 (message_meaning a))
     (value_in 0 (message_meaning a) + 256 * value_in 3 (message_meaning a) + 512 * value_in 4 (message_meaning a) + 1024 * value_in 5 (message_meaning a))
@@ -40,23 +37,23 @@ message_fields a =
 -- ---- UPDATE bodies
 
 -- where a section starts, and its length
-abbrev pub part_fields : (PartsAnswer → Extent) → PartsAnswer → Fields
+abbrev pub part_fields : (Result Parts Refusal → Extent) → Result Parts Refusal → Fields
 part_fields section a = fields (section a).start (section a).size 0 (number_in (parts_meaning a))
 
 -- the rows of both sections, and the verdict of each
-abbrev pub update_fields : UpdateAnswer → Fields
+abbrev pub update_fields : Result Update Refusal → Fields
 update_fields a =
     fields (value_in 0 (update_meaning a)) (value_in 2 (update_meaning a))
     (value_in 1 (update_meaning a) + 256 * value_in 3 (update_meaning a)) (number_in (update_meaning a))
 
 -- the rows of both sections that have a host bit, for which that word has no field
-abbrev pub host_fields : UpdateAnswer → Fields
+abbrev pub host_fields : Result Update Refusal → Fields
 host_fields a = fields (value_in 4 (update_meaning a)) (value_in 5 (update_meaning a)) 0 (number_in (update_meaning a))
 
 -- ---- attributes
 
 -- where its value starts, the value's length, and its type with its flags; 0 each where there is none
-abbrev pub attribute_fields : AttributeAnswer → Fields
+abbrev pub attribute_fields : Result (Option Attribute) Refusal → Fields
 attribute_fields a =
     fields (value_in 3 (attribute_meaning a)) (value_in 4 (attribute_meaning a)) (value_in 2 (attribute_meaning a) + 256 * value_in 1 (attribute_meaning a))
     (number_in (attribute_meaning a))
@@ -64,9 +61,9 @@ attribute_fields a =
 -- ---- marks taken off rows
 
 -- the rows in the 48 bits below the refusal number, since a store may have more rows than a list
-abbrev pub cleared_fields : ListAnswer → Fields
-cleared_fields (Rows n) = fields (n % 65536) (n / 65536 % 65536) (n / 4294967296 % 65536) 0
-cleared_fields (Refused n) = fields 0 0 0 n
+abbrev pub cleared_fields : Result ℕ Refusal → Fields
+cleared_fields (Ok n) = fields (n % 65536) (n / 65536 % 65536) (n / 4294967296 % 65536) 0
+cleared_fields (Err r) = fields 0 0 0 (number_of r)
 
 -- ---- a route by an index
 
@@ -75,25 +72,22 @@ abbrev pub row_words : ℕ
 row_words = 6
 
 -- in a store of so many places, 11 last: the bytes that the item takes, and whether it has a host bit
-abbrev pub prefix_stored : PrefixAnswer → Bool → ℕ → Answer
-prefix_stored (P.Prefix used row) host places = pick (leb row_words places) (given (used ∷ flag host ∷ [])) (refusal no_room)
-prefix_stored (P.Refused n) host places = refusal n
+abbrev pub route_stored : Result Route Refusal → ℕ → Answer
+route_stored (Ok a) places = pick (leb row_words places) (given (a.prefix.used ∷ flag a.host ∷ [])) (refusal no_room)
+route_stored (Err r) places = refusal (number_of r)
 
-abbrev pub route_stored : RouteAnswer → ℕ → Answer
-route_stored a places = prefix_stored a.prefix a.host places
-
-abbrev pub prefix_words : PrefixAnswer → List ℕ
-prefix_words (P.Prefix used row) = words row
-prefix_words (P.Refused n) = []
+abbrev pub route_words : Result Route Refusal → List ℕ
+route_words (Ok a) = words a.prefix.row
+route_words (Err r) = []
 
 -- the store afterwards: the row from its front where it was put, and else as it was
-abbrev pub route_after : RouteAnswer → List ℕ → List ℕ
-route_after a store = filled (route_stored a (length store)) (prefix_words a.prefix) store
+abbrev pub route_after : Result Route Refusal → List ℕ → List ℕ
+route_after a store = filled (route_stored a (length store)) (route_words a) store
 
 -- ---- MP_REACH_NLRI
 
 -- its rows, those that have a host bit, and the length of its next hop with the flag of the reserved byte
-abbrev pub reach_fields : ReachAnswer → Fields
+abbrev pub reach_fields : Result Reach Refusal → Fields
 reach_fields a =
     fields (value_in 2 (reach_meaning a)) (value_in 3 (reach_meaning a)) (value_in 0 (reach_meaning a) + 256 * value_in 1 (reach_meaning a))
     (number_in (reach_meaning a))
@@ -115,7 +109,7 @@ aggregator_stored (refusal n) places = refusal n
 -- ---- two AGGREGATORs
 
 -- where the one that stands starts in itself, and its length, by the lengths of both; and which it is
-abbrev pub standing_fields : StandingAnswer → ℕ → ℕ → Fields
+abbrev pub standing_fields : Result Standing Refusal → ℕ → ℕ → Fields
 standing_fields a first second =
     let part : Extent = handed (standing_meaning a) (extent 0 (owner_of a first second)) in
     fields part.start part.size (value_in 0 (standing_meaning a)) (number_in (standing_meaning a))

@@ -1,14 +1,13 @@
 // An AGGREGATOR, read and written.
 ghost use Rattle.std.specs.Prelude.{◌≡◌, length};
-ghost use Rattle.wire.specs.Answer.{filled, write_meaning};
+ghost use Rattle.wire.specs.Answer.{filled, count_meaning};
 ghost use Rattle.asns.specs.Aggregator.{aggregator_meaning, aggregator_of, aggregator_written, aggregator_left};
 ghost use Rattle.words.specs.Settings.{asn_length_of};
 ghost use Rattle.words.specs.Word.{in_fields, word_of};
 ghost use Rattle.firmware.specs.Fields.{aggregator_stored, aggregator_words};
 
-use super::write_word;
-use asns::AggregatorAnswer;
-use wire::refusal;
+use super::{count_word, refused};
+use wire::refusal::Refusal;
 use words::{asn_length_of, word};
 
 // The words of an AGGREGATOR: its AS number and its identifier.
@@ -20,19 +19,15 @@ pub fn doorbramble_parse_aggregator(value: &[u8], four_bytes: u8, words: &mut [u
     ensures words { words.new ≡ filled (aggregator_stored (aggregator_meaning (aggregator_of value.now (asn_length_of four_bytes))) (length words.old)) (aggregator_words (aggregator_meaning (aggregator_of value.now (asn_length_of four_bytes)))) words.old }
 {
     match asns::parse_aggregator(value, asn_length_of(four_bytes)) {
-        AggregatorAnswer::Aggregator {
-            asn,
-            identifier,
-            differs,
-        } => {
+        Ok(found) => {
             if words.len() < AGGREGATOR_SIZE {
-                return word(0, 0, 0, refusal::NO_ROOM);
+                return refused(Refusal::NoRoom);
             }
-            words[0] = asn;
-            words[1] = identifier;
-            word(AGGREGATOR_SIZE as u16, differs as u16, 0, 0)
+            words[0] = found.asn;
+            words[1] = found.identifier;
+            word(AGGREGATOR_SIZE as u16, found.differs as u16, 0, 0)
         }
-        AggregatorAnswer::Refused(n) => word(0, 0, 0, n),
+        Err(why) => refused(why),
     }
 }
 
@@ -43,8 +38,8 @@ pub fn doorbramble_encode_aggregator(
     four_bytes: u8,
     out: &mut [u8],
 ) -> u64
-    ensures answer { result ≡ word_of (in_fields (write_meaning (aggregator_written asn identifier (asn_length_of four_bytes) (length out.old)))) }
+    ensures answer { result ≡ word_of (in_fields (count_meaning (aggregator_written asn identifier (asn_length_of four_bytes) (length out.old)))) }
     ensures out { out.new ≡ aggregator_left asn identifier (asn_length_of four_bytes) out.old }
 {
-    write_word(asns::encode_aggregator(asn, identifier, asn_length_of(four_bytes), out))
+    count_word(asns::encode_aggregator(asn, identifier, asn_length_of(four_bytes), out))
 }

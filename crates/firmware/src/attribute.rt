@@ -4,29 +4,25 @@ ghost use Rattle.attributes.specs.Promises.{attribute_at, find_answer};
 ghost use Rattle.words.specs.Word.{word_of, Narrow};
 ghost use Rattle.firmware.specs.Fields.{attribute_fields};
 
-use attributes::AttributeAnswer;
+use super::refused;
+use attributes::Attribute;
+use wire::refusal::Refusal;
 use words::word;
 
 // An attribute as a word: where its value starts and how long it is, its type and its flags.
-fn attribute_word(a: AttributeAnswer) -> u64
+fn attribute_word(a: Result<Option<Attribute>, Refusal>) -> u64
     requires { Narrow (attribute_fields a) }
     ensures { result ≡ word_of (attribute_fields a) }
 {
     match a {
-        AttributeAnswer::Attribute {
-            flags,
-            kind,
-            start,
-            length,
-            next: _,
-        } => word(
-            start as u16,
-            length as u16,
-            kind as u16 + 256 * (flags as u16),
+        Ok(Some(found)) => word(
+            found.start as u16,
+            found.length as u16,
+            u16::from(found.kind) + 256 * u16::from(found.flags),
             0,
         ),
-        AttributeAnswer::Absent => word(0, 0, 0, 0),
-        AttributeAnswer::Refused(n) => word(0, 0, 0, n),
+        Ok(None) => word(0, 0, 0, 0),
+        Err(why) => refused(why),
     }
 }
 

@@ -1,47 +1,37 @@
 // An index beside a list of routes, counted and built; and the route of a number by it.
 ghost use Rattle.std.specs.Prelude.{◌≡◌, ◌≤◌, length};
+ghost use Rattle.wire.specs.Answer.{count_meaning};
 ghost use Rattle.wire.specs.Store.{laid};
 ghost use Rattle.families.specs.Family.{max_of};
 ghost use Rattle.routes.specs.List.{up_to};
 ghost use Rattle.routes.specs.Prefix.{words};
 ghost use Rattle.route_index.specs.Index.{route_by};
-ghost use Rattle.route_index.specs.Promises.{index_meaning, count_index, build_index, index_after};
+ghost use Rattle.route_index.specs.Promises.{count_index, build_index, index_after};
 ghost use Rattle.words.specs.Settings.{family_of, form_of};
-ghost use Rattle.words.specs.Word.{in_fields, word_of, Narrow};
+ghost use Rattle.words.specs.Word.{in_fields, word_of};
 ghost use Rattle.firmware.specs.Fields.{row_words, route_stored, route_after};
 
-use route_index::IndexAnswer;
-use routes::{PrefixAnswer, Row};
-use wire::refusal;
+use super::{count_word, refused};
+use routes::Row;
+use wire::refusal::Refusal;
 use words::{family_of, form_of, word};
 
 // The words of a row.
 const ROW_WORDS: usize = 6;
 
-// An index as a word: its places.
-fn index_word(a: IndexAnswer) -> u64
-    requires { Narrow (in_fields (index_meaning a)) }
-    ensures { result ≡ word_of (in_fields (index_meaning a)) }
-{
-    match a {
-        IndexAnswer::Places(n) => word(n as u16, 0, 0, 0),
-        IndexAnswer::Refused(n) => word(0, 0, 0, n),
-    }
-}
-
 // How many places the index of a list has.
 pub fn doorbramble_count_index(s: &[u8], ipv6: u8, add_path: u8) -> u64
-    ensures { result ≡ word_of (in_fields (index_meaning (count_index (up_to (max_of (family_of ipv6))) s.now (form_of add_path)))) }
+    ensures { result ≡ word_of (in_fields (count_meaning (count_index (up_to (max_of (family_of ipv6))) s.now (form_of add_path)))) }
 {
-    index_word(route_index::count_index(s, family_of(ipv6), form_of(add_path)))
+    count_word(route_index::count_index(s, family_of(ipv6), form_of(add_path)))
 }
 
 // The index of a list, into a lent store.
 pub fn doorbramble_build_index(s: &[u8], ipv6: u8, add_path: u8, places: &mut [u16]) -> u64
-    ensures answer { result ≡ word_of (in_fields (index_meaning (build_index (up_to (max_of (family_of ipv6))) s.now (form_of add_path) (length places.old)))) }
+    ensures answer { result ≡ word_of (in_fields (count_meaning (build_index (up_to (max_of (family_of ipv6))) s.now (form_of add_path) (length places.old)))) }
     ensures places { places.new ≡ index_after (up_to (max_of (family_of ipv6))) s.now (form_of add_path) places.old }
 {
-    index_word(route_index::build_index(s, family_of(ipv6), form_of(add_path), places))
+    count_word(route_index::build_index(s, family_of(ipv6), form_of(add_path), places))
 }
 
 // The words of a row, at the front of a store.
@@ -69,16 +59,14 @@ pub fn doorbramble_route_at(
     ensures answer { result ≡ word_of (in_fields (route_stored (route_by (up_to (max_of (family_of ipv6))) (form_of add_path) s.now index.now n) (length row.old))) }
     ensures row { row.new ≡ route_after (route_by (up_to (max_of (family_of ipv6))) (form_of add_path) s.now index.now n) row.old }
 {
-    let found = route_index::route_at(s, index, n, family_of(ipv6), form_of(add_path));
-    let prefix = found.prefix;
-    match prefix {
-        PrefixAnswer::Prefix { used, row: route } => {
+    match route_index::route_at(s, index, n, family_of(ipv6), form_of(add_path)) {
+        Ok(found) => {
             if row.len() < ROW_WORDS {
-                return word(0, 0, 0, refusal::NO_ROOM);
+                return refused(Refusal::NoRoom);
             }
-            put_words(row, route);
-            word(used as u16, found.host as u16, 0, 0)
+            put_words(row, found.prefix.row);
+            word(found.prefix.used as u16, found.host as u16, 0, 0)
         }
-        PrefixAnswer::Refused(why) => word(0, 0, 0, why),
+        Err(why) => refused(why),
     }
 }

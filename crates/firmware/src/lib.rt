@@ -3,10 +3,11 @@
 #![tactic(auto)]
 
 ghost use Rattle.std.specs.Prelude.{◌≡◌};
-ghost use Rattle.wire.specs.Answer.{write_meaning};
-ghost use Rattle.words.specs.Word.{in_fields, word_of, Narrow};
+ghost use Rattle.wire.specs.Answer.{count_meaning};
+ghost use Rattle.wire.specs.Refusal.{number_of};
+ghost use Rattle.words.specs.Word.{fields, in_fields, word_of, Narrow};
 
-use wire::WriteAnswer;
+use wire::refusal::Refusal;
 use words::word;
 
 pub mod aggregator;
@@ -21,13 +22,20 @@ pub mod slot;
 pub mod update;
 pub mod version;
 
-// What was written, as a word: the bytes.
-fn write_word(a: WriteAnswer) -> u64
-    requires { Narrow (in_fields (write_meaning a)) }
-    ensures { result ≡ word_of (in_fields (write_meaning a)) }
+// A refusal as a word: its number.
+fn refused(why: Refusal) -> u64
+    ensures { result ≡ word_of (fields 0 0 0 (number_of why)) }
+{
+    word(0, 0, 0, u8::from(why))
+}
+
+// A count as a word, of bytes that were written or of places.
+fn count_word(a: Result<usize, Refusal>) -> u64
+    requires { Narrow (in_fields (count_meaning a)) }
+    ensures { result ≡ word_of (in_fields (count_meaning a)) }
 {
     match a {
-        WriteAnswer::Bytes(n) => word(n as u16, 0, 0, 0),
-        WriteAnswer::Refused(n) => word(0, 0, 0, n),
+        Ok(n) => word(n as u16, 0, 0, 0),
+        Err(why) => refused(why),
     }
 }

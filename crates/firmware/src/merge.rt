@@ -7,7 +7,8 @@ ghost use Rattle.words.specs.Word.{in_fields, word_of};
 ghost use Rattle.firmware.specs.Fields.{standing_fields};
 
 use super::path::path_word;
-use as4::StandingAnswer;
+use super::refused;
+use as4::Standing;
 use words::word;
 
 // Which of two AGGREGATORs stands: all of it as a part, and 1, or 2 for AS4_AGGREGATOR.
@@ -15,9 +16,9 @@ pub fn doorbramble_standing_aggregator(aggregator: &[u8], as4_aggregator: &[u8])
     ensures { result ≡ word_of (standing_fields (standing aggregator.now as4_aggregator.now) (length aggregator.now) (length as4_aggregator.now)) }
 {
     match as4::which_aggregator(aggregator, as4_aggregator) {
-        StandingAnswer::Aggregator => word(0, aggregator.len() as u16, 1, 0),
-        StandingAnswer::As4Aggregator => word(0, as4_aggregator.len() as u16, 2, 0),
-        StandingAnswer::Refused(n) => word(0, 0, 0, n),
+        Ok(Standing::Aggregator) => word(0, aggregator.len() as u16, 1, 0),
+        Ok(Standing::As4Aggregator) => word(0, as4_aggregator.len() as u16, 2, 0),
+        Err(why) => refused(why),
     }
 }
 

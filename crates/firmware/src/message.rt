@@ -1,6 +1,6 @@
 // A message's header, read and written.
 ghost use Rattle.std.specs.Prelude.{◌≡◌, length};
-ghost use Rattle.wire.specs.Answer.{write_meaning};
+ghost use Rattle.wire.specs.Answer.{count_meaning};
 ghost use Rattle.messages.specs.Header.{message_of, strict_of};
 ghost use Rattle.messages.specs.declared.Edition.TheVariants.{Rfc4271};
 ghost use Rattle.messages.specs.Written as Messages;
@@ -8,30 +8,27 @@ ghost use Rattle.words.specs.Settings.{edition_of};
 ghost use Rattle.words.specs.Word.{in_fields, word_of, Narrow};
 ghost use Rattle.firmware.specs.Fields.{message_fields};
 
-use super::write_word;
-use messages::{Edition, MessageAnswer};
+use super::{count_word, refused};
+use messages::{Edition, Message};
+use wire::refusal::Refusal;
 use words::{edition_of, word};
 
 // A message as a word: what it claims, what is taken of it, its type and flags.
-fn message_word(a: MessageAnswer) -> u64
+fn message_word(a: Result<Message, Refusal>) -> u64
     requires { Narrow (message_fields a) }
     ensures { result ≡ word_of (message_fields a) }
 {
     match a {
-        MessageAnswer::Message {
-            kind,
-            claimed,
-            taken,
-            marker,
-            cut,
-            trailing,
-        } => word(
-            claimed as u16,
-            taken as u16,
-            kind as u16 + 256 * (marker as u16) + 512 * (cut as u16) + 1024 * (trailing as u16),
+        Ok(m) => word(
+            m.claimed as u16,
+            m.taken as u16,
+            u16::from(u8::from(m.kind))
+                + 256 * (m.marker as u16)
+                + 512 * (m.cut as u16)
+                + 1024 * (m.trailing as u16),
             0,
         ),
-        MessageAnswer::Refused(n) => word(0, 0, 0, n),
+        Err(why) => refused(why),
     }
 }
 
@@ -65,8 +62,8 @@ pub fn doorbramble_parse_bgp_message_by_edition(s: &[u8], edition: u8) -> u64
 
 // A type and a body as a message.
 pub fn doorbramble_encode_bgp_message(kind: u8, body: &[u8], out: &mut [u8]) -> u64
-    ensures answer { result ≡ word_of (in_fields (write_meaning (Messages.write_message kind body.now (length out.old)))) }
+    ensures answer { result ≡ word_of (in_fields (count_meaning (Messages.write_message kind body.now (length out.old)))) }
     ensures out { out.new ≡ Messages.message_after kind body.now out.old }
 {
-    write_word(messages::encode_bgp_message(kind, body, out))
+    count_word(messages::encode_bgp_message(kind, body, out))
 }

@@ -1,6 +1,6 @@
 // An AS_PATH, counted, read and written, by calls as the crate does it and by strict ones (RFC 7606 section 7.2). The two of a kind share a function.
 ghost use Rattle.std.specs.Prelude.{◌≡◌, ◌%◌, length};
-ghost use Rattle.wire.specs.Answer.{write_meaning};
+ghost use Rattle.wire.specs.Answer.{count_meaning};
 ghost use Rattle.asns.specs.Asn.{width_of};
 ghost use Rattle.paths.specs.Segment.{known_type, non_empty, rule_of, path_of};
 ghost use Rattle.paths.specs.Promises as Paths;
@@ -9,18 +9,19 @@ ghost use Rattle.words.specs.Settings.{asn_length_of};
 ghost use Rattle.words.specs.Word.{in_fields, word_of, Narrow};
 ghost use Rattle.firmware.specs.Private.{rule_in};
 
-use super::write_word;
-use paths::{PathAnswer, PathRule};
+use super::{count_word, refused};
+use paths::{Path, PathRule};
+use wire::refusal::Refusal;
 use words::{asn_length_of, word};
 
 // A path as a word: its segments and their numbers.
-pub(super) fn path_word(a: PathAnswer) -> u64
+pub(super) fn path_word(a: Result<Path, Refusal>) -> u64
     requires { Narrow (in_fields (Paths.path_meaning a)) }
     ensures { result ≡ word_of (in_fields (Paths.path_meaning a)) }
 {
     match a {
-        PathAnswer::Path { segments, numbers } => word(segments as u16, numbers as u16, 0, 0),
-        PathAnswer::Refused(n) => word(0, 0, 0, n),
+        Ok(path) => word(path.segments as u16, path.numbers as u16, 0, 0),
+        Err(why) => refused(why),
     }
 }
 
@@ -106,12 +107,12 @@ pub fn doorbramble_parse_as_path_strict(
 
 // Pairs of type and count, and numbers back to back, as an AS_PATH.
 fn encode_by(pairs: &[u32], numbers: &[u32], how: u16, out: &mut [u8]) -> u64
-    ensures answer { result ≡ word_of (in_fields (write_meaning (PathWriter.encode_answer (rule_of (rule_in how)) (width_of (asn_length_of (how % 256))) pairs.now numbers.now (length out.old)))) }
+    ensures answer { result ≡ word_of (in_fields (count_meaning (PathWriter.encode_answer (rule_of (rule_in how)) (width_of (asn_length_of (how % 256))) pairs.now numbers.now (length out.old)))) }
     ensures out { out.new ≡ PathWriter.encode_left (rule_of (rule_in how)) (width_of (asn_length_of (how % 256))) pairs.now numbers.now out.old }
 {
     let heads = &pairs[..];
     let asns = &numbers[..];
-    write_word(path_writer::encode_as_path(
+    count_word(path_writer::encode_as_path(
         heads,
         asns,
         asn_length_of((how % 256) as u8),
@@ -127,7 +128,7 @@ pub fn doorbramble_encode_as_path(
     four_bytes: u8,
     out: &mut [u8],
 ) -> u64
-    ensures answer { result ≡ word_of (in_fields (write_meaning (PathWriter.encode_answer known_type (width_of (asn_length_of four_bytes)) pairs.now numbers.now (length out.old)))) }
+    ensures answer { result ≡ word_of (in_fields (count_meaning (PathWriter.encode_answer known_type (width_of (asn_length_of four_bytes)) pairs.now numbers.now (length out.old)))) }
     ensures out { out.new ≡ PathWriter.encode_left known_type (width_of (asn_length_of four_bytes)) pairs.now numbers.now out.old }
 {
     encode_by(pairs, numbers, four_bytes as u16, out)
@@ -140,7 +141,7 @@ pub fn doorbramble_encode_as_path_strict(
     four_bytes: u8,
     out: &mut [u8],
 ) -> u64
-    ensures answer { result ≡ word_of (in_fields (write_meaning (PathWriter.encode_answer non_empty (width_of (asn_length_of four_bytes)) pairs.now numbers.now (length out.old)))) }
+    ensures answer { result ≡ word_of (in_fields (count_meaning (PathWriter.encode_answer non_empty (width_of (asn_length_of four_bytes)) pairs.now numbers.now (length out.old)))) }
     ensures out { out.new ≡ PathWriter.encode_left non_empty (width_of (asn_length_of four_bytes)) pairs.now numbers.now out.old }
 {
     encode_by(pairs, numbers, STRICT + four_bytes as u16, out)

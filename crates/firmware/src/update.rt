@@ -1,6 +1,6 @@
 // An UPDATE body: where its sections stand, its routes counted and read, and a body written.
 ghost use Rattle.std.specs.Prelude.{◌≡◌, length};
-ghost use Rattle.wire.specs.Answer.{filled, write_meaning};
+ghost use Rattle.wire.specs.Answer.{filled, count_meaning};
 ghost use Rattle.families.specs.Family.{mode_of};
 ghost use Rattle.updates.specs.Body.{parts_of, withdrawn_at, attributes_at, announced_at};
 ghost use Rattle.updates.specs.Update.{count_update, read_update, withdrawn_after, announced_after};
@@ -9,10 +9,11 @@ ghost use Rattle.words.specs.Settings.{form_of};
 ghost use Rattle.words.specs.Word.{in_fields, word_of, Narrow};
 ghost use Rattle.firmware.specs.Fields.{part_fields, update_fields, host_fields};
 
-use super::write_word;
-use families::{Afi, mode_of, octets};
+use super::{count_word, refused};
+use families::AddPath;
 use routes::{hosts_in, rows_in, verdict_in};
-use updates::{LENGTH_SIZE, PartsAnswer, UpdateAnswer};
+use updates::{LENGTH_SIZE, Update};
+use wire::refusal::Refusal;
 use words::{form_of, word};
 
 // Where the withdrawn section of an UPDATE body stands.
@@ -20,12 +21,8 @@ pub fn doorbramble_withdrawn_part(body: &[u8]) -> u64
     ensures { result ≡ word_of (part_fields withdrawn_at (parts_of body.now)) }
 {
     match updates::update_parts(body) {
-        PartsAnswer::Parts {
-            withdrawn,
-            attributes: _,
-            announced: _,
-        } => word(LENGTH_SIZE as u16, withdrawn as u16, 0, 0),
-        PartsAnswer::Refused(n) => word(0, 0, 0, n),
+        Ok(parts) => word(LENGTH_SIZE as u16, parts.withdrawn as u16, 0, 0),
+        Err(why) => refused(why),
     }
 }
 
@@ -34,17 +31,13 @@ pub fn doorbramble_attribute_part(body: &[u8]) -> u64
     ensures { result ≡ word_of (part_fields attributes_at (parts_of body.now)) }
 {
     match updates::update_parts(body) {
-        PartsAnswer::Parts {
-            withdrawn,
-            attributes,
-            announced: _,
-        } => word(
-            (LENGTH_SIZE + withdrawn + LENGTH_SIZE) as u16,
-            attributes as u16,
+        Ok(parts) => word(
+            (LENGTH_SIZE + parts.withdrawn + LENGTH_SIZE) as u16,
+            parts.attributes as u16,
             0,
             0,
         ),
-        PartsAnswer::Refused(n) => word(0, 0, 0, n),
+        Err(why) => refused(why),
     }
 }
 
@@ -53,36 +46,29 @@ pub fn doorbramble_announced_part(body: &[u8]) -> u64
     ensures { result ≡ word_of (part_fields announced_at (parts_of body.now)) }
 {
     match updates::update_parts(body) {
-        PartsAnswer::Parts {
-            withdrawn,
-            attributes,
-            announced,
-        } => word(
-            (LENGTH_SIZE + withdrawn + LENGTH_SIZE + attributes) as u16,
-            announced as u16,
+        Ok(parts) => word(
+            (LENGTH_SIZE + parts.withdrawn + LENGTH_SIZE + parts.attributes) as u16,
+            parts.announced as u16,
             0,
             0,
         ),
-        PartsAnswer::Refused(n) => word(0, 0, 0, n),
+        Err(why) => refused(why),
     }
 }
 
 // An UPDATE as a word: the rows of both sections, and their verdicts.
-fn update_word(a: UpdateAnswer) -> u64
+fn update_word(a: Result<Update, Refusal>) -> u64
     requires { Narrow (update_fields a) }
     ensures { result ≡ word_of (update_fields a) }
 {
     match a {
-        UpdateAnswer::Update {
-            withdrawn,
-            announced,
-        } => word(
-            rows_in(withdrawn) as u16,
-            rows_in(announced) as u16,
-            verdict_in(withdrawn) as u16 + 256 * (verdict_in(announced) as u16),
+        Ok(update) => word(
+            rows_in(update.withdrawn) as u16,
+            rows_in(update.announced) as u16,
+            u16::from(verdict_in(update.withdrawn)) + 256 * u16::from(verdict_in(update.announced)),
             0,
         ),
-        UpdateAnswer::Refused(n) => word(0, 0, 0, n),
+        Err(why) => refused(why),
     }
 }
 
@@ -90,32 +76,21 @@ fn update_word(a: UpdateAnswer) -> u64
 pub fn doorbramble_count_bgp_update_message(body: &[u8], settings: u8) -> u64
     ensures { result ≡ word_of (update_fields (count_update body.now (mode_of settings))) }
 {
-    update_word(updates::count_bgp_update_message(body, mode_of(settings)))
+    update_word(updates::count_bgp_update_message(body, AddPath::from(settings)))
 }
 
 // How many routes of each section of an UPDATE body have a bit set past their length, for which the word of an UPDATE has no field left.
 pub fn doorbramble_count_update_hosts(body: &[u8], settings: u8) -> u64
     ensures { result ≡ word_of (host_fields (count_update body.now (mode_of settings))) }
 {
-    match updates::update_parts(body) {
-        PartsAnswer::Parts {
-            withdrawn: _,
-            attributes: _,
-            announced: _,
-        } => {
-            let mode = mode_of(settings);
-            let mut counts = [0u8; 256];
-            octets::put_counts(Afi::Ipv4, &mut counts);
-            let first = routes::count_section_by(updates::withdrawn_part(body), &counts, mode);
-            let second = routes::count_section_by(updates::announced_part(body), &counts, mode);
-            word(
-                hosts_in(routes::counted(first)) as u16,
-                hosts_in(routes::counted(second)) as u16,
-                0,
-                0,
-            )
-        }
-        PartsAnswer::Refused(n) => word(0, 0, 0, n),
+    match updates::count_bgp_update_message(body, AddPath::from(settings)) {
+        Ok(update) => word(
+            hosts_in(update.withdrawn) as u16,
+            hosts_in(update.announced) as u16,
+            0,
+            0,
+        ),
+        Err(why) => refused(why),
     }
 }
 
@@ -130,7 +105,12 @@ pub fn doorbramble_parse_bgp_update_message(
     ensures withdrawn { withdrawn.new ≡ withdrawn_after (read_update body.now (mode_of settings) (length withdrawn.old) (length announced.old)) body.now (mode_of settings) withdrawn.old }
     ensures announced { announced.new ≡ announced_after (read_update body.now (mode_of settings) (length withdrawn.old) (length announced.old)) body.now (mode_of settings) announced.old }
 {
-    update_word(updates::parse_bgp_update_message(body, mode_of(settings), withdrawn, announced))
+    update_word(updates::parse_bgp_update_message(
+        body,
+        AddPath::from(settings),
+        withdrawn,
+        announced,
+    ))
 }
 
 // Rows to withdraw, attribute bytes and rows to announce as an UPDATE body.
@@ -141,10 +121,10 @@ pub fn doorbramble_encode_bgp_update_message(
     add_path: u8,
     out: &mut [u8],
 ) -> u64
-    ensures answer { result ≡ word_of (in_fields (write_meaning (body_answer withdrawn.now attributes.now announced.now (form_of add_path) (length out.old)))) }
-    ensures out { out.new ≡ filled (write_meaning (body_answer withdrawn.now attributes.now announced.now (form_of add_path) (length out.old))) (body_bytes withdrawn.now attributes.now announced.now (form_of add_path)) out.old }
+    ensures answer { result ≡ word_of (in_fields (count_meaning (body_answer withdrawn.now attributes.now announced.now (form_of add_path) (length out.old)))) }
+    ensures out { out.new ≡ filled (count_meaning (body_answer withdrawn.now attributes.now announced.now (form_of add_path) (length out.old))) (body_bytes withdrawn.now attributes.now announced.now (form_of add_path)) out.old }
 {
-    write_word(update_writer::encode_bgp_update_message(
+    count_word(update_writer::encode_bgp_update_message(
         withdrawn,
         attributes,
         announced,

@@ -1,6 +1,6 @@
 // An AGGREGATOR, read and written.
 ghost use Rattle.std.specs.Prelude.{◌≡◌, length};
-ghost use Rattle.wire.specs.Answer.{filled, write_meaning};
+ghost use Rattle.wire.specs.Answer.{filled, count_meaning};
 ghost use Rattle.asns.specs.Aggregator.{aggregator_meaning, aggregator_of, aggregator_written, aggregator_left};
 ghost use Rattle.words.specs.Settings.{asn_length_of};
 ghost use Rattle.words.specs.Word.{in_fields, word_of};
@@ -27,7 +27,7 @@ pub extern "C" fn doorbramble_encode_aggregator(
     four_bytes: u8,
     out: &mut [u8],
 ) -> u64
-    ensures answer { result ≡ word_of (in_fields (write_meaning (aggregator_written asn identifier (asn_length_of four_bytes) (length out.old)))) }
+    ensures answer { result ≡ word_of (in_fields (count_meaning (aggregator_written asn identifier (asn_length_of four_bytes) (length out.old)))) }
     ensures out { out.new ≡ aggregator_left asn identifier (asn_length_of four_bytes) out.old }
 {
     firmware::aggregator::doorbramble_encode_aggregator(asn, identifier, four_bytes, out)

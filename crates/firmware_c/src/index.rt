@@ -1,9 +1,10 @@
 // An index beside a list of routes, counted and built; and the route of a number by it.
 ghost use Rattle.std.specs.Prelude.{◌≡◌, length};
+ghost use Rattle.wire.specs.Answer.{count_meaning};
 ghost use Rattle.families.specs.Family.{max_of};
 ghost use Rattle.routes.specs.List.{up_to};
 ghost use Rattle.route_index.specs.Index.{route_by};
-ghost use Rattle.route_index.specs.Promises.{index_meaning, count_index, build_index, index_after};
+ghost use Rattle.route_index.specs.Promises.{count_index, build_index, index_after};
 ghost use Rattle.words.specs.Settings.{family_of, form_of};
 ghost use Rattle.words.specs.Word.{in_fields, word_of};
 ghost use Rattle.firmware.specs.Fields.{route_stored, route_after};
@@ -11,7 +12,7 @@ ghost use Rattle.firmware.specs.Fields.{route_stored, route_after};
 // How many places the index of a list has.
 #[unsafe(no_mangle)]
 pub extern "C" fn doorbramble_count_index(s: &[u8], ipv6: u8, add_path: u8) -> u64
-    ensures { result ≡ word_of (in_fields (index_meaning (count_index (up_to (max_of (family_of ipv6))) s.now (form_of add_path)))) }
+    ensures { result ≡ word_of (in_fields (count_meaning (count_index (up_to (max_of (family_of ipv6))) s.now (form_of add_path)))) }
 {
     firmware::index::doorbramble_count_index(s, ipv6, add_path)
 }
@@ -24,7 +25,7 @@ pub extern "C" fn doorbramble_build_index(
     add_path: u8,
     places: &mut [u16],
 ) -> u64
-    ensures answer { result ≡ word_of (in_fields (index_meaning (build_index (up_to (max_of (family_of ipv6))) s.now (form_of add_path) (length places.old)))) }
+    ensures answer { result ≡ word_of (in_fields (count_meaning (build_index (up_to (max_of (family_of ipv6))) s.now (form_of add_path) (length places.old)))) }
     ensures places { places.new ≡ index_after (up_to (max_of (family_of ipv6))) s.now (form_of add_path) places.old }
 {
     firmware::index::doorbramble_build_index(s, ipv6, add_path, places)

@@ -1,6 +1,6 @@
 // A message's header, read and written.
 ghost use Rattle.std.specs.Prelude.{◌≡◌, length};
-ghost use Rattle.wire.specs.Answer.{write_meaning};
+ghost use Rattle.wire.specs.Answer.{count_meaning};
 ghost use Rattle.messages.specs.Header.{message_of, strict_of};
 ghost use Rattle.messages.specs.declared.Edition.TheVariants.{Rfc4271};
 ghost use Rattle.messages.specs.Written as Messages;
@@ -35,7 +35,7 @@ pub extern "C" fn doorbramble_parse_bgp_message_by_edition(s: &[u8], edition: u8
 // A type and a body as a message.
 #[unsafe(no_mangle)]
 pub extern "C" fn doorbramble_encode_bgp_message(kind: u8, body: &[u8], out: &mut [u8]) -> u64
-    ensures answer { result ≡ word_of (in_fields (write_meaning (Messages.write_message kind body.now (length out.old)))) }
+    ensures answer { result ≡ word_of (in_fields (count_meaning (Messages.write_message kind body.now (length out.old)))) }
     ensures out { out.new ≡ Messages.message_after kind body.now out.old }
 {
     firmware::message::doorbramble_encode_bgp_message(kind, body, out)

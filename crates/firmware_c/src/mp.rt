@@ -1,6 +1,6 @@
 // MP_REACH_NLRI and MP_UNREACH_NLRI of IPv6 unicast routes, counted, read and written.
 ghost use Rattle.std.specs.Prelude.{◌≡◌, length};
-ghost use Rattle.wire.specs.Answer.{filled, write_meaning};
+ghost use Rattle.wire.specs.Answer.{filled, count_meaning};
 ghost use Rattle.families.specs.Family.{mode_of};
 ghost use Rattle.routes.specs.Promises.{routes_meaning};
 ghost use Rattle.mp_nlri.specs.Value.{reach_bytes, unreach_bytes};
@@ -39,8 +39,8 @@ pub extern "C" fn doorbramble_encode_mp_reach_nlri(
     add_path: u8,
     out: &mut [u8],
 ) -> u64
-    ensures answer { result ≡ word_of (in_fields (write_meaning (write_reach (length next_hop.now) rows.now (form_of add_path) (length out.old)))) }
-    ensures out { out.new ≡ filled (write_meaning (write_reach (length next_hop.now) rows.now (form_of add_path) (length out.old))) (reach_bytes next_hop.now (route_bytes rows.now (form_of add_path))) out.old }
+    ensures answer { result ≡ word_of (in_fields (count_meaning (write_reach (length next_hop.now) rows.now (form_of add_path) (length out.old)))) }
+    ensures out { out.new ≡ filled (count_meaning (write_reach (length next_hop.now) rows.now (form_of add_path) (length out.old))) (reach_bytes next_hop.now (route_bytes rows.now (form_of add_path))) out.old }
 {
     firmware::mp::doorbramble_encode_mp_reach_nlri(next_hop, rows, add_path, out)
 }
@@ -73,8 +73,8 @@ pub extern "C" fn doorbramble_encode_mp_unreach_nlri(
     add_path: u8,
     out: &mut [u8],
 ) -> u64
-    ensures answer { result ≡ word_of (in_fields (write_meaning (write_unreach rows.now (form_of add_path) (length out.old)))) }
-    ensures out { out.new ≡ filled (write_meaning (write_unreach rows.now (form_of add_path) (length out.old))) (unreach_bytes (route_bytes rows.now (form_of add_path))) out.old }
+    ensures answer { result ≡ word_of (in_fields (count_meaning (write_unreach rows.now (form_of add_path) (length out.old)))) }
+    ensures out { out.new ≡ filled (count_meaning (write_unreach rows.now (form_of add_path) (length out.old))) (unreach_bytes (route_bytes rows.now (form_of add_path))) out.old }
 {
     firmware::mp::doorbramble_encode_mp_unreach_nlri(rows, add_path, out)
 }

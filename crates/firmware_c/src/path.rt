@@ -1,6 +1,6 @@
 // An AS_PATH, counted, read and written, by calls as the crate does it and by strict ones (RFC 7606 section 7.2).
 ghost use Rattle.std.specs.Prelude.{◌≡◌, length};
-ghost use Rattle.wire.specs.Answer.{write_meaning};
+ghost use Rattle.wire.specs.Answer.{count_meaning};
 ghost use Rattle.asns.specs.Asn.{width_of};
 ghost use Rattle.paths.specs.Segment.{known_type, non_empty, path_of};
 ghost use Rattle.paths.specs.Promises as Paths;
@@ -62,7 +62,7 @@ pub extern "C" fn doorbramble_encode_as_path(
     four_bytes: u8,
     out: &mut [u8],
 ) -> u64
-    ensures answer { result ≡ word_of (in_fields (write_meaning (PathWriter.encode_answer known_type (width_of (asn_length_of four_bytes)) pairs.now numbers.now (length out.old)))) }
+    ensures answer { result ≡ word_of (in_fields (count_meaning (PathWriter.encode_answer known_type (width_of (asn_length_of four_bytes)) pairs.now numbers.now (length out.old)))) }
     ensures out { out.new ≡ PathWriter.encode_left known_type (width_of (asn_length_of four_bytes)) pairs.now numbers.now out.old }
 {
     firmware::path::doorbramble_encode_as_path(pairs, numbers, four_bytes, out)
@@ -76,7 +76,7 @@ pub extern "C" fn doorbramble_encode_as_path_strict(
     four_bytes: u8,
     out: &mut [u8],
 ) -> u64
-    ensures answer { result ≡ word_of (in_fields (write_meaning (PathWriter.encode_answer non_empty (width_of (asn_length_of four_bytes)) pairs.now numbers.now (length out.old)))) }
+    ensures answer { result ≡ word_of (in_fields (count_meaning (PathWriter.encode_answer non_empty (width_of (asn_length_of four_bytes)) pairs.now numbers.now (length out.old)))) }
     ensures out { out.new ≡ PathWriter.encode_left non_empty (width_of (asn_length_of four_bytes)) pairs.now numbers.now out.old }
 {
     firmware::path::doorbramble_encode_as_path_strict(pairs, numbers, four_bytes, out)

@@ -1,6 +1,6 @@
 // An UPDATE body: where its sections stand, its routes counted and read, and a body written.
 ghost use Rattle.std.specs.Prelude.{◌≡◌, length};
-ghost use Rattle.wire.specs.Answer.{filled, write_meaning};
+ghost use Rattle.wire.specs.Answer.{filled, count_meaning};
 ghost use Rattle.families.specs.Family.{mode_of};
 ghost use Rattle.updates.specs.Body.{parts_of, withdrawn_at, attributes_at, announced_at};
 ghost use Rattle.updates.specs.Update.{count_update, read_update, withdrawn_after, announced_after};
@@ -75,8 +75,8 @@ pub extern "C" fn doorbramble_encode_bgp_update_message(
     add_path: u8,
     out: &mut [u8],
 ) -> u64
-    ensures answer { result ≡ word_of (in_fields (write_meaning (body_answer withdrawn.now attributes.now announced.now (form_of add_path) (length out.old)))) }
-    ensures out { out.new ≡ filled (write_meaning (body_answer withdrawn.now attributes.now announced.now (form_of add_path) (length out.old))) (body_bytes withdrawn.now attributes.now announced.now (form_of add_path)) out.old }
+    ensures answer { result ≡ word_of (in_fields (count_meaning (body_answer withdrawn.now attributes.now announced.now (form_of add_path) (length out.old)))) }
+    ensures out { out.new ≡ filled (count_meaning (body_answer withdrawn.now attributes.now announced.now (form_of add_path) (length out.old))) (body_bytes withdrawn.now attributes.now announced.now (form_of add_path)) out.old }
 {
     firmware::update::doorbramble_encode_bgp_update_message(
         withdrawn, attributes, announced, add_path, out,
