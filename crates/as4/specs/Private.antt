@@ -1,15 +1,17 @@
 -- What only private functions' contracts name: what a path weighs, where its leading part ends, and what the path to build is made of.
-use Rattle.std.specs.Prelude.{ℕ, zero, suc, ◌+◌, ◌≤◌, ◌<◌, ◌≡◌, List, [], ◌∷◌, ◌++◌, Bool, true, false, length, get_or, take, drop, leb, ltb, eqb}
-use Rattle.wire.specs.Answer.{answer_by}
+use Rattle.std.specs.Prelude.{ℕ, zero, suc, ◌+◌, ◌≤◌, ◌<◌, ◌≡◌, List, [], ◌∷◌, ◌++◌, Bool, true, false, length, get_or, take, drop, leb, ltb, eqb, Result, Ok, Err}
 use Rattle.wire.specs.Choice.{pick}
 use Rattle.wire.specs.Refusal.{list_limit}
+use Rattle.wire.specs.Verdict.{fine, unless}
 use Rattle.wire.specs.Walk.{Reading, flat}
+use Rattle.wire.specs.declared.refusal.Refusal.{Refusal}
 use Rattle.asns.specs.Asn.{span}
+use Rattle.paths.specs.declared.Path.{Path}
+use Rattle.paths.specs.Promises.{counts}
 use Rattle.paths.specs.Segment.{Segment, as_set, numbers_of, asns_of}
 use Rattle.as4.specs.Merge.{confed_sequence, route_len_of, kept, leading}
 use Rattle.as4.specs.Promises.{old_path, new_path, fault_of}
-use Rattle.as4.specs.declared.WeighAnswer.{WeighAnswer}
-use Rattle.as4.specs.declared.WeighAnswer.TheVariants as W
+use Rattle.as4.specs.declared.Weight.{Weight}
 use Rattle.as4.specs.declared.Leading.{Leading}
 use Rattle.as4.specs.declared.Plan.{Plan}
 use Rattle.as4.specs.declared.Plan.TheVariants as P
@@ -33,9 +35,11 @@ kept_by emit g = kept_of g.kind (emit g)
 
 -- ---- a path weighed: what it counts, and its segments and numbers without those of confederations
 
-unfoldable pub weighed : List ℕ → Reading Segment → WeighAnswer
-weighed s r =
-    answer_by (fault_of s r) (W.Weight (route_len_of r.rows) (length (kept r.rows)) (length (flat asns_of (kept r.rows)))) W.Refused
+abbrev pub weight_of : List Segment → Weight
+weight_of rows = record { route_len = route_len_of rows; segments = length (kept rows); numbers = length (flat asns_of (kept rows)) }
+
+unfoldable pub weighed : List ℕ → Reading Segment → Result Weight Refusal
+weighed s r = unless (fault_of s r) (weight_of r.rows)
 
 -- ---- the leading part
 
@@ -53,7 +57,7 @@ abbrev pub front_of : List ℕ → Leading → List Segment
 front_of s r = (old_path (take r.end s)).rows ++ split_at s r.end r.split
 
 pub record Front (s : List ℕ) (r : Leading) : Type 0 where
-  pub good : (old_path (take r.end s)).verdict ≡ 0
+  pub good : (old_path (take r.end s)).verdict ≡ fine
   pub segments : length (old_path (take r.end s)).rows ≡ r.segments
   pub numbers : length (flat asns_of (old_path (take r.end s)).rows) ≡ r.numbers
   pub within : r.end ≤ length s
@@ -72,18 +76,17 @@ pub record Leads (s : List ℕ) (need : ℕ) (r : Leading) : Type 0 where
 unfoldable pub alone : Bool → ℕ → ℕ → ℕ → Bool
 alone ignores segments old new = pick ignores true (pick (eqb segments 0) true (ltb old new))
 
--- r is a front of AS_PATH and what is left of AS4_PATH
-pub record Made (r : Reading Segment) (path four : List ℕ) (lead : Leading) (m n : ℕ) : Type 0 where
-  pub good : r.verdict ≡ 0
+-- r is a front of AS_PATH and what is left of AS4_PATH, of so many segments and numbers
+pub record Made (r : Reading Segment) (path four : List ℕ) (lead : Leading) (both : Path) : Type 0 where
+  pub good : r.verdict ≡ fine
   pub front : Front path lead
-  pub sound : (new_path four).verdict ≡ 0
+  pub sound : (new_path four).verdict ≡ fine
   pub short : (length path ≤ list_limit) × (length four ≤ list_limit)
   pub rows : r.rows ≡ front_of path lead ++ kept (new_path four).rows
-  pub segments : length r.rows ≡ m
-  pub numbers : length (flat asns_of r.rows) ≡ n
+  pub size : counts r.rows ≡ both
 
 -- r by a plan: AS_PATH alone; such a front; or a refusal
-abbrev pub Planned : Reading Segment → List ℕ → List ℕ → Plan → Type 0
-Planned r path four P.Alone = (r.rows ≡ (old_path path).rows) × (r.verdict ≡ fault_of path (old_path path))
-Planned r path four (P.Built lead segments numbers) = Made r path four lead segments numbers
-Planned r path four (P.Refused n) = (r.verdict ≡ n) × (0 < n)
+abbrev pub Planned : Reading Segment → List ℕ → List ℕ → Result Plan Refusal → Type 0
+Planned r path four (Ok P.Alone) = (r.rows ≡ (old_path path).rows) × (r.verdict ≡ fault_of path (old_path path))
+Planned r path four (Ok (P.Built lead both)) = Made r path four lead both
+Planned r path four (Err n) = r.verdict ≡ Err n

@@ -1,14 +1,17 @@
 -- What the calls on both paths answer and leave, from the bytes of all four values.
-use Rattle.std.specs.Prelude.{ℕ, List, Bool, length, leb}
-use Rattle.wire.specs.Answer.{either, filled}
+use Rattle.std.specs.Prelude.{ℕ, List, Bool, length, leb, Result, Err}
+use Rattle.wire.specs.Answer.{filled}
 use Rattle.wire.specs.Choice.{pick}
-use Rattle.wire.specs.Refusal.{too_long, list_limit}
+use Rattle.wire.specs.Refusal.{list_limit}
+use Rattle.wire.specs.Verdict.{Verdict, either}
 use Rattle.wire.specs.Walk.{Reading, flat}
 use Rattle.asns.specs.Asn.{width_of}
 use Rattle.asns.specs.declared.AsnLength.TheVariants.{Bits16, Bits32}
 use Rattle.paths.specs.Segment.{Segment, known_type, path_of, pair_of, asns_of}
 use Rattle.paths.specs.Promises.{path_meaning, answer_of, in_stores}
-use Rattle.paths.specs.declared.PathAnswer.{PathAnswer}
+use Rattle.paths.specs.declared.Path.{Path}
+use Rattle.wire.specs.declared.refusal.Refusal.{Refusal}
+use Rattle.wire.specs.declared.refusal.Refusal.TheVariants.{TooLong}
 use Rattle.as4.specs.Standing.{sizes_fault, ignored}
 use Rattle.as4.specs.Merge.{merged}
 
@@ -19,9 +22,9 @@ old_path s = path_of known_type (width_of Bits16) s
 abbrev pub new_path : List ℕ → Reading Segment
 new_path s = path_of known_type (width_of Bits32) s
 
--- what is wrong with a value that is read: 1 first, 0 where nothing is
-unfoldable pub fault_of : List ℕ → Reading Segment → ℕ
-fault_of s r = pick (leb (length s) list_limit) r.verdict too_long
+-- whether a value that is read is fine: 1 first
+unfoldable pub fault_of : List ℕ → Reading Segment → Verdict
+fault_of s r = pick (leb (length s) list_limit) r.verdict (Err TooLong)
 
 -- the path that AS_PATH and AS4_PATH make, where the second is ignored and where it is not: the refusal of the first, then that of the second in either case
 unfoldable pub both_of : Bool → List ℕ → List ℕ → Reading Segment
@@ -37,7 +40,7 @@ built_of path four first second =
     record { rows = both.rows; verdict = either (sizes_fault first second) both.verdict }
 
 -- in stores of so many places: 11 last
-abbrev pub merge_answer : Reading Segment → ℕ → ℕ → PathAnswer
+abbrev pub merge_answer : Reading Segment → ℕ → ℕ → Result Path Refusal
 merge_answer r pair_places number_places = in_stores (answer_of r) pair_places number_places
 
 -- the stores afterwards: of the pairs, and of the numbers

@@ -7,6 +7,7 @@ ghost use Rattle.wire.specs.Choice.{pick};
 ghost use Rattle.wire.specs.Extent.{PartOf};
 ghost use Rattle.wire.specs.Refusal.{list_limit};
 ghost use Rattle.wire.specs.Store.{laid};
+ghost use Rattle.wire.specs.Verdict.{fine};
 ghost use Rattle.wire.specs.Walk.{flat};
 ghost use Rattle.asns.specs.Asn.{width_of, span};
 ghost use Rattle.paths.specs.Segment.{numbers_of, known_type, path_of, pair_of, asns_of};
@@ -17,8 +18,8 @@ ghost use Rattle.as4.specs.Promises.{old_path, new_path, fault_of, both_of, buil
 ghost use Rattle.as4.specs.Private.{kept_count, kept_of, kept_by, route_count, weighed, goes_on, split_at, front_of, Front, Leads, alone, Planned};
 
 use asns::AsnLength;
-use paths::{PathAnswer, PathRule, SegmentAnswer};
-use wire::refusal;
+use paths::{Path, PathRule};
+use wire::refusal::Refusal;
 
 // AS_TRANS: the AS number that stands where one of four bytes has no room.
 pub const AS_TRANS: u32 = 23456;
@@ -33,47 +34,36 @@ const AS_SET: u8 = 1;
 
 const CONFED_SEQUENCE: u8 = 3;
 
-// Which of two AGGREGATORs stands, or a refusal number.
-#[derive(Clone, Copy)]
-pub enum StandingAnswer {
+// Which of two AGGREGATORs stands.
+#[derive(Clone, Copy, Debug, PartialEq, Eq, Hash)]
+pub enum Standing {
     Aggregator,
     As4Aggregator,
-    Refused(u8),
 }
 
-// What is wrong with a value of n bytes, 0 where nothing is: it is absent, or has its one size.
-fn size_fault(n: usize, size: usize) -> u8
+// Whether a value of n bytes is absent, or has its one size.
+fn size_fault(n: usize, size: usize) -> Result<(), Refusal>
     ensures { result ≡ size_fault n size }
 {
-    if n == 0 {
-        return 0;
+    if n == 0 || n == size {
+        return Ok(());
     }
-    if n == size {
-        return 0;
-    }
-    refusal::AGGREGATOR_LENGTH
+    Err(Refusal::AggregatorLength)
 }
 
-// What is wrong with both.
-fn sizes_fault(aggregator: &[u8], as4_aggregator: &[u8]) -> u8
+// The same of both.
+fn sizes_fault(aggregator: &[u8], as4_aggregator: &[u8]) -> Result<(), Refusal>
     ensures { result ≡ sizes_fault aggregator.now as4_aggregator.now }
 {
-    let first = size_fault(aggregator.len(), AGGREGATOR_SIZE);
-    let second = size_fault(as4_aggregator.len(), AS4_AGGREGATOR_SIZE);
-    if first != 0 {
-        return first;
-    }
-    second
+    size_fault(aggregator.len(), AGGREGATOR_SIZE)?;
+    size_fault(as4_aggregator.len(), AS4_AGGREGATOR_SIZE)
 }
 
 // Whether neither is absent.
 fn both_there(aggregator: &[u8], as4_aggregator: &[u8]) -> bool
     ensures { result ≡ both_there aggregator.now as4_aggregator.now }
 {
-    if aggregator.len() == 0 {
-        return false;
-    }
-    0 < as4_aggregator.len()
+    !aggregator.is_empty() && !as4_aggregator.is_empty()
 }
 
 // Whether the AS number of an AGGREGATOR is AS_TRANS.
@@ -84,20 +74,17 @@ fn has_as_trans(aggregator: &[u8]) -> bool
 }
 
 // Which of two AGGREGATORs stands.
-pub fn which_aggregator(aggregator: &[u8], as4_aggregator: &[u8]) -> StandingAnswer
+pub fn which_aggregator(aggregator: &[u8], as4_aggregator: &[u8]) -> Result<Standing, Refusal>
     ensures { result ≡ standing aggregator.now as4_aggregator.now }
 {
-    let fault = sizes_fault(aggregator, as4_aggregator);
-    if fault != 0 {
-        return StandingAnswer::Refused(fault);
-    }
+    sizes_fault(aggregator, as4_aggregator)?;
     if !both_there(aggregator, as4_aggregator) {
-        return StandingAnswer::Aggregator;
+        return Ok(Standing::Aggregator);
     }
     if has_as_trans(aggregator) {
-        return StandingAnswer::As4Aggregator;
+        return Ok(Standing::As4Aggregator);
     }
-    StandingAnswer::Aggregator
+    Ok(Standing::Aggregator)
 }
 
 // The AGGREGATOR that stands: one of the two values itself, and nothing where they are refused.
@@ -105,9 +92,9 @@ pub fn standing_aggregator<'a>(aggregator: &'a [u8], as4_aggregator: &'a [u8]) -
     ensures { PartOf (owner_of (standing aggregator.now as4_aggregator.now) aggregator.entry as4_aggregator.entry) (handed_back (standing aggregator.now as4_aggregator.now) aggregator.entry as4_aggregator.entry) result }
 {
     match which_aggregator(aggregator, as4_aggregator) {
-        StandingAnswer::Aggregator => aggregator,
-        StandingAnswer::As4Aggregator => as4_aggregator,
-        StandingAnswer::Refused(_) => wire::part(aggregator, 0, 0),
+        Ok(Standing::Aggregator) => aggregator,
+        Ok(Standing::As4Aggregator) => as4_aggregator,
+        Err(_) => &aggregator[..0],
     }
 }
 
@@ -115,26 +102,20 @@ pub fn standing_aggregator<'a>(aggregator: &'a [u8], as4_aggregator: &'a [u8]) -
 fn ignores_as4_path(aggregator: &[u8], as4_aggregator: &[u8]) -> bool
     ensures { result ≡ ignored aggregator.now as4_aggregator.now }
 {
-    if !both_there(aggregator, as4_aggregator) {
-        return false;
-    }
-    !has_as_trans(aggregator)
+    both_there(aggregator, as4_aggregator) && !has_as_trans(aggregator)
 }
 
-// What a path counts, and how many segments and numbers it has without those of confederations; or a refusal number.
-#[derive(Clone, Copy)]
-enum WeighAnswer {
-    Weight {
-        route_len: usize,
-        segments: usize,
-        numbers: usize,
-    },
-    Refused(u8),
+// What a path counts, and how many segments and numbers it has without those of confederations.
+#[derive(Clone, Copy, Debug, PartialEq, Eq)]
+struct Weight {
+    route_len: usize,
+    segments: usize,
+    numbers: usize,
 }
 
 // The leading part of an AS_PATH: where its whole segments end, how many numbers of a split sequence follow, 0 for none, and how many segments and numbers
 // stand before that.
-#[derive(Clone, Copy)]
+#[derive(Clone, Copy, Debug, PartialEq, Eq)]
 struct Leading {
     end: usize,
     split: usize,
@@ -142,16 +123,11 @@ struct Leading {
     numbers: usize,
 }
 
-// What a path is built of: AS_PATH alone; or its leading part and AS4_PATH, with so many segments and numbers together; or a refusal number.
-#[derive(Clone, Copy)]
+// What a path is built of: AS_PATH alone; or its leading part and AS4_PATH, which make a path of so many segments and numbers.
+#[derive(Clone, Copy, Debug, PartialEq, Eq)]
 enum Plan {
     Alone,
-    Built {
-        lead: Leading,
-        segments: usize,
-        numbers: usize,
-    },
-    Refused(u8),
+    Built { lead: Leading, path: Path },
 }
 
 // Whether a segment is one of a confederation.
@@ -179,54 +155,42 @@ fn route_len(kind: u8, n: usize) -> usize
 }
 
 // A path judged and weighed.
-fn weigh(value: &[u8], width: AsnLength) -> WeighAnswer
+fn weigh(value: &[u8], width: AsnLength) -> Result<Weight, Refusal>
     ensures { result ≡ weighed value.now (path_of known_type (width_of width) value.now) }
 {
     if wire::LIST_LIMIT < value.len() {
-        return WeighAnswer::Refused(refusal::TOO_LONG);
+        return Err(Refusal::TooLong);
     }
     let mut at: usize = 0;
     let mut counted: usize = 0;
     let mut segments: usize = 0;
     let mut numbers: usize = 0;
     while at < value.len() {
-        match paths::segment_count(&value[at..], width, PathRule::Crate) {
-            SegmentAnswer::Numbers(n) => {
-                let kind = value[at];
-                counted = counted + route_len(kind, n as usize);
-                segments = segments + kept_count(kind, 1);
-                numbers = numbers + kept_count(kind, n as usize);
-                at = at + (2 + asns::numbers_size(n as u16, width));
-            }
-            SegmentAnswer::Refused(n) => {
-                return WeighAnswer::Refused(n);
-            }
-        }
+        let n = paths::segment_count(&value[at..], width, PathRule::Crate)?;
+        let kind = value[at];
+        counted += route_len(kind, n as usize);
+        segments += kept_count(kind, 1);
+        numbers += kept_count(kind, n as usize);
+        at += 2 + asns::numbers_size(n as u16, width);
     }
-    WeighAnswer::Weight {
+    Ok(Weight {
         route_len: counted,
         segments,
         numbers,
-    }
+    })
 }
 
 // Whether a segment stands there and is to be taken, with so much left to make up.
 fn goes_on(s: &[u8], at: usize, left: usize) -> bool
     ensures { result ≡ goes_on s.now at left }
 {
-    if s.len() <= at {
-        return false;
-    }
-    if 0 < left {
-        return true;
-    }
-    is_confed(s[at])
+    at < s.len() && (0 < left || is_confed(s[at]))
 }
 
 // The leading part of a good AS_PATH that counts `need`.
 fn leading_part(as_path: &[u8], need: usize) -> Leading
-    requires as_path_value { (old_path as_path.now).verdict ≡ 0 }
-    requires as_path_len_bound { length as_path.now ≤ list_limit }
+    requires good { (old_path as_path.now).verdict ≡ fine }
+    requires short { length as_path.now ≤ list_limit }
     ensures { Leads as_path.now need result }
 {
     let mut at: usize = 0;
@@ -274,8 +238,8 @@ fn put_segment(
     ensures pairs { pairs.new ≡ laid pairs.old pair (get_or value.now at 0 ∷ n ∷ []) }
     ensures numbers { numbers.new ≡ laid numbers.old to (numbers_of (width_of width) n (drop (at + 2) value.now)) }
 {
-    pairs[pair] = wire::wide(value[at]);
-    pairs[pair + 1] = wire::wide(n);
+    pairs[pair] = u32::from(value[at]);
+    pairs[pair + 1] = u32::from(n);
     let from = at + 2;
     let end = from + asns::numbers_size(n as u16, width);
     let stop = to + n as usize;
@@ -306,7 +270,7 @@ fn put_kept(
 
 // The segments of a good AS4_PATH, which have room, but for those of confederations.
 fn fill_kept(as4_path: &[u8], pairs: &mut [u32], numbers: &mut [u32])
-    requires as4_path_value { (new_path as4_path.now).verdict ≡ 0 }
+    requires as4_path_value { (new_path as4_path.now).verdict ≡ fine }
     requires as4_path_in_bounds { length (flat (kept_by pair_of) (new_path as4_path.now).rows) ≤ length pairs.old }
     requires as4_path_in_bounds_2 { length (flat (kept_by asns_of) (new_path as4_path.now).rows) ≤ length numbers.old }
     ensures pairs { pairs.new ≡ laid pairs.old 0 (flat (kept_by pair_of) (new_path as4_path.now).rows) }
@@ -360,16 +324,16 @@ fn put_split(
 // The whole segments of a front, which have room.
 fn put_front(front: &[u8], pairs: &mut [u32], numbers: &mut [u32])
     requires front_len_bound { length front.now ≤ list_limit }
-    requires front_value { (old_path front.now).verdict ≡ 0 }
+    requires front_value { (old_path front.now).verdict ≡ fine }
     requires front_in_bounds { length (flat pair_of (old_path front.now).rows) ≤ length pairs.old }
     requires front_in_bounds_2 { length (flat asns_of (old_path front.now).rows) ≤ length numbers.old }
     ensures pairs { pairs.new ≡ laid pairs.old 0 (flat pair_of (old_path front.now).rows) }
     ensures numbers { numbers.new ≡ laid numbers.old 0 (flat asns_of (old_path front.now).rows) }
 {
-    if front.len() == 0 {
+    if front.is_empty() {
         return;
     }
-    paths::parse_as_path(front, AsnLength::Bits16, PathRule::Crate, pairs, numbers);
+    let _ = paths::parse_as_path(front, AsnLength::Bits16, PathRule::Crate, pairs, numbers);
 }
 
 // How many segments a split adds.
@@ -389,7 +353,7 @@ fn fill_built(
 )
     requires as_path_len_bound { length as_path.now ≤ list_limit }
     requires front { Front as_path.now front }
-    requires as4_path_value { (new_path as4_path.now).verdict ≡ 0 }
+    requires as4_path_value { (new_path as4_path.now).verdict ≡ fine }
     requires as4_path_in_bounds { length (flat pair_of (front_of as_path.now front ++ kept (new_path as4_path.now).rows)) ≤ length pairs.old }
     requires as4_path_in_bounds_2 { length (flat asns_of (front_of as_path.now front ++ kept (new_path as4_path.now).rows)) ≤ length numbers.old }
     ensures pairs { pairs.new ≡ laid pairs.old 0 (flat pair_of (front_of as_path.now front ++ kept (new_path as4_path.now).rows)) }
@@ -414,113 +378,49 @@ fn fill_built(
 fn stands_alone(ignores: bool, segments: usize, old: usize, new: usize) -> bool
     ensures { result ≡ alone ignores segments old new }
 {
-    if ignores {
-        return true;
-    }
-    if segments == 0 {
-        return true;
-    }
-    old < new
+    ignores || segments == 0 || old < new
 }
 
-// How many segments and numbers the path has, by a good AS_PATH that counts `old`.
-fn count_by(as_path: &[u8], as4_path: &[u8], ignores: bool, old: usize) -> PathAnswer
-    requires as_path_value { fault_of as_path.now (old_path as_path.now) ≡ 0 }
-    requires as_path_value_2 { route_len_of (old_path as_path.now).rows ≡ old }
-    ensures { result ≡ answer_of (both_of ignores as_path.now as4_path.now) }
+// What the path is built of. Where AS4_PATH is absent, AS_PATH is not judged here.
+#[inline(always)]
+fn plan_path(
+    as_path: &[u8],
+    as4_path: &[u8],
+    aggregator: &[u8],
+    as4_aggregator: &[u8],
+) -> Result<Plan, Refusal>
+    ensures { Planned (built_of as_path.now as4_path.now aggregator.now as4_aggregator.now) as_path.now as4_path.now result }
 {
-    match weigh(as4_path, AsnLength::Bits32) {
-        WeighAnswer::Weight {
-            route_len: new,
-            segments,
-            numbers,
-        } => {
-            if stands_alone(ignores, segments, old, new) {
-                return paths::count_as_path(as_path, AsnLength::Bits16, PathRule::Crate);
-            }
-            let front = leading_part(as_path, old - new);
-            PathAnswer::Path {
-                segments: front.segments + split_count(front.split) + segments,
-                numbers: front.numbers + front.split + numbers,
-            }
-        }
-        WeighAnswer::Refused(n) => PathAnswer::Refused(n),
+    sizes_fault(aggregator, as4_aggregator)?;
+    if as4_path.is_empty() {
+        return Ok(Plan::Alone);
     }
+    let ignores = ignores_as4_path(aggregator, as4_aggregator);
+    let old = weigh(as_path, AsnLength::Bits16)?;
+    let new = weigh(as4_path, AsnLength::Bits32)?;
+    if stands_alone(ignores, new.segments, old.route_len, new.route_len) {
+        return Ok(Plan::Alone);
+    }
+    let lead = leading_part(as_path, old.route_len - new.route_len);
+    let path = Path {
+        segments: lead.segments + split_count(lead.split) + new.segments,
+        numbers: lead.numbers + lead.split + new.numbers,
+    };
+    Ok(Plan::Built { lead, path })
 }
 
-// How many segments and numbers the path of an AS_PATH and an AS4_PATH has, with the AGGREGATORs beside them. It makes no plan: one function for both calls
-// would hand its answer over in memory, which takes a third of the time.
+// How many segments and numbers the path of an AS_PATH and an AS4_PATH has, with the AGGREGATORs beside them.
 pub fn count_merged_as_path(
     as_path: &[u8],
     as4_path: &[u8],
     aggregator: &[u8],
     as4_aggregator: &[u8],
-) -> PathAnswer
+) -> Result<Path, Refusal>
     ensures { result ≡ answer_of (built_of as_path.now as4_path.now aggregator.now as4_aggregator.now) }
 {
-    let fault = sizes_fault(aggregator, as4_aggregator);
-    if fault != 0 {
-        return PathAnswer::Refused(fault);
-    }
-    if as4_path.len() == 0 {
-        return paths::count_as_path(as_path, AsnLength::Bits16, PathRule::Crate);
-    }
-    let ignores = ignores_as4_path(aggregator, as4_aggregator);
-    match weigh(as_path, AsnLength::Bits16) {
-        WeighAnswer::Weight {
-            route_len: old,
-            segments: _,
-            numbers: _,
-        } => count_by(as_path, as4_path, ignores, old),
-        WeighAnswer::Refused(n) => PathAnswer::Refused(n),
-    }
-}
-
-// What the path is built of, by a good AS_PATH that counts `old`.
-fn plan_by(as_path: &[u8], as4_path: &[u8], ignores: bool, old: usize) -> Plan
-    requires as_path_value { fault_of as_path.now (old_path as_path.now) ≡ 0 }
-    requires as_path_value_2 { route_len_of (old_path as_path.now).rows ≡ old }
-    ensures { Planned (both_of ignores as_path.now as4_path.now) as_path.now as4_path.now result }
-{
-    match weigh(as4_path, AsnLength::Bits32) {
-        WeighAnswer::Weight {
-            route_len: new,
-            segments,
-            numbers,
-        } => {
-            if stands_alone(ignores, segments, old, new) {
-                return Plan::Alone;
-            }
-            let front = leading_part(as_path, old - new);
-            Plan::Built {
-                lead: front,
-                segments: front.segments + split_count(front.split) + segments,
-                numbers: front.numbers + front.split + numbers,
-            }
-        }
-        WeighAnswer::Refused(n) => Plan::Refused(n),
-    }
-}
-
-// What the path is built of. Where AS4_PATH is absent, AS_PATH is not judged here.
-fn plan_path(as_path: &[u8], as4_path: &[u8], aggregator: &[u8], as4_aggregator: &[u8]) -> Plan
-    ensures { Planned (built_of as_path.now as4_path.now aggregator.now as4_aggregator.now) as_path.now as4_path.now result }
-{
-    let fault = sizes_fault(aggregator, as4_aggregator);
-    if fault != 0 {
-        return Plan::Refused(fault);
-    }
-    if as4_path.len() == 0 {
-        return Plan::Alone;
-    }
-    let ignores = ignores_as4_path(aggregator, as4_aggregator);
-    match weigh(as_path, AsnLength::Bits16) {
-        WeighAnswer::Weight {
-            route_len: old,
-            segments: _,
-            numbers: _,
-        } => plan_by(as_path, as4_path, ignores, old),
-        WeighAnswer::Refused(n) => Plan::Refused(n),
+    match plan_path(as_path, as4_path, aggregator, as4_aggregator)? {
+        Plan::Alone => paths::count_as_path(as_path, AsnLength::Bits16, PathRule::Crate),
+        Plan::Built { lead: _, path } => Ok(path),
     }
 }
 
@@ -532,32 +432,21 @@ pub fn merge_as_path(
     as4_aggregator: &[u8],
     pairs: &mut [u32],
     numbers: &mut [u32],
-) -> PathAnswer
+) -> Result<Path, Refusal>
     ensures answer { result ≡ merge_answer (built_of as_path.now as4_path.now aggregator.now as4_aggregator.now) (length pairs.old) (length numbers.old) }
     ensures pairs { pairs.new ≡ merged_pairs (built_of as_path.now as4_path.now aggregator.now as4_aggregator.now) pairs.old (length numbers.old) }
     ensures numbers { numbers.new ≡ merged_numbers (built_of as_path.now as4_path.now aggregator.now as4_aggregator.now) (length pairs.old) numbers.old }
 {
-    match plan_path(as_path, as4_path, aggregator, as4_aggregator) {
+    match plan_path(as_path, as4_path, aggregator, as4_aggregator)? {
         Plan::Alone => {
             paths::parse_as_path(as_path, AsnLength::Bits16, PathRule::Crate, pairs, numbers)
         }
-        Plan::Built {
-            lead,
-            segments,
-            numbers: n,
-        } => {
-            if pairs.len() / 2 < segments {
-                return PathAnswer::Refused(refusal::NO_ROOM);
-            }
-            if numbers.len() < n {
-                return PathAnswer::Refused(refusal::NO_ROOM);
+        Plan::Built { lead, path } => {
+            if pairs.len() / 2 < path.segments || numbers.len() < path.numbers {
+                return Err(Refusal::NoRoom);
             }
             fill_built(as_path, as4_path, lead, pairs, numbers);
-            PathAnswer::Path {
-                segments,
-                numbers: n,
-            }
+            Ok(path)
         }
-        Plan::Refused(n) => PathAnswer::Refused(n),
     }
 }

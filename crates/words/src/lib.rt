@@ -64,5 +64,8 @@ pub fn settings_of(mode: AddPath) -> u8
 pub fn word(a: u16, b: u16, c: u16, refusal: u8) -> u64
     ensures { result ≡ word_of (fields a b c refusal) }
 {
-    a as u64 + 65536 * (b as u64) + 4294967296 * (c as u64) + 281474976710656 * (refusal as u64)
+    u64::from(a)
+        + 65536 * u64::from(b)
+        + 4294967296 * u64::from(c)
+        + 281474976710656 * u64::from(refusal)
 }
