@@ -6,8 +6,7 @@ use Rattle.wire.specs.Cutting.{Each, joined}
 use Rattle.wire.specs.Number.{be}
 use Rattle.wire.specs.Walk.{tally}
 use Rattle.attributes.specs.Attribute.{mp_reach_nlri, mp_unreach_nlri, length_size, head_size}
-use Rattle.attributes.specs.declared.AttributeAnswer.{AttributeAnswer}
-use Rattle.attributes.specs.declared.AttributeAnswer.TheVariants as A
+use Rattle.attributes.specs.declared.Attribute.{Attribute}
 
 -- flags, a type, a length of as many bytes as the flags say, and as many bytes of value as the length says
 pub record WellFormed (item : List ℕ) : Type 0 where
@@ -27,10 +26,16 @@ abbrev pub value_of : List ℕ → List ℕ
 value_of item = drop (head_size (get_or item 0 0)) item
 
 -- what is told of an item that stands at a place, and of items one after another from a place on
-unfoldable pub item_at : ℕ → List ℕ → AttributeAnswer
-item_at place item = A.Attribute (get_or item 0 0) (kind_of item) (place + head_size (get_or item 0 0)) (length (value_of item)) (place + length item)
+unfoldable pub item_at : ℕ → List ℕ → Attribute
+item_at place item = record {
+  flags = get_or item 0 0;
+  kind = kind_of item;
+  start = place + head_size (get_or item 0 0);
+  length = length (value_of item);
+  next = place + length item;
+}
 
-unfoldable pub items_from : ℕ → List (List ℕ) → List AttributeAnswer
+unfoldable pub items_from : ℕ → List (List ℕ) → List Attribute
 items_from place [] = []
 items_from place (item ∷ items) = item_at place item ∷ items_from (place + length item) items
 

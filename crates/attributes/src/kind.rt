@@ -1,5 +1,5 @@
 // Attribute types (RFC 4271 section 5, RFC 6793 section 3, RFC 4760 sections 3 and 4), by name, of those that this library reads:
-// specs/Attribute.antt has the same for definitions.
+// specs/Attribute.antt has the same for definitions. Numbers and no enum: any byte is a type, and a search takes each.
 
 pub const AS_PATH: u8 = 2;
 
