@@ -1,43 +1,51 @@
 -- What the call on two sections answers and leaves: both, or neither store is touched.
-use Rattle.std.specs.Prelude.{ℕ, List, [], ◌∷◌}
-use Rattle.wire.specs.Answer.{Answer, given, refusal, filled}
+use Rattle.std.specs.Prelude.{ℕ, List, [], ◌∷◌, Bool, Result, Ok, Err}
+use Rattle.wire.specs.Answer.{Answer, refusal, meaning_of, filled}
 use Rattle.wire.specs.Choice.{pick}
-use Rattle.wire.specs.Refusal.{no_room}
+use Rattle.wire.specs.Refusal.{number_of}
 use Rattle.wire.specs.Walk.{Reading, flat}
+use Rattle.wire.specs.declared.refusal.Refusal.{Refusal}
+use Rattle.wire.specs.declared.refusal.Refusal.TheVariants.{NoRoom}
 use Rattle.routes.specs.Prefix.{words}
 use Rattle.routes.specs.List.{up_to}
-use Rattle.routes.specs.Promises.{list_meaning, rows_in, hosts_in, verdict_in, count_section, has_room}
+use Rattle.routes.specs.Promises.{rows_in, hosts_in, verdict_in, count_section, has_room}
 use Rattle.families.specs.declared.AddPath.{AddPath}
 use Rattle.routes.specs.declared.Row.{Row}
-use Rattle.routes.specs.declared.RoutesAnswer.{RoutesAnswer}
-use Rattle.route_reader.specs.declared.PairAnswer.{PairAnswer}
-use Rattle.route_reader.specs.declared.PairAnswer.TheVariants.{Sections, Refused}
+use Rattle.routes.specs.declared.Routes.{Routes}
+use Rattle.route_reader.specs.declared.Sections.{Sections}
 
 -- as documents 01 and 02 have it: the rows and the verdict of each section, and then the rows of each that have a host bit; a good section's verdict is 0,
 -- and a malformed one has no rows
-abbrev pub sections_meaning : PairAnswer → Answer
-sections_meaning (Sections a b) = given (rows_in a ∷ verdict_in a ∷ rows_in b ∷ verdict_in b ∷ hosts_in a ∷ hosts_in b ∷ [])
-sections_meaning (Refused n) = refusal n
+abbrev pub sections_meaning : Result Sections Refusal → Answer
+sections_meaning =
+    meaning_of (λ p. rows_in p.first ∷ verdict_in p.first ∷ rows_in p.second ∷ verdict_in p.second ∷ hosts_in p.first ∷ hosts_in p.second ∷ [])
 
--- each section by itself, and how many rows it has
-abbrev pub first_meaning : PairAnswer → Answer
-first_meaning (Sections a b) = list_meaning a.list
-first_meaning (Refused n) = refusal n
+-- a section by itself, and how many rows it has
+abbrev pub section_meaning : Result Routes Refusal → Answer
+section_meaning = meaning_of (λ r. r.rows ∷ [])
 
-abbrev pub second_meaning : PairAnswer → Answer
-second_meaning (Sections a b) = list_meaning b.list
-second_meaning (Refused n) = refusal n
+abbrev pub first_meaning : Result Sections Refusal → Answer
+first_meaning (Ok p) = section_meaning p.first
+first_meaning (Err r) = refusal (number_of r)
+
+abbrev pub second_meaning : Result Sections Refusal → Answer
+second_meaning (Ok p) = section_meaning p.second
+second_meaning (Err r) = refusal (number_of r)
+
+-- a store of so many places has room for a section that was counted; one that is refused has no rows, and needs none
+abbrev pub room_for : Result Routes Refusal → ℕ → Bool
+room_for a places = has_room (Ok (rows_in a)) places
 
 -- each section as counted, where each good one has room
-unfoldable pub read_pair_by : RoutesAnswer → RoutesAnswer → ℕ → ℕ → PairAnswer
-read_pair_by a b places places' = pick (has_room a.list places) (pick (has_room b.list places') (Sections a b) (Refused no_room)) (Refused no_room)
+unfoldable pub read_pair_by : Result Routes Refusal → Result Routes Refusal → ℕ → ℕ → Result Sections Refusal
+read_pair_by a b places places' = pick (room_for a places) (pick (room_for b places') (Ok (record { first = a; second = b })) (Err NoRoom)) (Err NoRoom)
 
-unfoldable pub read_pair : List ℕ → List ℕ → ℕ → AddPath → ℕ → ℕ → PairAnswer
+unfoldable pub read_pair : List ℕ → List ℕ → ℕ → AddPath → ℕ → ℕ → Result Sections Refusal
 read_pair s t max mode places places' = read_pair_by (count_section (up_to max) s mode) (count_section (up_to max) t mode) places places'
 
 -- the stores afterwards, by the answer
-abbrev pub read_pair_first : PairAnswer → Reading Row → List ℕ → List ℕ
+abbrev pub read_pair_first : Result Sections Refusal → Reading Row → List ℕ → List ℕ
 read_pair_first a r store = filled (first_meaning a) (flat words r.rows) store
 
-abbrev pub read_pair_second : PairAnswer → Reading Row → List ℕ → List ℕ
+abbrev pub read_pair_second : Result Sections Refusal → Reading Row → List ℕ → List ℕ
 read_pair_second a r store = filled (second_meaning a) (flat words r.rows) store

@@ -1,6 +1,7 @@
 -- What private functions ask of each other and put: the words of a row, in the two parts in which a reader puts them; no promise rests on it.
 use Rattle.std.specs.Prelude.{ℕ, ◌+◌, ◌≤◌, ◌≡◌, List, [], ◌∷◌, ◌++◌, length, get_or, replicate}
 use Rattle.wire.specs.Number.{be_at}
+use Rattle.wire.specs.Verdict.{fine}
 use Rattle.wire.specs.Walk.{Reading, flat}
 use Rattle.families.specs.Family.{id_size, mark_of}
 use Rattle.families.specs.declared.Form.{Form}
@@ -26,5 +27,5 @@ masks = replicate 16 255 ++ replicate 16 0
 
 -- a good reading whose rows fit a store: what filling asks
 pub record Fitting (r : Reading Row) (store : List ℕ) : Type 0 where
-  pub good : r.verdict ≡ 0
+  pub good : r.verdict ≡ fine
   pub room : length (flat words r.rows) ≤ length store

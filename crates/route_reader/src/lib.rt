@@ -14,13 +14,13 @@ ghost use Rattle.families.specs.declared.AddPath.TheVariants.{Guess};
 ghost use Rattle.routes.specs.Prefix.{words};
 ghost use Rattle.routes.specs.ByTable.{by_table};
 ghost use Rattle.routes.specs.List.{up_to, fixed, step_by, list_of, section_of};
-ghost use Rattle.routes.specs.Promises.{sized, list_meaning, count_answer, has_room, read_list, read_section, store_after};
+ghost use Rattle.routes.specs.Promises.{sized, count_section, read_list, read_section, store_after};
 ghost use Rattle.route_reader.specs.Private.{head_words, address_words, masks, Octets, Fitting};
-ghost use Rattle.route_reader.specs.Pair.{read_pair, read_pair_first, read_pair_second};
+ghost use Rattle.route_reader.specs.Pair.{section_meaning, room_for, read_pair, read_pair_first, read_pair_second};
 
 use families::{AddPath, Afi, Form, octets};
-use routes::{ListAnswer, RoutesAnswer, StepAnswer};
-use wire::refusal;
+use routes::{Item, Routes};
+use wire::refusal::Refusal;
 
 // The octets of the longest address of a family.
 const SHORT: usize = 4;
@@ -62,7 +62,7 @@ fn put_head(store: &mut [u32], to: usize, s: &[u8], form: Form, mark: u32)
     ensures { store.new ≡ laid store.old to (head_words mark form s.now) }
 {
     let k = families::id_size(form);
-    store[to] = wire::wide(s[k]) + families::mark_of(form) + mark;
+    store[to] = u32::from(s[k]) + families::mark_of(form) + mark;
     store[to + 1] = id_of(s, form);
 }
 
@@ -219,7 +219,7 @@ fn fill_long(s: &[u8], form: Form, counts: &[u8; 256], store: &mut [u32])
 }
 
 // The item at place n, by the guess.
-fn guess_step(s: &[u8], n: usize, counts: &[u8; 256], form: Form) -> StepAnswer
+fn guess_step(s: &[u8], n: usize, counts: &[u8; 256], form: Form) -> Result<Item, Refusal>
     ensures { result ≡ sized (step_by (by_table counts.now) Guess form (drop n s.now)) }
 {
     routes::item_step(s, n, counts, AddPath::Guess, form)
@@ -236,27 +236,23 @@ fn guess_short(s: &[u8], counts: &[u8; 256], store: &mut [u32])
     let mut to: usize = 0;
     let mut form = Form::Plain;
     while n < rest.len() {
-        match guess_step(rest, n, counts, form) {
-            StepAnswer::Item { used, form: next } => {
-                put_head(store, to, &rest[n..], next, families::guess_mark(next));
-                match next {
-                    Form::Plain => {
-                        rest = &rest[n + 1..];
-                        n = used - 1;
-                    }
-                    Form::Tagged => {
-                        rest = &rest[n + 5..];
-                        n = used - 5;
-                    }
-                }
-                put_short(store, to + 2, rest, n);
-                to = to + 6;
-                form = next;
+        let Ok(item) = guess_step(rest, n, counts, form) else {
+            return;
+        };
+        form = item.form;
+        put_head(store, to, &rest[n..], form, families::guess_mark(form));
+        match form {
+            Form::Plain => {
+                rest = &rest[n + 1..];
+                n = item.used - 1;
             }
-            StepAnswer::Refused(_) => {
-                return;
+            Form::Tagged => {
+                rest = &rest[n + 5..];
+                n = item.used - 5;
             }
         }
+        put_short(store, to + 2, rest, n);
+        to = to + 6;
     }
 }
 
@@ -272,27 +268,23 @@ fn guess_long(s: &[u8], counts: &[u8; 256], store: &mut [u32])
     let mut to: usize = 0;
     let mut form = Form::Plain;
     while n < rest.len() {
-        match guess_step(rest, n, counts, form) {
-            StepAnswer::Item { used, form: next } => {
-                put_head(store, to, &rest[n..], next, families::guess_mark(next));
-                match next {
-                    Form::Plain => {
-                        rest = &rest[n + 1..];
-                        n = used - 1;
-                    }
-                    Form::Tagged => {
-                        rest = &rest[n + 5..];
-                        n = used - 5;
-                    }
-                }
-                put_long(store, to + 2, rest, n, &table);
-                to = to + 6;
-                form = next;
+        let Ok(item) = guess_step(rest, n, counts, form) else {
+            return;
+        };
+        form = item.form;
+        put_head(store, to, &rest[n..], form, families::guess_mark(form));
+        match form {
+            Form::Plain => {
+                rest = &rest[n + 1..];
+                n = item.used - 1;
             }
-            StepAnswer::Refused(_) => {
-                return;
+            Form::Tagged => {
+                rest = &rest[n + 5..];
+                n = item.used - 5;
             }
         }
+        put_long(store, to + 2, rest, n, &table);
+        to = to + 6;
     }
 }
 
@@ -343,67 +335,55 @@ fn fill_rows(s: &[u8], afi: Afi, mode: AddPath, counts: &[u8; 256], store: &mut 
     fill_form(whole, afi, form, counts, store)
 }
 
-// A refusal, which has no rows.
-fn refused(n: u8) -> RoutesAnswer
-    ensures { result ≡ record { list = ListAnswer.Refused n; hosts = 0 } }
-{
-    RoutesAnswer {
-        list: ListAnswer::Refused(n),
-        hosts: 0,
-    }
-}
-
 // A list into a lent store, six words a row. Copied into its callers, whose calls from C so take a frame of the stack less (DOORBRAMBLE_STACK_LIMIT).
 #[inline(always)]
-pub fn parse_nlri_list(s: &[u8], afi: Afi, mode: AddPath, store: &mut [u32]) -> RoutesAnswer
+pub fn parse_nlri_list(
+    s: &[u8],
+    afi: Afi,
+    mode: AddPath,
+    store: &mut [u32],
+) -> Result<Routes, Refusal>
     ensures answer { result ≡ read_list (up_to (max_of afi)) s.now mode (length store.old) }
     ensures store { store.new ≡ store_after s.now (list_of s.now (max_of afi) mode) store.old }
 {
     let mut counts = [0u8; 256];
     octets::put_counts(afi, &mut counts);
-    let found = routes::counted(routes::count_list_by(s, &counts, mode));
-    let list = found.list;
-    match list {
-        ListAnswer::Rows(n) => {
-            if store.len() / 6 < n {
-                return refused(refusal::NO_ROOM);
-            }
-            fill_rows(s, afi, mode, &counts, store);
-            found
-        }
-        ListAnswer::Refused(_) => found,
+    let found = routes::count_list_by(s, &counts, mode)?;
+    if store.len() / 6 < found.rows {
+        return Err(Refusal::NoRoom);
     }
+    fill_rows(s, afi, mode, &counts, store);
+    Ok(found)
 }
 
 // A section of an UPDATE into a lent store, six words a row.
-pub fn read_nlri(s: &[u8], afi: Afi, mode: AddPath, store: &mut [u32]) -> RoutesAnswer
+pub fn read_nlri(
+    s: &[u8],
+    afi: Afi,
+    mode: AddPath,
+    store: &mut [u32],
+) -> Result<Routes, Refusal>
     ensures answer { result ≡ read_section (up_to (max_of afi)) s.now mode (length store.old) }
     ensures store { store.new ≡ store_after s.now (section_of s.now (max_of afi) mode) store.old }
 {
     if routes::is_strange(s) {
-        return refused(refusal::ONE_BYTE_SECTION);
+        return Err(Refusal::OneByteSection);
     }
     parse_nlri_list(s, afi, mode, store)
 }
 
-// Two sections, each with its rows or its own refusal number; or a refusal of both.
-#[derive(Clone, Copy)]
-pub enum PairAnswer {
-    Sections {
-        first: RoutesAnswer,
-        second: RoutesAnswer,
-    },
-    Refused(u8),
+// Two sections, each with its rows or why it is refused.
+#[derive(Clone, Copy, Debug, PartialEq, Eq, Hash)]
+pub struct Sections {
+    pub first: Result<Routes, Refusal>,
+    pub second: Result<Routes, Refusal>,
 }
 
-// Whether a store of so many places has room for what was counted.
-fn has_room(counted: ListAnswer, places: usize) -> bool
-    ensures { result ≡ has_room counted places }
+// Whether a store of so many places has room for the rows of a section that was counted.
+fn room_for(counted: Result<Routes, Refusal>, places: usize) -> bool
+    ensures { result ≡ room_for counted places }
 {
-    match counted {
-        ListAnswer::Rows(n) => n <= places / 6,
-        ListAnswer::Refused(_) => true,
-    }
+    routes::rows_in(counted) <= places / 6
 }
 
 // The rows of a section that was counted, into a store that has room; nothing of one that was refused.
@@ -412,19 +392,16 @@ fn fill_counted(
     afi: Afi,
     mode: AddPath,
     counts: &[u8; 256],
-    counted: ListAnswer,
+    counted: Result<Routes, Refusal>,
     store: &mut [u32],
 )
     requires counts_value { counts.now ≡ table_of (max_of afi) }
-    requires counted_value { counted ≡ count_answer s.now (section_of s.now (max_of afi) mode) }
-    requires store_value { has_room counted (length store.old) ≡ true }
-    ensures { store.new ≡ filled (list_meaning counted) (flat words (section_of s.now (max_of afi) mode).rows) store.old }
+    requires counted_value { counted ≡ count_section (up_to (max_of afi)) s.now mode }
+    requires store_value { room_for counted (length store.old) ≡ true }
+    ensures { store.new ≡ filled (section_meaning counted) (flat words (section_of s.now (max_of afi) mode).rows) store.old }
 {
-    match counted {
-        ListAnswer::Rows(_) => {
-            fill_rows(s, afi, mode, counts, store);
-        }
-        ListAnswer::Refused(_) => {}
+    if counted.is_ok() {
+        fill_rows(s, afi, mode, counts, store);
     }
 }
 
@@ -436,27 +413,22 @@ pub fn read_nlri_pair(
     mode: AddPath,
     first: &mut [u32],
     second: &mut [u32],
-) -> PairAnswer
+) -> Result<Sections, Refusal>
     ensures answer { result ≡ read_pair s.now t.now (max_of afi) mode (length first.old) (length second.old) }
     ensures first { first.new ≡ read_pair_first result (section_of s.now (max_of afi) mode) first.old }
     ensures second { second.new ≡ read_pair_second result (section_of t.now (max_of afi) mode) second.old }
 {
     let mut counts = [0u8; 256];
     octets::put_counts(afi, &mut counts);
-    let a = routes::counted(routes::count_section_by(s, &counts, mode));
-    let b = routes::counted(routes::count_section_by(t, &counts, mode));
-    let one = a.list;
-    let two = b.list;
-    if !has_room(one, first.len()) {
-        return PairAnswer::Refused(refusal::NO_ROOM);
-    }
-    if !has_room(two, second.len()) {
-        return PairAnswer::Refused(refusal::NO_ROOM);
+    let one = routes::count_section_by(s, &counts, mode);
+    let two = routes::count_section_by(t, &counts, mode);
+    if !room_for(one, first.len()) || !room_for(two, second.len()) {
+        return Err(Refusal::NoRoom);
     }
     fill_counted(s, afi, mode, &counts, one, first);
     fill_counted(t, afi, mode, &counts, two, second);
-    PairAnswer::Sections {
-        first: a,
-        second: b,
-    }
+    Ok(Sections {
+        first: one,
+        second: two,
+    })
 }

@@ -1,18 +1,18 @@
 -- The sections of an UPDATE body. RFC 4271 section 4.3: a two-octet length and the withdrawn routes, a two-octet length and the path
 -- attributes; the rest are the announced routes.
-use Rattle.std.specs.Prelude.{ℕ, ◌+◌, ◌-◌, List, [], ◌∷◌, length, ltb}
-use Rattle.wire.specs.Answer.{Answer, given, refusal, value_in, handed}
+use Rattle.std.specs.Prelude.{ℕ, ◌+◌, ◌-◌, List, [], ◌∷◌, length, ltb, Result, Ok, Err}
+use Rattle.wire.specs.Answer.{Answer, meaning_of, value_in, handed}
 use Rattle.wire.specs.Choice.{pick}
 use Rattle.wire.specs.Extent.{Extent, extent, within}
 use Rattle.wire.specs.Number.{be_at}
-use Rattle.wire.specs.Refusal.{too_long, truncated, body_limit}
-use Rattle.updates.specs.declared.PartsAnswer.{PartsAnswer}
-use Rattle.updates.specs.declared.PartsAnswer.TheVariants.{Parts, Refused}
+use Rattle.wire.specs.Refusal.{body_limit}
+use Rattle.wire.specs.declared.refusal.Refusal.{Refusal}
+use Rattle.wire.specs.declared.refusal.Refusal.TheVariants.{TooLong, Truncated}
+use Rattle.updates.specs.declared.Parts.{Parts}
 
 -- the sections as document 01 has them: the lengths of the withdrawn, the attribute and the announced one
-abbrev pub parts_meaning : PartsAnswer → Answer
-parts_meaning (Parts withdrawn attributes announced) = given (withdrawn ∷ attributes ∷ announced ∷ [])
-parts_meaning (Refused n) = refusal n
+abbrev pub parts_meaning : Result Parts Refusal → Answer
+parts_meaning = meaning_of (λ p. p.withdrawn ∷ p.attributes ∷ p.announced ∷ [])
 
 -- the octets of a length
 abbrev pub length_size : ℕ
@@ -33,24 +33,24 @@ abbrev pub attributes_end : List ℕ → ℕ
 attributes_end b = withdrawn_end b + length_size + attributes_size b
 
 -- 1 first; then each length and each section is all there
-unfoldable pub parts_of : List ℕ → PartsAnswer
+unfoldable pub parts_of : List ℕ → Result Parts Refusal
 parts_of b =
-    pick (ltb body_limit (length b)) (Refused too_long)
-    (pick (ltb (length b) length_size) (Refused truncated)
-    (pick (ltb (length b) (withdrawn_end b)) (Refused truncated)
-    (pick (ltb (length b) (withdrawn_end b + length_size)) (Refused truncated)
-    (pick (ltb (length b) (attributes_end b)) (Refused truncated)
-    (Parts (withdrawn_size b) (attributes_size b) (length b - attributes_end b))))))
+    pick (ltb body_limit (length b)) (Err TooLong)
+    (pick (ltb (length b) length_size) (Err Truncated)
+    (pick (ltb (length b) (withdrawn_end b)) (Err Truncated)
+    (pick (ltb (length b) (withdrawn_end b + length_size)) (Err Truncated)
+    (pick (ltb (length b) (attributes_end b)) (Err Truncated)
+    (Ok (record { withdrawn = withdrawn_size b; attributes = attributes_size b; announced = length b - attributes_end b }))))))
 
 -- ---- the sections as parts of the body, and nothing where it is refused
 
-abbrev pub withdrawn_at : PartsAnswer → Extent
+abbrev pub withdrawn_at : Result Parts Refusal → Extent
 withdrawn_at p = handed (parts_meaning p) (extent length_size (value_in 0 (parts_meaning p)))
 
-abbrev pub attributes_at : PartsAnswer → Extent
+abbrev pub attributes_at : Result Parts Refusal → Extent
 attributes_at p = handed (parts_meaning p) (extent (length_size + value_in 0 (parts_meaning p) + length_size) (value_in 1 (parts_meaning p)))
 
-abbrev pub announced_at : PartsAnswer → Extent
+abbrev pub announced_at : Result Parts Refusal → Extent
 announced_at p =
     handed (parts_meaning p) (extent (length_size + value_in 0 (parts_meaning p) + length_size + value_in 1 (parts_meaning p)) (value_in 2 (parts_meaning p)))
 
