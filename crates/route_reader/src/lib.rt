@@ -357,12 +357,7 @@ pub fn parse_nlri_list(
 }
 
 // A section of an UPDATE into a lent store, six words a row.
-pub fn read_nlri(
-    s: &[u8],
-    afi: Afi,
-    mode: AddPath,
-    store: &mut [u32],
-) -> Result<Routes, Refusal>
+pub fn read_nlri(s: &[u8], afi: Afi, mode: AddPath, store: &mut [u32]) -> Result<Routes, Refusal>
     ensures answer { result ≡ read_section (up_to (max_of afi)) s.now mode (length store.old) }
     ensures store { store.new ≡ store_after s.now (section_of s.now (max_of afi) mode) store.old }
 {
