@@ -6,8 +6,7 @@ ghost use Rattle.route_marks.specs.Marks.{unmarked};
 ghost use Rattle.route_marks.specs.Promises.{clear_answer, clear_after};
 
 use families::GUESSED;
-use routes::ListAnswer;
-use wire::refusal;
+use wire::refusal::Refusal;
 
 // A row's first word with that one bit off, whatever else it holds.
 fn without_mark(first: u32) -> u32
@@ -17,17 +16,17 @@ fn without_mark(first: u32) -> u32
 }
 
 // Takes the mark off every row of a store, and says how many rows it has.
-pub fn clear_guessed(store: &mut [u32]) -> ListAnswer
+pub fn clear_guessed(store: &mut [u32]) -> Result<usize, Refusal>
     ensures answer { result ≡ clear_answer (length store.old) }
     ensures store { store.new ≡ clear_after store.old }
 {
     if store.len() % 6 != 0 {
-        return ListAnswer::Refused(refusal::NOT_WRITABLE);
+        return Err(Refusal::NotWritable);
     }
     let mut at: usize = 0;
     while at < store.len() {
         store[at] = without_mark(store[at]);
         at = at + 6;
     }
-    ListAnswer::Rows(store.len() / 6)
+    Ok(store.len() / 6)
 }
