@@ -2,21 +2,20 @@
 #![tactic(auto)]
 
 ghost use Rattle.std.specs.Prelude.{◌≡◌, false, ◌+◌, ◌≤◌, ◌<◌, length, get_or, take, drop};
-ghost use Rattle.wire.specs.Answer.{flag};
 ghost use Rattle.wire.specs.Number.{be_at};
 ghost use Rattle.wire.specs.Refusal.{list_limit};
 ghost use Rattle.families.specs.Family.{max_of, id_size};
 ghost use Rattle.routes.specs.Prefix.{item_row, host_bits, route_of};
 ghost use Rattle.routes.specs.ByTable.{by_table};
-ghost use Rattle.routes.specs.Private.{Bounded, size_of, kept, past_length, past_masks};
+ghost use Rattle.routes.specs.Private.{Bounded, size_of, past_length, past_masks};
 ghost use Rattle.routes.specs.List.{up_to, plain_here, fixed, step_by, strange};
-ghost use Rattle.routes.specs.Promises.{sized, count_list, count_section, rows_in, hosts_in, verdict_in, in_one};
+ghost use Rattle.routes.specs.Promises.{sized, count_list, count_section, rows_in, hosts_in, verdict_in};
 
 use families::{AddPath, Afi, Form, octets};
-use wire::refusal;
+use wire::refusal::Refusal;
 
 // A route as six words: length, plus 256 where there is an id; id or 0; four address words.
-#[derive(Clone, Copy)]
+#[derive(Clone, Copy, Debug, PartialEq, Eq, Hash)]
 pub struct Row {
     pub first: u32,
     pub id: u32,
@@ -26,75 +25,58 @@ pub struct Row {
     pub w3: u32,
 }
 
-// One route: the bytes it takes and its row, or a refusal number.
-#[derive(Clone, Copy)]
-pub enum PrefixAnswer {
-    Prefix { used: usize, row: Row },
-    Refused(u8),
+// One route: the bytes it takes and its row.
+#[derive(Clone, Copy, Debug, PartialEq, Eq, Hash)]
+pub struct Prefix {
+    pub used: usize,
+    pub row: Row,
 }
 
 // The same, and whether a bit past its length is set.
-#[derive(Clone, Copy)]
-pub struct RouteAnswer {
-    pub prefix: PrefixAnswer,
+#[derive(Clone, Copy, Debug, PartialEq, Eq, Hash)]
+pub struct Route {
+    pub prefix: Prefix,
     pub host: bool,
 }
 
-// A list: its rows, or a refusal number.
-#[derive(Clone, Copy)]
-pub enum ListAnswer {
-    Rows(usize),
-    Refused(u8),
+// A step of a list: the bytes its item takes and the form it stands in.
+#[derive(Clone, Copy, Debug, PartialEq, Eq, Hash)]
+pub struct Item {
+    pub used: usize,
+    pub form: Form,
 }
 
-// The same, and how many of the rows have a bit set past their length: 0 where it is refused.
-#[derive(Clone, Copy)]
-pub struct RoutesAnswer {
-    pub list: ListAnswer,
+// A list: how many rows, and how many of them have a bit set past their length.
+#[derive(Clone, Copy, Debug, PartialEq, Eq, Hash)]
+pub struct Routes {
+    pub rows: usize,
     pub hosts: usize,
 }
 
-// What a row with such a bit adds to a count in one number, beside the 1 that each row adds.
-pub const HOST_UNIT: usize = 65536;
-
-// How many bytes an item takes, or why it is refused.
-#[derive(Clone, Copy)]
-enum SizeAnswer {
-    Size(usize),
-    Refused(u8),
-}
-
-// A step of a list: the bytes its item takes and the form it stands in, or why it is refused.
-#[derive(Clone, Copy)]
-pub enum StepAnswer {
-    Item { used: usize, form: Form },
-    Refused(u8),
-}
-
 // How many bytes the item at the front takes, whose length byte is `bits`. Here and below, `counts` says how many octets follow a length byte.
-fn size_by(s: &[u8], bits: u8, counts: &[u8; 256], form: Form) -> SizeAnswer
+fn size_by(s: &[u8], bits: u8, counts: &[u8; 256], form: Form) -> Result<usize, Refusal>
     requires form_in_bounds { id_size form < length s.now }
     requires bits_value { bits ≡ get_or s.now (id_size form) 0 }
     ensures { result ≡ size_of (by_table counts.now s.now form) }
 {
     let n = octets::after(counts, bits);
     if n == octets::REFUSED {
-        return SizeAnswer::Refused(refusal::PREFIX_LENGTH);
+        return Err(Refusal::PrefixLength);
     }
-    let e = families::id_size(form) + 1 + n as usize;
+    let e = families::id_size(form) + 1 + usize::from(n);
     if s.len() < e {
-        return SizeAnswer::Refused(refusal::TRUNCATED);
+        return Err(Refusal::Truncated);
     }
-    SizeAnswer::Size(e)
+    Ok(e)
 }
 
 // How many bytes the item at the front takes.
-fn front_size(s: &[u8], counts: &[u8; 256], form: Form) -> SizeAnswer
+fn front_size(s: &[u8], counts: &[u8; 256], form: Form) -> Result<usize, Refusal>
     ensures { result ≡ size_of (by_table counts.now s.now form) }
 {
     let k = families::id_size(form);
     if s.len() <= k {
-        return SizeAnswer::Refused(refusal::TRUNCATED);
+        return Err(Refusal::Truncated);
     }
     size_by(s, s[k], counts, form)
 }
@@ -118,7 +100,7 @@ fn row_of(s: &[u8], e: usize, form: Form) -> Row
     let b = k + 1;
     let t = &s[b..e];
     Row {
-        first: wire::wide(s[k]) + families::mark_of(form),
+        first: u32::from(s[k]) + families::mark_of(form),
         id: id_of(s, form),
         w0: wire::u32_at(t, 0),
         w1: wire::u32_at(t, 4),
@@ -136,7 +118,7 @@ fn past_length(bits: u8, last: u8, past: &[u8; 8]) -> bool
     requires { past.now ≡ past_masks }
     ensures { result ≡ past_length bits last }
 {
-    last & past[(bits % 8) as usize] != 0
+    last & past[usize::from(bits % 8)] != 0
 }
 
 // Whether an item has one whose length byte stands first in `item`, and whose last byte at place n.
@@ -159,34 +141,18 @@ fn host_at(s: &[u8], n: usize, used: usize, form: Form, past: &[u8; 8]) -> bool
 }
 
 // One route, in a form: the bytes it takes and its row, and whether it has a bit set past its length.
-pub fn try_parse_prefix(s: &[u8], afi: Afi, form: Form) -> RouteAnswer
+pub fn try_parse_prefix(s: &[u8], afi: Afi, form: Form) -> Result<Route, Refusal>
     ensures answer { result ≡ route_of s.now (max_of afi) form }
 {
     let counts = octets::counts(afi);
     let past = PAST;
-    match front_size(s, &counts, form) {
-        SizeAnswer::Size(used) => RouteAnswer {
-            prefix: PrefixAnswer::Prefix {
-                used,
-                row: row_of(s, used, form),
-            },
-            host: host_at(s, 0, used, form, &past),
-        },
-        SizeAnswer::Refused(n) => RouteAnswer {
-            prefix: PrefixAnswer::Refused(n),
-            host: false,
-        },
-    }
-}
-
-// An item's size, with the form it was read in.
-fn keep_size(a: SizeAnswer, form: Form) -> StepAnswer
-    ensures { result ≡ kept a form }
-{
-    match a {
-        SizeAnswer::Size(used) => StepAnswer::Item { used, form },
-        SizeAnswer::Refused(n) => StepAnswer::Refused(n),
-    }
+    let used = front_size(s, &counts, form)?;
+    let row = row_of(s, used, form);
+    let host = host_at(s, 0, used, form, &past);
+    Ok(Route {
+        prefix: Prefix { used, row },
+        host,
+    })
 }
 
 // Whether the guess reads the item at place n without an id: in Plain, at a byte other than 0.
@@ -212,40 +178,49 @@ fn byte_tried(s: &[u8], n: usize, form: Form) -> u8
     }
 }
 
+// A step in one form.
+pub fn form_size(s: &[u8], counts: &[u8; 256], form: Form) -> Result<Item, Refusal>
+    ensures { result ≡ sized (step_by (by_table counts.now) (fixed form) form s.now) }
+{
+    let used = front_size(s, counts, form)?;
+    Ok(Item { used, form })
+}
+
 // A step of the guess at place n: the item is tried with an id, and else the same place is read without. Each branch makes its own part of s, so that
 // the load of a first byte adds its place itself.
-fn guess_at(s: &[u8], n: usize, counts: &[u8; 256], form: Form) -> StepAnswer
+fn guess_at(s: &[u8], n: usize, counts: &[u8; 256], form: Form) -> Result<Item, Refusal>
     requires { n < length s.now }
     ensures { result ≡ sized (step_by (by_table counts.now) AddPath.Guess form (drop n s.now)) }
 {
     if plain_at(s, n, form) {
-        return keep_size(front_size(&s[n..], counts, Form::Plain), Form::Plain);
+        return form_size(&s[n..], counts, Form::Plain);
     }
-    match front_size(&s[n..], counts, Form::Tagged) {
-        SizeAnswer::Size(used) => StepAnswer::Item {
+    if let Ok(used) = front_size(&s[n..], counts, Form::Tagged) {
+        return Ok(Item {
             used,
             form: Form::Tagged,
-        },
-        SizeAnswer::Refused(_) => {
-            let bits = byte_tried(s, n, form);
-            keep_size(size_by(&s[n..], bits, counts, Form::Plain), Form::Plain)
-        }
+        });
     }
-}
-
-// A step in one form.
-pub fn form_size(s: &[u8], counts: &[u8; 256], form: Form) -> StepAnswer
-    ensures { result ≡ sized (step_by (by_table counts.now) (fixed form) form s.now) }
-{
-    keep_size(front_size(s, counts, form), form)
+    let bits = byte_tried(s, n, form);
+    let used = size_by(&s[n..], bits, counts, Form::Plain)?;
+    Ok(Item {
+        used,
+        form: Form::Plain,
+    })
 }
 
 // A step under a setting, at place n.
-pub fn item_step(s: &[u8], n: usize, counts: &[u8; 256], mode: AddPath, form: Form) -> StepAnswer
+pub fn item_step(
+    s: &[u8],
+    n: usize,
+    counts: &[u8; 256],
+    mode: AddPath,
+    form: Form,
+) -> Result<Item, Refusal>
     ensures { result ≡ sized (step_by (by_table counts.now) mode form (drop n s.now)) }
 {
     if s.len() <= n {
-        return StepAnswer::Refused(refusal::TRUNCATED);
+        return Err(Refusal::Truncated);
     }
     match mode {
         AddPath::On => form_size(&s[n..], counts, Form::Tagged),
@@ -254,103 +229,90 @@ pub fn item_step(s: &[u8], n: usize, counts: &[u8; 256], mode: AddPath, form: Fo
     }
 }
 
-// One for a row that has a bit set past its length.
-fn one_if(host: bool) -> usize
-    ensures { result ≡ flag host }
-{
-    if host {
-        return 1;
-    }
-    0
-}
-
-// How many rows a list has whose items all stand in one form, in one number. It carries an item that is not counted yet, from its length byte on, and how
-// many octets it has: where the next length byte stands too, the item is all there, and the next waits for nothing but the table.
-fn count_form(s: &[u8], counts: &[u8; 256], form: Form) -> usize
+// How many rows a list has whose items all stand in one form. It carries an item that is not counted yet, from its length byte on, and how many octets
+// it has: where the next length byte stands too, the item is all there, and the next waits for nothing but the table.
+#[inline(always)]
+fn count_form(s: &[u8], counts: &[u8; 256], form: Form) -> Result<Routes, Refusal>
     requires { length s.now ≤ list_limit }
-    ensures { in_one result ≡ count_list (by_table counts.now) s.now (fixed form) }
+    ensures { result ≡ count_list (by_table counts.now) s.now (fixed form) }
 {
     let k = families::id_size(form);
-    if s.len() == 0 {
-        return refusal::PAST_ALL;
+    if s.is_empty() {
+        return Ok(Routes { rows: 0, hosts: 0 });
     }
     if s.len() <= k {
-        return refusal::TRUNCATED as usize;
+        return Err(Refusal::Truncated);
     }
     let past = PAST;
     let mut item = &s[k..];
     let first = octets::after(counts, item[0]);
     if first == octets::REFUSED {
-        return refusal::PREFIX_LENGTH as usize;
+        return Err(Refusal::PrefixLength);
     }
-    let mut n = first as usize;
-    let mut count: usize = refusal::PAST_ALL;
+    let mut n = usize::from(first);
+    let mut rows: usize = 0;
     let mut hosts: usize = 0;
     while n + k + 1 < item.len() {
         let head = &item[k + 1..];
         let next = octets::after(counts, head[n]);
         if next == octets::REFUSED {
-            return refusal::PREFIX_LENGTH as usize;
+            return Err(Refusal::PrefixLength);
         }
-        hosts = hosts + one_if(host_of(item, n, &past));
-        count = count + 1;
+        hosts += usize::from(host_of(item, n, &past));
+        rows += 1;
         item = &item[n + k + 1..];
-        n = next as usize;
+        n = usize::from(next);
     }
     if item.len() != n + 1 {
-        return refusal::TRUNCATED as usize;
+        return Err(Refusal::Truncated);
     }
-    let last = one_if(host_of(item, n, &past));
-    count + 1 + HOST_UNIT * (hosts + last)
+    hosts += usize::from(host_of(item, n, &past));
+    rows += 1;
+    Ok(Routes { rows, hosts })
 }
 
-// How many rows a list has by the guess, in one number. It carries the bytes from the octets of the item before on and how many these are, for the same
-// reason.
-fn count_guess(s: &[u8], counts: &[u8; 256]) -> usize
+// How many rows a list has by the guess. It carries the bytes from the octets of the item before on and how many these are, for the same reason.
+#[inline(always)]
+fn count_guess(s: &[u8], counts: &[u8; 256]) -> Result<Routes, Refusal>
     requires { length s.now ≤ list_limit }
-    ensures { in_one result ≡ count_list (by_table counts.now) s.now AddPath.Guess }
+    ensures { result ≡ count_list (by_table counts.now) s.now AddPath.Guess }
 {
     let past = PAST;
     let mut rest = s;
     let mut n: usize = 0;
-    let mut count: usize = refusal::PAST_ALL;
+    let mut rows: usize = 0;
     let mut hosts: usize = 0;
     let mut form = Form::Plain;
     while n < rest.len() {
-        match guess_at(rest, n, counts, form) {
-            StepAnswer::Item { used, form: next } => {
-                // Each form takes its own bytes out again, so that the count from the table is carried as it is.
-                match next {
-                    Form::Plain => {
-                        hosts = hosts + one_if(host_at(rest, n, used, Form::Plain, &past));
-                        rest = &rest[n + 1..];
-                        n = used - 1;
-                    }
-                    Form::Tagged => {
-                        hosts = hosts + one_if(host_at(rest, n, used, Form::Tagged, &past));
-                        rest = &rest[n + 5..];
-                        n = used - 5;
-                    }
-                }
-                count = count + 1;
-                form = next;
+        let item = guess_at(rest, n, counts, form)?;
+        // Each form takes its own bytes out again, so that the count from the table is carried as it is.
+        match item.form {
+            Form::Plain => {
+                hosts += usize::from(host_at(rest, n, item.used, Form::Plain, &past));
+                rest = &rest[n + 1..];
+                n = item.used - 1;
             }
-            StepAnswer::Refused(why) => {
-                return why as usize;
+            Form::Tagged => {
+                hosts += usize::from(host_at(rest, n, item.used, Form::Tagged, &past));
+                rest = &rest[n + 5..];
+                n = item.used - 5;
             }
         }
+        rows += 1;
+        form = item.form;
     }
-    count + HOST_UNIT * hosts
+    Ok(Routes { rows, hosts })
 }
 
-// How many rows a list has by a table that the caller lends, with no store: in one number, which stays in a register. `counted` is the answer.
-pub fn count_list_by(s: &[u8], counts: &[u8; 256], mode: AddPath) -> usize
-    ensures answer { in_one result ≡ count_list (by_table counts.now) s.now mode }
+// How many rows a list has by a table that the caller lends, with no store.
+#[inline(always)]
+pub fn count_list_by(s: &[u8], counts: &[u8; 256], mode: AddPath) -> Result<Routes, Refusal>
+    ensures answer { result ≡ count_list (by_table counts.now) s.now mode }
 {
     // So that the slice is handed on in registers.
     let whole = &s[..];
     if wire::LIST_LIMIT < whole.len() {
-        return refusal::TOO_LONG as usize;
+        return Err(Refusal::TooLong);
     }
     match mode {
         AddPath::On => count_form(whole, counts, Form::Tagged),
@@ -359,30 +321,13 @@ pub fn count_list_by(s: &[u8], counts: &[u8; 256], mode: AddPath) -> usize
     }
 }
 
-// The answer that such a number stands for.
-pub fn counted(n: usize) -> RoutesAnswer
-    ensures answer { result ≡ in_one n }
-{
-    if n < refusal::PAST_ALL {
-        return RoutesAnswer {
-            list: ListAnswer::Refused(n as u8),
-            hosts: 0,
-        };
-    }
-    let v = n - refusal::PAST_ALL;
-    RoutesAnswer {
-        list: ListAnswer::Rows(v % HOST_UNIT),
-        hosts: v / HOST_UNIT,
-    }
-}
-
 // How many rows a list has, with no store.
-pub fn count_nlri_list(s: &[u8], afi: Afi, mode: AddPath) -> RoutesAnswer
+pub fn count_nlri_list(s: &[u8], afi: Afi, mode: AddPath) -> Result<Routes, Refusal>
     ensures answer { result ≡ count_list (up_to (max_of afi)) s.now mode }
 {
     let mut counts = [0u8; 256];
     octets::put_counts(afi, &mut counts);
-    counted(count_list_by(s, &counts, mode))
+    count_list_by(s, &counts, mode)
 }
 
 // Whether a section is one byte, and not 0.
@@ -396,52 +341,50 @@ pub fn is_strange(s: &[u8]) -> bool
 }
 
 // The rows of an answer, those with a bit set past their length, and its refusal number: 0 where there is none.
-pub fn rows_in(a: RoutesAnswer) -> usize
+pub fn rows_in(a: Result<Routes, Refusal>) -> usize
     ensures { result ≡ rows_in a }
 {
-    let list = a.list;
-    match list {
-        ListAnswer::Rows(n) => n,
-        ListAnswer::Refused(_) => 0,
+    match a {
+        Ok(routes) => routes.rows,
+        Err(_) => 0,
     }
 }
 
-pub fn hosts_in(a: RoutesAnswer) -> usize
+pub fn hosts_in(a: Result<Routes, Refusal>) -> usize
     ensures { result ≡ hosts_in a }
 {
-    let list = a.list;
-    match list {
-        ListAnswer::Rows(_) => a.hosts,
-        ListAnswer::Refused(_) => 0,
+    match a {
+        Ok(routes) => routes.hosts,
+        Err(_) => 0,
     }
 }
 
-pub fn verdict_in(a: RoutesAnswer) -> u8
+pub fn verdict_in(a: Result<Routes, Refusal>) -> u8
     ensures { result ≡ verdict_in a }
 {
-    let list = a.list;
-    match list {
-        ListAnswer::Rows(_) => 0,
-        ListAnswer::Refused(n) => n,
+    match a {
+        Ok(_) => 0,
+        Err(refusal) => u8::from(refusal),
     }
 }
 
 // How many rows a section of an UPDATE has by a table that the caller lends, as count_list_by.
-pub fn count_section_by(s: &[u8], counts: &[u8; 256], mode: AddPath) -> usize
-    ensures answer { in_one result ≡ count_section (by_table counts.now) s.now mode }
+#[inline(always)]
+pub fn count_section_by(s: &[u8], counts: &[u8; 256], mode: AddPath) -> Result<Routes, Refusal>
+    ensures answer { result ≡ count_section (by_table counts.now) s.now mode }
 {
     let whole = &s[..];
     if is_strange(whole) {
-        return refusal::ONE_BYTE_SECTION as usize;
+        return Err(Refusal::OneByteSection);
     }
     count_list_by(whole, counts, mode)
 }
 
 // How many rows a section of an UPDATE has, with no store.
-pub fn count_nlri(s: &[u8], afi: Afi, mode: AddPath) -> RoutesAnswer
+pub fn count_nlri(s: &[u8], afi: Afi, mode: AddPath) -> Result<Routes, Refusal>
     ensures answer { result ≡ count_section (up_to (max_of afi)) s.now mode }
 {
     let mut counts = [0u8; 256];
     octets::put_counts(afi, &mut counts);
-    counted(count_section_by(s, &counts, mode))
+    count_section_by(s, &counts, mode)
 }
