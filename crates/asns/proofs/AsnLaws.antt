@@ -3,18 +3,18 @@
 use Prim.Native.Nat.{ℕ, zero, suc, ◌+◌, ◌-◌, ◌*◌, ◌^◌, ◌≤◌, ◌<◌}
 use mathlib.Core.Path.{◌≡◌, sym, ap, ◌∙◌}
 use mathlib.Core.List.{List, ◌++◌}
-use mathlib.Core.Bool.{true, false}
+use mathlib.Core.Bool.{true}
 use native.Mathlib.Nat.{not-suc-le-zero, zero-mul, suc-mul}
 use native.Mathlib.Numerals.{sub-one}
 use native.Mathlib.Omega.{arith}
-use borrow.Author.Tests.{le-leb, lt-leb, leb-true, ltb-true}
+use borrow.Author.Tests.{leb-true}
 use lib.Dec.{leb}
 use lib.ListN.{length, length-append}
 use lib.Seq.{take_at, drop_at}
 use Rattle.wire.proofs.ChoiceLaws.{and_true}
 use Rattle.wire.specs.Number.{be, to_be, padded, be_at}
 use Rattle.wire.proofs.NumberLaws.{length_to_be, be_to_be, padded_take}
-use Rattle.wire.specs.Store.{laid, placed}
+use Rattle.wire.specs.Store.{laid}
 use Rattle.wire.proofs.StoreLaws.{placed_fits}
 use Rattle.asns.specs.Asn.{width_of, span, eight_for, fits_width, with_number}
 use Rattle.asns.specs.declared.AsnLength.{AsnLength}
@@ -54,15 +54,6 @@ pub width_most : (width : AsnLength) → width_of width ≤ 4
 width_most Bits16 = omega arith
 width_most Bits32 = omega arith
 
--- ---- numbers that fit
-
-pub fits_lt : (asn : ℕ) (width : AsnLength) → fits_width asn width ≡ true → asn < 256 ^ width_of width
-fits_lt asn width e = ltb-true asn (256 ^ width_of width) e
-
--- every number of 32 bits fits four bytes
-pub fits_four : (asn : ℕ) → asn < 2 ^ 32 → fits_width asn Bits32 ≡ true
-fits_four asn h = le-leb _ _ h
-
 -- ---- a number read again
 
 -- the number whose bytes stand after s, whatever follows them
@@ -76,18 +67,10 @@ number_back s at w v t e h =
 
 -- ---- a number put
 
-pub put_not : (out : List ℕ) (to asn : ℕ) (width : AsnLength) → fits_width asn width ≡ false → out ≡ with_number out to asn width
-unfolding with_number
-put_not out to asn width e = rw e
-
-pub put_fits : (out : List ℕ) (to asn : ℕ) (width : AsnLength) → fits_width asn width ≡ true → placed out to (to_be (width_of width) asn) ≡ with_number out to asn width
-unfolding with_number
-put_fits out to asn width e = rw e
-
 pub put_room : (out : List ℕ) (to asn : ℕ) (width : AsnLength) → fits_width asn width ≡ true → to + width_of width ≤ length out
     → with_number out to asn width ≡ laid out to (to_be (width_of width) asn)
-put_room out to asn width e h =
-    sym (put_fits out to asn width e) ∙ placed_fits out to (to_be (width_of width) asn) (omega (arith, length_to_be (width_of width) asn))
+unfolding with_number
+put_room out to asn width e h = rw e (placed_fits out to (to_be (width_of width) asn) (omega (arith, length_to_be (width_of width) asn)))
 
 -- ---- eight numbers at once
 
@@ -97,16 +80,3 @@ eight_says w n numbers bytes e =
     let f = and_true (leb n 8) _ e in
     let g = and_true (leb 8 numbers) _ f.1 in
     (leb-true n 8 f.0, leb-true 8 numbers g.0, leb-true (span w 8) bytes g.1)
-
-module _ (w n numbers bytes : ℕ) where
-  pub eight_many : 8 < n → false ≡ eight_for w n numbers bytes
-  unfolding eight_for
-  eight_many h = rw (lt-leb n 8 h)
-
-  pub eight_few : n ≤ 8 → numbers < 8 → false ≡ eight_for w n numbers bytes
-  unfolding eight_for
-  eight_few h k = rw (le-leb n 8 h, lt-leb 8 numbers k)
-
-  pub eight_fits : n ≤ 8 → 8 ≤ numbers → leb (span w 8) bytes ≡ eight_for w n numbers bytes
-  unfolding eight_for
-  eight_fits h k = rw (le-leb n 8 h, le-leb 8 numbers k)

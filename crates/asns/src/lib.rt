@@ -35,29 +35,22 @@ pub fn asn_bytes(width: AsnLength) -> usize
 }
 
 // The bytes of n AS numbers.
+#[tactic(auto, using(crate::proofs::AsnLaws::span_is))]
 pub fn numbers_size(n: u16, width: AsnLength) -> usize
     ensures { result ≡ span (width_of width) n }
 {
-    match width {
-        AsnLength::Bits16 => usize::from(n) * 2,
-        AsnLength::Bits32 => usize::from(n) * 4,
-    }
+    usize::from(n) * asn_bytes(width)
 }
 
 // How many AS numbers go at once where that many are there: what is too much is overwritten by the numbers that follow.
 pub const AT_ONCE: usize = 8;
 
 // Whether that many may go for n, of so many numbers and bytes that are there.
+#[tactic(auto, unfolding(crate::specs::Asn::eight_for))]
 pub fn eight_for(n: usize, numbers: usize, bytes: usize, width: AsnLength) -> bool
     ensures { result ≡ eight_for (width_of width) n numbers bytes }
 {
-    if AT_ONCE < n {
-        return false;
-    }
-    if numbers < AT_ONCE {
-        return false;
-    }
-    numbers_size(8, width) <= bytes
+    n <= AT_ONCE && AT_ONCE <= numbers && numbers_size(8, width) <= bytes
 }
 
 // The AS number at a place.
@@ -81,15 +74,17 @@ pub fn fits_width(asn: u32, width: AsnLength) -> bool
 }
 
 // A number at a place of the output, where the width holds it and there is room.
+#[tactic(auto, unfolding(crate::specs::Asn::with_number))]
 pub fn put_number(out: &mut [u8], to: usize, asn: u32, width: AsnLength)
     ensures { out.new ≡ with_number out.old to asn width }
 {
-    if !fits_width(asn, width) {
-        return;
-    }
     match width {
-        AsnLength::Bits16 => outputs::put_u16(out, to, asn as u16),
-        AsnLength::Bits32 => outputs::put_octets(out, to, asn, 4),
+        AsnLength::Bits16 => {
+            if let Ok(narrow) = u16::try_from(asn) {
+                outputs::put_u16(out, to, narrow);
+            }
+        }
+        AsnLength::Bits32 => outputs::put_u32(out, to, asn),
     }
 }
 
@@ -105,6 +100,7 @@ fn aggregator_in(value: &[u8], found: AsnLength, width: AsnLength) -> Aggregator
 }
 
 // An AGGREGATOR by the length of its value, whatever the configured width: a flag tells when they differ.
+#[tactic(auto, unfolding(crate::specs::Aggregator::aggregator_of))]
 pub fn parse_aggregator(value: &[u8], width: AsnLength) -> Result<Aggregator, Refusal>
     ensures { result ≡ aggregator_of value.now width }
 {
@@ -119,6 +115,7 @@ pub fn parse_aggregator(value: &[u8], width: AsnLength) -> Result<Aggregator, Re
 }
 
 // An AGGREGATOR of the width.
+#[tactic(auto, using(crate::proofs::AggregatorLaws::both_put, crate::proofs::AggregatorLaws::bytes_length, crate::proofs::AsnLaws::width_most), unfolding(crate::specs::Aggregator::aggregator_written, crate::specs::Aggregator::aggregator_left))]
 fn encode_in(asn: u32, identifier: u32, width: AsnLength, out: &mut [u8]) -> Result<usize, Refusal>
     ensures answer { result ≡ aggregator_written asn identifier width (length out.old) }
     ensures out { out.new ≡ aggregator_left asn identifier width out.old }
@@ -131,7 +128,7 @@ fn encode_in(asn: u32, identifier: u32, width: AsnLength, out: &mut [u8]) -> Res
         return Err(Refusal::NoRoom);
     }
     put_number(out, 0, asn, width);
-    outputs::put_octets(out, w, identifier, 4);
+    outputs::put_u32(out, w, identifier);
     Ok(w + 4)
 }
 
