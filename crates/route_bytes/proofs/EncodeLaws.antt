@@ -11,12 +11,13 @@ use Rattle.wire.proofs.ChoiceLaws.{and_true}
 use Rattle.wire.specs.Number.{be, to_be}
 use Rattle.wire.proofs.NumberLaws.{length_to_be, be_to_be, pow_pos256, to_be_append}
 use Rattle.wire.proofs.Parts.{drop_append}
-use Rattle.wire.specs.Refusal.{not_writable}
+use Rattle.wire.specs.declared.refusal.Refusal.{Refusal}
+use Rattle.wire.specs.declared.refusal.Refusal.TheVariants.{NotWritable}
 use Rattle.wire.specs.Walk.{Step, took, stop}
 use Rattle.wire.proofs.WalkLaws.{Sound}
 use Rattle.wire.proofs.Turn.{Light}
 use Rattle.families.specs.Family.{id_size, mark_of, octets}
-use Rattle.families.proofs.FamilyLaws.{id_small}
+use Rattle.families.proofs.FamilyLaws.{id_small, mark_small}
 use Rattle.families.specs.declared.Form.{Form}
 use Rattle.routes.specs.declared.Row.{Row}
 use Rattle.route_bytes.specs.Encode.{four_words, address, length_of, row_bytes, all_zero, id_fits, writable, front_row, write_step}
@@ -162,11 +163,11 @@ pub record WriteTook (ws : List ℕ) (max : ℕ) (form : Form) (used : ℕ) (row
   pub is : row ≡ front_row ws
   pub good : WritableRow max form (front_row ws)
 
-step_by_lem : (t : Bool) (row : Row) (used : ℕ) (a : Row) (st : Unit {0}) → pick t (took 6 row tt) (stop not_writable) ≡ took used a st → (t ≡ true) × (used ≡ 6) × (a ≡ row)
+step_by_lem : (t : Bool) (row : Row) (used : ℕ) (a : Row) (st : Unit {0}) → pick t (took 6 row tt) (stop NotWritable) ≡ took used a st → (t ≡ true) × (used ≡ 6) × (a ≡ row)
 step_by_lem true row used a st e = (refl, cc, cc)
 step_by_lem false row used a st e = let z : ◌≡◌ {A = ℕ} 0 1 = cc in absurd (omega arith)
 
-stop_by : (t : Bool) (row : Row) (n : ℕ) → ◌≡◌ {A = Step (Unit {0}) Row} (pick t (took 6 row tt) (stop not_writable)) (stop n) → (t ≡ false) × (n ≡ not_writable)
+stop_by : (t : Bool) (row : Row) (n : Refusal) → ◌≡◌ {A = Step (Unit {0}) Row} (pick t (took 6 row tt) (stop NotWritable)) (stop n) → (t ≡ false) × (n ≡ NotWritable)
 stop_by true row n e = let z : ◌≡◌ {A = ℕ} 0 1 = cc in absurd (omega arith)
 stop_by false row n e = (refl, cc)
 
@@ -182,18 +183,17 @@ module _ (max : ℕ) (form : Form) where
   unfolding write_step
   took_write st ws h w = simp (le-leb 6 (length ws) h, writable_is max form (front_row ws) w)
 
-  pub write_stop : (st : Unit {0}) (ws : List ℕ) (n : ℕ) → write_step max form st ws ≡ stop n → n ≡ not_writable
+  pub write_stop : (st : Unit {0}) (ws : List ℕ) (n : Refusal) → write_step max form st ws ≡ stop n → n ≡ NotWritable
   unfolding write_step
   write_stop st ws n e = (stop_by (leb 6 (length ws) && writable max form (front_row ws)) (front_row ws) n e).1
 
-  pub stop_write : (st : Unit {0}) (ws : List ℕ) → leb 6 (length ws) && writable max form (front_row ws) ≡ false → write_step max form st ws ≡ stop not_writable
+  pub stop_write : (st : Unit {0}) (ws : List ℕ) → leb 6 (length ws) && writable max form (front_row ws) ≡ false → write_step max form st ws ≡ stop NotWritable
   unfolding write_step
   stop_write st ws e = rw e
 
   pub write_sound : Sound (write_step max form)
   write_sound = record {
     takes = λ st st' ws used row e. let t = write_took st st' ws used row e in (omega (arith, t.size), omega (arith, t.size, t.there));
-    names = λ st ws n e. omega (arith, write_stop st ws n e);
   }
 
   pub write_light : max ≤ 128 → Light (write_step max form) (λ row. length (row_bytes form row)) 4
@@ -217,28 +217,32 @@ module _ (ws : List ℕ) (max : ℕ) (form : Form) where
   long_prefix h = simp (lt-leb (get_or ws 0 0 - mark_of form) max h, no_and)
 
   -- the length by a difference that wraps
-  pub far_length : (len : ℕ) → (len + mark_of form) % 4294967296 ≡ get_or ws 0 0 → len < 4294967296 → max < len → writable max form (front_row ws) ≡ false
-  far_length len e small over =
+  pub far_length : (mark : ℕ) → mark ≡ mark_of form → get_or ws 0 0 < 4294967296 → max < (get_or ws 0 0 + (4294967296 - mark)) % 4294967296 → writable max form (front_row ws) ≡ false
+  far_length mark e small over =
       elim (dec_le (mark_of form) (get_or ws 0 0)) [
-        | yes le ↦ long_prefix (omega arith)
+        | yes le ↦ long_prefix (omega (arith, mark_small form))
         | no gt ↦ low_mark (lt_of_not-le gt)
       ]
+
+  pub near_length : (mark : ℕ) → mark ≡ mark_of form → max ≤ 128 → get_or ws 0 0 < 4294967296 → (get_or ws 0 0 + (4294967296 - mark)) % 4294967296 ≤ max
+      → (mark_of form ≤ get_or ws 0 0) × ((get_or ws 0 0 + (4294967296 - mark)) % 4294967296 ≡ get_or ws 0 0 - mark_of form)
+  near_length mark e small wide near = (omega (arith, mark_small form), omega (arith, mark_small form))
 
   pub strange_id : id_fits form (get_or ws 1 0) ≡ false → writable max form (front_row ws) ≡ false
   unfolding writable front_row
   strange_id e = simp (e, no_and)
 
-  pub set_octets : all_zero (drop (octets (get_or ws 0 0 - mark_of form)) (four_words (get_or ws 2 0) (get_or ws 3 0) (get_or ws 4 0) (get_or ws 5 0))) ≡ false
+  pub set_octets : (n : ℕ) → n ≡ octets (get_or ws 0 0 - mark_of form) → all_zero (drop n (four_words (get_or ws 2 0) (get_or ws 3 0) (get_or ws 4 0) (get_or ws 5 0))) ≡ false
       → writable max form (front_row ws) ≡ false
   unfolding writable front_row
-  set_octets e = simp (e, no_and)
+  set_octets n is e = simp (← is, e, no_and)
 
   -- and what one that can be written has
   pub front_writable : mark_of form ≤ get_or ws 0 0 → get_or ws 0 0 - mark_of form ≤ max → id_fits form (get_or ws 1 0) ≡ true
-      → all_zero (drop (octets (get_or ws 0 0 - mark_of form)) (four_words (get_or ws 2 0) (get_or ws 3 0) (get_or ws 4 0) (get_or ws 5 0))) ≡ true
+      → (n : ℕ) → n ≡ octets (get_or ws 0 0 - mark_of form) → all_zero (drop n (four_words (get_or ws 2 0) (get_or ws 3 0) (get_or ws 4 0) (get_or ws 5 0))) ≡ true
       → WritableRow max form (front_row ws)
   unfolding front_row
-  front_writable m f i p = record { mark = m; fits = f; id = i; past = p }
+  front_writable m f i n is p = record { mark = m; fits = f; id = i; past = rw is at p }
 
   pub front_parts : WritableRow max form (front_row ws) → max ≤ 128
       → (mark_of form ≤ get_or ws 0 0) × (get_or ws 0 0 - mark_of form ≤ max) × (length (row_bytes form (front_row ws)) ≡ id_size form + 1 + octets (get_or ws 0 0 - mark_of form))

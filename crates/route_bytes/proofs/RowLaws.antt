@@ -4,7 +4,11 @@ use Rattle.std.proofs.Common.{◌≡◌, ℕ, zero, suc, ◌+◌, ◌-◌, ◌*�
 use lib.Seq.{take-length, get_or_at, take-append_seam, drop-append_seam}
 use Rattle.wire.specs.Cutting.{Each, none, one}
 use Rattle.wire.specs.Number.{be, to_be, padded, be_at, Bytes, Words}
-use Rattle.wire.specs.Refusal.{not_writable}
+use Rattle.std.specs.Prelude.{Err}
+use Rattle.wire.specs.Verdict.{fine}
+use Rattle.wire.specs.declared.refusal.Refusal.{Refusal}
+use Rattle.wire.specs.declared.refusal.Refusal.TheVariants.{NotWritable}
+use Rattle.wire.proofs.AnswerLaws.{refused_not_fine}
 use Rattle.wire.specs.Walk.{Step, took, stop, Reading, more, read_all, flat}
 use Rattle.wire.proofs.ChoiceLaws.{and_true}
 use Rattle.wire.proofs.CuttingLaws.{Stands}
@@ -216,7 +220,7 @@ row_took max form r t g = took_write max form tt (words r ++ t) (omega arith) g
 
 -- rows that can be written are written, from the store that has their words
 pub rows_write : (max : ℕ) (form : Form) (rows : List Row) → Each (GoodRow max form) rows
-    → read_all (write_step max form) tt (flat words rows) ≡ record { rows = rows; verdict = 0 }
+    → read_all (write_step max form) tt (flat words rows) ≡ record { rows = rows; verdict = fine }
 unfolding flat
 rows_write max form [] none = all_nil (write_step max form) tt
 rows_write max form (r ∷ rs) (one g gs) =
@@ -236,13 +240,13 @@ front_wide ws h = record { id = h 1; w0 = h 2; w1 = h 3; w2 = h 4; w3 = h 5 }
 words_drop : (n : ℕ) (ws : List ℕ) → Words ws → Words (drop n ws)
 words_drop n ws h i = rw (get_or-drop n ws i 0) (h (n + i))
 
-pub store_rows : (max : ℕ) (form : Form) (ws : List ℕ) → Words ws → (read_all (write_step max form) tt ws).verdict ≡ 0
+pub store_rows : (max : ℕ) (form : Form) (ws : List ℕ) → Words ws → (read_all (write_step max form) tt ws).verdict ≡ fine
     → let rows = (read_all (write_step max form) tt ws).rows in Each (GoodRow max form) rows × (flat words rows ≡ ws)
 unfolding flat
 store_rows max form ws =
-    all_ind (write_step max form) (write_sound max form) (λ _ t r. Words t → r.verdict ≡ 0 → Each (GoodRow max form) r.rows × (flat words r.rows ≡ t))
+    all_ind (write_step max form) (write_sound max form) (λ _ t r. Words t → r.verdict ≡ fine → Each (GoodRow max form) r.rows × (flat words r.rows ≡ t))
     (λ _ _ _. (none, refl))
-    (λ st t n pos e _ v. absurd (let lt : 0 < n = (write_sound max form).names st t n e in omega arith))
+    (λ st t n pos e _ v. absurd (refused_not_fine n v))
     (λ st st' t used row pos e again h v.
     let k = write_took max form st st' t used row e in
     let more_of = again (words_drop used t h) v in
@@ -255,12 +259,12 @@ store_rows max form ws =
 -- ---- a row that has the mark of the guess
 
 module _ (max : ℕ) (form : Form) where
-  stopped : (ws : List ℕ) (n : ℕ) → 0 < length ws → write_step max form tt ws ≡ stop n → (writing ws max form).verdict ≡ not_writable
+  stopped : (ws : List ℕ) (n : Refusal) → 0 < length ws → write_step max form tt ws ≡ stop n → (writing ws max form).verdict ≡ Err NotWritable
   unfolding writing
-  stopped ws n pos e = ap (λ (r : Reading Row). r.verdict) (all_stop (write_step max form) tt ws n pos e) ∙ write_stop max form tt ws n e
+  stopped ws n pos e = ap (λ (r : Reading Row). r.verdict) (all_stop (write_step max form) tt ws n pos e) ∙ ap Err (write_stop max form tt ws n e)
 
   -- the first word of a row that can be written is a length, or that and 256
-  marked_first : max ≤ 128 → (ws : List ℕ) (x : Step (Unit {0}) Row) → write_step max form tt ws ≡ x → 0 < length ws → get_or ws 0 0 / guessed % 2 ≡ 1 → (writing ws max form).verdict ≡ not_writable
+  marked_first : max ≤ 128 → (ws : List ℕ) (x : Step (Unit {0}) Row) → write_step max form tt ws ≡ x → 0 < length ws → get_or ws 0 0 / guessed % 2 ≡ 1 → (writing ws max form).verdict ≡ Err NotWritable
   unfolding front_row
   marked_first small ws (took used row st) e pos mark =
       let good = (write_took max form tt st ws used row e).good in
@@ -268,7 +272,7 @@ module _ (max : ℕ) (form : Form) where
       absurd (omega (arith, small, fits, mark_small form, mark))
   marked_first small ws (stop n) e pos mark = stopped ws n pos e
 
-  marked_later : (ws : List ℕ) (x : Step (Unit {0}) Row) → write_step max form tt ws ≡ x → 0 < length ws → (writing (drop 6 ws) max form).verdict ≡ not_writable → (writing ws max form).verdict ≡ not_writable
+  marked_later : (ws : List ℕ) (x : Step (Unit {0}) Row) → write_step max form tt ws ≡ x → 0 < length ws → (writing (drop 6 ws) max form).verdict ≡ Err NotWritable → (writing ws max form).verdict ≡ Err NotWritable
   unfolding writing
   marked_later ws (took used row st) e pos rest =
       let six = (write_took max form tt st ws used row e).size in
@@ -278,7 +282,7 @@ module _ (max : ℕ) (form : Form) where
   marked_later ws (stop n) e pos rest = stopped ws n pos e
 
   -- so a store that has the mark on any of its rows is not written
-  pub marked_stops : max ≤ 128 → (i : ℕ) (ws : List ℕ) → 6 * i < length ws → get_or ws (6 * i) 0 / guessed % 2 ≡ 1 → (writing ws max form).verdict ≡ not_writable
+  pub marked_stops : max ≤ 128 → (i : ℕ) (ws : List ℕ) → 6 * i < length ws → get_or ws (6 * i) 0 / guessed % 2 ≡ 1 → (writing ws max form).verdict ≡ Err NotWritable
   marked_stops small zero ws lt mark = marked_first small ws (write_step max form tt ws) refl lt mark
   marked_stops small (suc i) ws lt mark =
       let place : 6 + 6 * i ≡ 6 * suc i = omega arith in
