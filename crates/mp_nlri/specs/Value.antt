@@ -1,14 +1,15 @@
 -- The bytes of MP_REACH_NLRI and MP_UNREACH_NLRI of IPv6 unicast routes. RFC 4760 section 3: an address family of two octets, a subsequent one of one
 -- octet, the length of the next hop in one octet, the next hop, a reserved octet, the routes. Section 4: both families, and the routes withdrawn.
 -- RFC 2545 section 3: the next hop has 16 octets, a global address, or 32, where a link-local one follows.
-use Rattle.std.specs.Prelude.{ℕ, ◌+◌, List, [], ◌∷◌, ◌++◌, Bool, not, ◌&&◌, ◌||◌, length, get_or, ltb, eqb}
-use Rattle.wire.specs.Answer.{answer_by}
+use Rattle.std.specs.Prelude.{ℕ, ◌+◌, List, [], ◌∷◌, ◌++◌, Bool, not, ◌&&◌, ◌||◌, length, get_or, ltb, eqb, Result, Ok, Err}
 use Rattle.wire.specs.Choice.{pick}
 use Rattle.wire.specs.Extent.{Extent, extent, nothing}
 use Rattle.wire.specs.Number.{be_at}
-use Rattle.wire.specs.Refusal.{too_long, truncated, other_family, next_hop_length, list_limit}
-use Rattle.mp_nlri.specs.declared.HeadAnswer.{HeadAnswer}
-use Rattle.mp_nlri.specs.declared.HeadAnswer.TheVariants.{Head, Refused}
+use Rattle.wire.specs.Refusal.{list_limit}
+use Rattle.wire.specs.Verdict.{Verdict, fine, answer_by}
+use Rattle.wire.specs.declared.refusal.Refusal.{Refusal}
+use Rattle.wire.specs.declared.refusal.Refusal.TheVariants.{TooLong, Truncated, OtherFamily, NextHopLength}
+use Rattle.mp_nlri.specs.declared.Head.{Head}
 
 -- ---- written
 
@@ -44,26 +45,26 @@ hop_size v = get_or v 3 0
 abbrev pub reserved_at : List ℕ → ℕ
 reserved_at v = hop_start + hop_size v
 
--- why both are refused first, 0 where they are not: 1; under three octets, whatever they are, 2; another pair, 17
-unfoldable pub pair_fault : List ℕ → ℕ
+-- why both are refused first, where they are: 1; under three octets, whatever they are, 2; another pair, 17
+unfoldable pub pair_fault : List ℕ → Verdict
 pair_fault v =
-    pick (ltb list_limit (length v)) too_long
-    (pick (ltb (length v) 3) truncated
-    (pick (is_pair v) 0 other_family))
+    pick (ltb list_limit (length v)) (Err TooLong)
+    (pick (ltb (length v) 3) (Err Truncated)
+    (pick (is_pair v) fine (Err OtherFamily)))
 
 -- what stands after the pair and before the routes of MP_REACH_NLRI: no length octet, 2; another length than 16 or 32, 18, be its octets there or not; the
 -- next hop and the reserved octet all there, 2
-abbrev pub after_pair : List ℕ → HeadAnswer
+abbrev pub after_pair : List ℕ → Result Head Refusal
 after_pair v =
-    pick (ltb (length v) hop_start) (Refused truncated)
+    pick (ltb (length v) hop_start) (Err Truncated)
     (pick (is_hop_size (hop_size v))
-    (pick (ltb (reserved_at v) (length v)) (Head (hop_size v) (not (eqb (get_or v (reserved_at v) 0) 0))) (Refused truncated))
-    (Refused next_hop_length))
+    (pick (ltb (reserved_at v) (length v)) (Ok (record { next_hop = hop_size v; reserved = not (eqb (get_or v (reserved_at v) 0) 0) })) (Err Truncated))
+    (Err NextHopLength))
 
-unfoldable pub head_of : List ℕ → HeadAnswer
-head_of v = answer_by (pair_fault v) (after_pair v) Refused
+unfoldable pub head_of : List ℕ → Result Head Refusal
+head_of v = answer_by (pair_fault v) (after_pair v) Err
 
 -- the next hop as a part of the value, and nothing where it is refused
-abbrev pub next_hop_at : HeadAnswer → Extent
-next_hop_at (Head n reserved) = extent hop_start n
-next_hop_at (Refused n) = nothing
+abbrev pub next_hop_at : Result Head Refusal → Extent
+next_hop_at (Ok head) = extent hop_start head.next_hop
+next_hop_at (Err r) = nothing

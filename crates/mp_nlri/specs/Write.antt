@@ -1,9 +1,8 @@
 -- What the calls that write MP_REACH_NLRI and MP_UNREACH_NLRI answer.
-use Rattle.std.specs.Prelude.{ℕ, ◌+◌, List}
+use Rattle.std.specs.Prelude.{ℕ, ◌+◌, List, Result, Err}
 use Rattle.wire.specs.Choice.{pick}
-use Rattle.wire.specs.Refusal.{next_hop_length}
-use Rattle.wire.specs.declared.WriteAnswer.{WriteAnswer}
-use Rattle.wire.specs.declared.WriteAnswer.TheVariants.{Refused}
+use Rattle.wire.specs.declared.refusal.Refusal.{Refusal}
+use Rattle.wire.specs.declared.refusal.Refusal.TheVariants.{NextHopLength}
 use Rattle.families.specs.Family.{max_of}
 use Rattle.families.specs.declared.Afi.TheVariants.{Ipv6}
 use Rattle.families.specs.declared.Form.{Form}
@@ -16,9 +15,9 @@ abbrev pub route_bytes : List ℕ → Form → List ℕ
 route_bytes rows form = bytes_of rows (max_of Ipv6) form
 
 -- after a next hop of so many bytes: 18; then 14 row by row, 1 over the whole value, and 11 last
-unfoldable pub write_reach : ℕ → List ℕ → Form → ℕ → WriteAnswer
-write_reach hop rows form places = pick (is_hop_size hop) (write_after (hop_start + hop + 1) rows (max_of Ipv6) form places) (Refused next_hop_length)
+unfoldable pub write_reach : ℕ → List ℕ → Form → ℕ → Result ℕ Refusal
+write_reach hop rows form places = pick (is_hop_size hop) (write_after (hop_start + hop + 1) rows (max_of Ipv6) form places) (Err NextHopLength)
 
 -- the same without 18
-abbrev pub write_unreach : List ℕ → Form → ℕ → WriteAnswer
+abbrev pub write_unreach : List ℕ → Form → ℕ → Result ℕ Refusal
 write_unreach rows form places = write_after 3 rows (max_of Ipv6) form places

@@ -3,7 +3,7 @@
 #![tactic(auto)]
 
 ghost use Rattle.std.specs.Prelude.{◌≡◌, true, ◌+◌, ◌≤◌, length, drop};
-ghost use Rattle.wire.specs.Answer.{filled, write_meaning};
+ghost use Rattle.wire.specs.Answer.{filled, count_meaning};
 ghost use Rattle.wire.specs.Extent.{PartOf};
 ghost use Rattle.wire.specs.Store.{laid, placed};
 ghost use Rattle.mp_nlri.specs.Value.{pair_fault, is_hop_size, hop_start, head_of, next_hop_at, reach_head, reach_bytes, unreach_bytes};
@@ -11,8 +11,8 @@ ghost use Rattle.mp_nlri.specs.Read.{as_reach, count_reach, read_reach, reach_af
 ghost use Rattle.mp_nlri.specs.Write.{write_reach, write_unreach, route_bytes};
 
 use families::{AddPath, Afi, Form};
-use routes::{ListAnswer, RoutesAnswer};
-use wire::{WriteAnswer, refusal};
+use routes::Routes;
+use wire::refusal::Refusal;
 
 // The family and the subfamily of IPv6 unicast routes, the bytes of both, and both in the first three of four bytes.
 const IPV6: u32 = 2;
@@ -28,77 +28,65 @@ pub const NEXT_HOP_OFFSET: usize = 4;
 
 const RESERVED_SIZE: usize = 1;
 
-// What stands before the routes of MP_REACH_NLRI: the bytes of its next hop, and whether the reserved byte is not 0; or a refusal number.
-#[derive(Clone, Copy)]
-pub enum HeadAnswer {
-    Head { next_hop: usize, reserved: bool },
-    Refused(u8),
+// What stands before the routes of MP_REACH_NLRI: the bytes of its next hop, and whether the reserved byte is not 0.
+#[derive(Clone, Copy, Debug, PartialEq, Eq, Hash)]
+pub struct Head {
+    pub next_hop: usize,
+    pub reserved: bool,
 }
 
 // MP_REACH_NLRI: the same, its rows, and how many of them have a bit set past their length.
-#[derive(Clone, Copy)]
-pub enum ReachAnswer {
-    Reach {
-        next_hop: usize,
-        reserved: bool,
-        rows: usize,
-        hosts: usize,
-    },
-    Refused(u8),
+#[derive(Clone, Copy, Debug, PartialEq, Eq, Hash)]
+pub struct Reach {
+    pub next_hop: usize,
+    pub reserved: bool,
+    pub rows: usize,
+    pub hosts: usize,
 }
 
-// Why a value is refused by its length or its family pair; 0 where it is not.
-fn pair_fault(value: &[u8]) -> u8
+// Whether the length and the family pair of a value are those of IPv6 unicast routes.
+fn check_pair(value: &[u8]) -> Result<(), Refusal>
     ensures { result ≡ pair_fault value.now }
 {
     if wire::LIST_LIMIT < value.len() {
-        return refusal::TOO_LONG;
+        return Err(Refusal::TooLong);
     }
     if value.len() < PAIR_SIZE {
-        return refusal::TRUNCATED;
+        return Err(Refusal::Truncated);
     }
-    if wire::u16_at(value, 0) != IPV6 {
-        return refusal::OTHER_FAMILY;
+    if wire::u16_at(value, 0) != IPV6 || value[2] != UNICAST {
+        return Err(Refusal::OtherFamily);
     }
-    if value[2] != UNICAST {
-        return refusal::OTHER_FAMILY;
-    }
-    0
+    Ok(())
 }
 
 // Whether a next hop has so many bytes: a global address, or one and a link-local address.
 fn is_hop_size(n: usize) -> bool
     ensures { result ≡ is_hop_size n }
 {
-    if n == 16 {
-        return true;
-    }
-    n == 32
+    n == 16 || n == 32
 }
 
 // What stands before the routes of MP_REACH_NLRI.
-pub fn mp_reach_head(value: &[u8]) -> HeadAnswer
+pub fn mp_reach_head(value: &[u8]) -> Result<Head, Refusal>
     ensures { result ≡ head_of value.now }
 {
-    let fault = pair_fault(value);
-    if fault != 0 {
-        return HeadAnswer::Refused(fault);
-    }
+    check_pair(value)?;
     if value.len() < NEXT_HOP_OFFSET {
-        return HeadAnswer::Refused(refusal::TRUNCATED);
+        return Err(Refusal::Truncated);
     }
-    let next_hop = value[3] as usize;
+    let next_hop = usize::from(value[3]);
     if !is_hop_size(next_hop) {
-        return HeadAnswer::Refused(refusal::NEXT_HOP_LENGTH);
+        return Err(Refusal::NextHopLength);
     }
     let end = NEXT_HOP_OFFSET + next_hop;
     if value.len() <= end {
-        return HeadAnswer::Refused(refusal::TRUNCATED);
+        return Err(Refusal::Truncated);
     }
-    HeadAnswer::Head {
+    Ok(Head {
         next_hop,
         reserved: value[end] != 0,
-    }
+    })
 }
 
 // The next hop of MP_REACH_NLRI, whatever its routes are, and nothing where what stands before them is refused.
@@ -106,11 +94,8 @@ pub fn next_hop_part(value: &[u8]) -> &[u8]
     ensures { PartOf value.entry (next_hop_at (head_of value.now)) result }
 {
     match mp_reach_head(value) {
-        HeadAnswer::Head {
-            next_hop,
-            reserved: _,
-        } => wire::part(value, NEXT_HOP_OFFSET, next_hop),
-        HeadAnswer::Refused(_) => wire::part(value, 0, 0),
+        Ok(head) => wire::part(value, NEXT_HOP_OFFSET, head.next_hop),
+        Err(_) => wire::part(value, 0, 0),
     }
 }
 
@@ -123,86 +108,56 @@ fn bytes_after(value: &[u8], start: usize) -> &[u8]
 }
 
 // What stands before the routes, and the routes, as one answer.
-fn as_reach(next_hop: usize, reserved: bool, routes: RoutesAnswer) -> ReachAnswer
-    ensures { result ≡ as_reach next_hop reserved routes }
+fn as_reach(head: Head, routes: Routes) -> Reach
+    ensures { result ≡ as_reach head routes }
 {
-    let list = routes.list;
-    match list {
-        ListAnswer::Rows(rows) => ReachAnswer::Reach {
-            next_hop,
-            reserved,
-            rows,
-            hosts: routes.hosts,
-        },
-        ListAnswer::Refused(n) => ReachAnswer::Refused(n),
+    Reach {
+        next_hop: head.next_hop,
+        reserved: head.reserved,
+        rows: routes.rows,
+        hosts: routes.hosts,
     }
 }
 
 // How many routes MP_REACH_NLRI has.
-pub fn count_mp_reach_nlri(value: &[u8], mode: AddPath) -> ReachAnswer
+pub fn count_mp_reach_nlri(value: &[u8], mode: AddPath) -> Result<Reach, Refusal>
     ensures { result ≡ count_reach value.now mode }
 {
-    match mp_reach_head(value) {
-        HeadAnswer::Head { next_hop, reserved } => {
-            let list = bytes_after(value, NEXT_HOP_OFFSET + next_hop + RESERVED_SIZE);
-            as_reach(
-                next_hop,
-                reserved,
-                routes::count_nlri_list(list, Afi::Ipv6, mode),
-            )
-        }
-        HeadAnswer::Refused(n) => ReachAnswer::Refused(n),
-    }
+    let head = mp_reach_head(value)?;
+    let list = bytes_after(value, NEXT_HOP_OFFSET + head.next_hop + RESERVED_SIZE);
+    let routes = routes::count_nlri_list(list, Afi::Ipv6, mode)?;
+    Ok(as_reach(head, routes))
 }
 
 // The routes of MP_REACH_NLRI into a lent store, six words a row.
-pub fn parse_mp_reach_nlri(value: &[u8], mode: AddPath, store: &mut [u32]) -> ReachAnswer
+pub fn parse_mp_reach_nlri(value: &[u8], mode: AddPath, store: &mut [u32]) -> Result<Reach, Refusal>
     ensures answer { result ≡ read_reach value.now mode (length store.old) }
     ensures store { store.new ≡ reach_after result value.now mode store.old }
 {
-    match mp_reach_head(value) {
-        HeadAnswer::Head { next_hop, reserved } => {
-            let list = bytes_after(value, NEXT_HOP_OFFSET + next_hop + RESERVED_SIZE);
-            as_reach(
-                next_hop,
-                reserved,
-                route_reader::parse_nlri_list(list, Afi::Ipv6, mode, store),
-            )
-        }
-        HeadAnswer::Refused(n) => ReachAnswer::Refused(n),
-    }
-}
-
-// A refusal, which has no rows.
-fn refused(n: u8) -> RoutesAnswer
-    ensures { result ≡ record { list = ListAnswer.Refused n; hosts = 0 } }
-{
-    RoutesAnswer {
-        list: ListAnswer::Refused(n),
-        hosts: 0,
-    }
+    let head = mp_reach_head(value)?;
+    let list = bytes_after(value, NEXT_HOP_OFFSET + head.next_hop + RESERVED_SIZE);
+    let routes = route_reader::parse_nlri_list(list, Afi::Ipv6, mode, store)?;
+    Ok(as_reach(head, routes))
 }
 
 // How many routes MP_UNREACH_NLRI has, and how many of them have a bit set past their length.
-pub fn count_mp_unreach_nlri(value: &[u8], mode: AddPath) -> RoutesAnswer
+pub fn count_mp_unreach_nlri(value: &[u8], mode: AddPath) -> Result<Routes, Refusal>
     ensures { result ≡ count_unreach value.now mode }
 {
-    let fault = pair_fault(value);
-    if fault != 0 {
-        return refused(fault);
-    }
+    check_pair(value)?;
     routes::count_nlri_list(bytes_after(value, PAIR_SIZE), Afi::Ipv6, mode)
 }
 
 // The routes of MP_UNREACH_NLRI into a lent store, six words a row.
-pub fn parse_mp_unreach_nlri(value: &[u8], mode: AddPath, store: &mut [u32]) -> RoutesAnswer
+pub fn parse_mp_unreach_nlri(
+    value: &[u8],
+    mode: AddPath,
+    store: &mut [u32],
+) -> Result<Routes, Refusal>
     ensures answer { result ≡ read_unreach value.now mode (length store.old) }
     ensures store { store.new ≡ unreach_after result value.now mode store.old }
 {
-    let fault = pair_fault(value);
-    if fault != 0 {
-        return refused(fault);
-    }
+    check_pair(value)?;
     route_reader::parse_nlri_list(bytes_after(value, PAIR_SIZE), Afi::Ipv6, mode, store)
 }
 
@@ -236,34 +191,26 @@ pub fn encode_mp_reach_nlri(
     rows: &[u32],
     form: Form,
     out: &mut [u8],
-) -> WriteAnswer
+) -> Result<usize, Refusal>
     ensures answer { result ≡ write_reach (length next_hop.now) rows.now form (length out.old) }
-    ensures out { out.new ≡ filled (write_meaning result) (reach_bytes next_hop.now (route_bytes rows.now form)) out.old }
+    ensures out { out.new ≡ filled (count_meaning result) (reach_bytes next_hop.now (route_bytes rows.now form)) out.old }
 {
     let n = next_hop.len();
     if !is_hop_size(n) {
-        return WriteAnswer::Refused(refusal::NEXT_HOP_LENGTH);
+        return Err(Refusal::NextHopLength);
     }
     let start = NEXT_HOP_OFFSET + n + RESERVED_SIZE;
-    match route_writer::encode_nlri_after(start, rows, Afi::Ipv6, form, out) {
-        WriteAnswer::Bytes(size) => {
-            put_head(next_hop, out);
-            WriteAnswer::Bytes(size)
-        }
-        WriteAnswer::Refused(m) => WriteAnswer::Refused(m),
-    }
+    let size = route_writer::encode_nlri_after(start, rows, Afi::Ipv6, form, out)?;
+    put_head(next_hop, out);
+    Ok(size)
 }
 
 // Writes MP_UNREACH_NLRI of rows.
-pub fn encode_mp_unreach_nlri(rows: &[u32], form: Form, out: &mut [u8]) -> WriteAnswer
+pub fn encode_mp_unreach_nlri(rows: &[u32], form: Form, out: &mut [u8]) -> Result<usize, Refusal>
     ensures answer { result ≡ write_unreach rows.now form (length out.old) }
-    ensures out { out.new ≡ filled (write_meaning result) (unreach_bytes (route_bytes rows.now form)) out.old }
+    ensures out { out.new ≡ filled (count_meaning result) (unreach_bytes (route_bytes rows.now form)) out.old }
 {
-    match route_writer::encode_nlri_after(PAIR_SIZE, rows, Afi::Ipv6, form, out) {
-        WriteAnswer::Bytes(size) => {
-            outputs::put_octets(out, 0, IPV6_UNICAST, PAIR_SIZE);
-            WriteAnswer::Bytes(size)
-        }
-        WriteAnswer::Refused(m) => WriteAnswer::Refused(m),
-    }
+    let size = route_writer::encode_nlri_after(PAIR_SIZE, rows, Afi::Ipv6, form, out)?;
+    outputs::put_octets(out, 0, IPV6_UNICAST, PAIR_SIZE);
+    Ok(size)
 }
