@@ -1,7 +1,7 @@
 -- What old and new AS numbers side by side are (RFC 6793 section 4.2.3), of the calls themselves: whatever they are given, answer and leave.
 -- Assumes nothing.
 use Prim.Native.Nat.{ℕ, zero, suc, ◌+◌, ◌*◌, ◌^◌, ◌≤◌, ◌<◌}
-use Rattle.std.specs.Prelude.{◌≡◌, refl, true, take, ltb}
+use Rattle.std.specs.Prelude.{◌≡◌, refl, true, take, ltb, Result, Ok, Err}
 use Rattle.std.proofs.Math.Path.{sym, ap, ap₂}
 use Rattle.std.proofs.Common.{subst, ◌∙◌, zero-add, arith, lt-ltb, ltb-true, take_all, length-take-le}
 use mathlib.Core.List.{List, [], ◌∷◌}
@@ -14,7 +14,8 @@ use Rattle.wire.specs.Number.{Bytes}
 use Rattle.wire.specs.Refusal.{list_limit}
 use Rattle.wire.specs.Store.{laid}
 use Rattle.wire.specs.Walk.{Reading, flat}
-use Rattle.wire.specs.declared.WriteAnswer.TheVariants as W
+use Rattle.wire.specs.Verdict.{fine}
+use Rattle.wire.specs.declared.refusal.Refusal.{Refusal}
 use Rattle.wire.proofs.CuttingLaws as Cuttings
 use Rattle.asns.specs.Asn.{width_of, span}
 use Rattle.asns.specs.declared.AsnLength.{AsnLength}
@@ -24,7 +25,6 @@ use Rattle.paths.specs.Segment.{Segment, Rule, known_type, rule_of, segment_at, 
 use Rattle.paths.specs.WellFormed.{Known, WellFormed}
 use Rattle.paths.specs.declared.PathRule.{PathRule}
 use Rattle.paths.specs.declared.PathRule.TheVariants.{Crate}
-use Rattle.paths.specs.declared.PathAnswer.TheVariants.{Path}
 use Rattle.paths.proofs.FormedLaws.{ruled, decides}
 use Rattle.paths.proofs.PromiseLaws.{pairs_length, read_path, path_stores}
 use Rattle.paths.proofs.count_as_path.Reads as count_as_path
@@ -39,14 +39,15 @@ use Rattle.path_writer.proofs.encode_as_path.Reads as encode_as_path
 use Rattle.as4.specs.Standing.{sizes_fault, standing, owner_of, handed_back}
 use Rattle.as4.specs.Merge.{route_len_of, split, merged, Comes}
 use Rattle.as4.specs.Promises.{old_path, new_path, built_of}
-use Rattle.as4.specs.declared.StandingAnswer.{StandingAnswer}
-use Rattle.as4.specs.declared.StandingAnswer.TheVariants as S
+use Rattle.as4.specs.declared.Standing.{Standing}
+use Rattle.as4.specs.declared.Standing.TheVariants as S
 use Rattle.as4.proofs.MergedLaws as Laws
 use Rattle.as4.proofs.MergeStores.{as_read, leave_alone}
 use Rattle.as4.proofs.PlanLaws.{answer_alone, built_absent, built_good}
 use Rattle.as4.proofs.standing_aggregator.Reads as standing_aggregator
 use Rattle.as4.proofs.count_merged_as_path.Reads as count_merged_as_path
 use Rattle.as4.proofs.merge_as_path.Reads as merge_as_path
+use Rattle.demands.specs.Paths.{path_with}
 
 -- ---- the words of the statements
 
@@ -79,21 +80,21 @@ numbers given = given.1.1.1.1.1.0.now
 -- ---- 1. The AGGREGATOR that stands is handed back itself, one of the two values and no copy; a refusal hands back nothing.
 
 module _ (κs : _) (given : _) (part : _) (exit : _) (call : standing_aggregator.Learnt κs given part exit) where
-  by_answer : (a : StandingAnswer) → standing (aggregator given).now (as4_aggregator given).now ≡ a
+  by_answer : (a : Result Standing Refusal) → standing (aggregator given).now (as4_aggregator given).now ≡ a
       → PartOf (owner_of a (aggregator given) (as4_aggregator given)) (handed_back a (aggregator given) (as4_aggregator given)) part
-  by_answer a e = subst (λ (x : StandingAnswer). PartOf (owner_of x (aggregator given) (as4_aggregator given)) (handed_back x (aggregator given) (as4_aggregator given)) part) e call
+  by_answer a e = subst (λ (x : Result Standing Refusal). PartOf (owner_of x (aggregator given) (as4_aggregator given)) (handed_back x (aggregator given) (as4_aggregator given)) part) e call
 
   all_of : (s : Bor (List ℕ)) → PartOf s (record { start = 0; size = length s.now }) part → (part.now ≡ s.now) × (part.ref_ptr ≡ s.ref_ptr)
   all_of s p = (p.holds ∙ take_all (length s.now) s.now (omega arith), p.lies ∙ ap (λ (n : ℕ). (s.ref_ptr.0, n)) (zero-add s.ref_ptr.1))
 
-  pub first_stands : standing (aggregator given).now (as4_aggregator given).now ≡ S.Aggregator → (part.now ≡ (aggregator given).now) × (part.ref_ptr ≡ (aggregator given).ref_ptr)
-  first_stands e = all_of (aggregator given) (by_answer S.Aggregator e)
+  pub first_stands : standing (aggregator given).now (as4_aggregator given).now ≡ Ok S.Aggregator → (part.now ≡ (aggregator given).now) × (part.ref_ptr ≡ (aggregator given).ref_ptr)
+  first_stands e = all_of (aggregator given) (by_answer (Ok S.Aggregator) e)
 
-  pub second_stands : standing (aggregator given).now (as4_aggregator given).now ≡ S.As4Aggregator → (part.now ≡ (as4_aggregator given).now) × (part.ref_ptr ≡ (as4_aggregator given).ref_ptr)
-  second_stands e = all_of (as4_aggregator given) (by_answer S.As4Aggregator e)
+  pub second_stands : standing (aggregator given).now (as4_aggregator given).now ≡ Ok S.As4Aggregator → (part.now ≡ (as4_aggregator given).now) × (part.ref_ptr ≡ (as4_aggregator given).ref_ptr)
+  second_stands e = all_of (as4_aggregator given) (by_answer (Ok S.As4Aggregator) e)
 
-  pub none_stands : (n : ℕ) → standing (aggregator given).now (as4_aggregator given).now ≡ S.Refused n → part.now ≡ []
-  none_stands n e = (by_answer (S.Refused n) e).holds
+  pub none_stands : (why : Refusal) → standing (aggregator given).now (as4_aggregator given).now ≡ Err why → part.now ≡ []
+  none_stands why e = (by_answer (Err why) e).holds
 
 -- ---- 2. Over lists of segments: a path that is built counts as AS_PATH does, and its segments are leading ones of AS_PATH, whole but for the last, and then
 -- those of AS4_PATH.
@@ -109,7 +110,7 @@ comes_from = Laws.merged_comes
 module _ (κs : _) (given : _) (answer : _) (exit : _) (call : merge_as_path.Learnt κs given answer exit)
     (κs' : _) (given' : _) (answer' : _) (exit' : _)
     (call' : parse_as_path.Learnt κs' (given.0, (Bits16, (Crate, (given.1.1.1.1.0, (given.1.1.1.1.1.0, given'))))) answer' exit') where
-  pub absent_merged : as4_path given ≡ [] → sizes_fault (first given) (second given) ≡ 0
+  pub absent_merged : as4_path given ≡ [] → sizes_fault (first given) (second given) ≡ fine
       → (answer ≡ answer') × (pairs exit ≡ exit'.1.1.1.0.now) × (numbers exit ≡ exit'.1.1.1.1.0.now)
   absent_merged none sized =
       let b = built_absent (as_path given) (as4_path given) (first given) (second given) (sym sized) (ap length none) in
@@ -119,7 +120,7 @@ module _ (κs : _) (given : _) (answer : _) (exit : _) (call : merge_as_path.Lea
 
 module _ (κs : _) (given : _) (answer : _) (exit : _) (call : count_merged_as_path.Learnt κs given answer exit)
     (κs' : _) (given' : _) (answer' : _) (exit' : _) (call' : count_as_path.Learnt κs' (given.0, (Bits16, (Crate, given'))) answer' exit') where
-  pub absent_counted : as4_path given ≡ [] → sizes_fault (first given) (second given) ≡ 0 → answer ≡ answer'
+  pub absent_counted : as4_path given ≡ [] → sizes_fault (first given) (second given) ≡ fine → answer ≡ answer'
   absent_counted none sized =
       let b = built_absent (as_path given) (as4_path given) (first given) (second given) (sym sized) (ap length none) in
       call ∙ sym (answer_alone (built_of (as_path given) (as4_path given) (first given) (second given)) (as_path given) b.0 b.1) ∙ sym call'
@@ -149,7 +150,7 @@ shorter : (n : ℕ) (g : Segment) → 0 < n → n < length (asns_of g) → Writa
 shorter n g pos lt h = record { fine = h.fine; short = omega (arith, h.short, length-take-le n (asns_of g) (omega (arith, lt)), lt); fit = fit_front 4 n (asns_of g) h.fit }
 
 -- the segments of a path that is read
-read_writable : (w : ℕ) (s : List ℕ) → Bytes s → (path_of known_type w s).verdict ≡ 0 → Each (WritableSegment known_type w) (path_of known_type w s).rows
+read_writable : (w : ℕ) (s : List ℕ) → Bytes s → (path_of known_type w s).verdict ≡ fine → Each (WritableSegment known_type w) (path_of known_type w s).rows
 unfolding path_of
 read_writable w s bytes good =
     let d = decides known_type Known (ruled Crate) w in
@@ -158,7 +159,7 @@ read_writable w s bytes good =
     subst (λ (r : Reading Segment). Each (WritableSegment known_type w) r.rows) (sym (Cuttings.cut_read (segment_of known_type w) (WellFormed Known w) (segment_at w) d tt s cut.0 cut.1)) each.0
 
 module _ (path four one two : List ℕ) (bytes : Bytes path) (bytes' : Bytes four) where
-  pub built_writable : (built_of path four one two).verdict ≡ 0 → Each (WritableSegment known_type 4) (built_of path four one two).rows
+  pub built_writable : (built_of path four one two).verdict ≡ fine → Each (WritableSegment known_type 4) (built_of path four one two).rows
   built_writable good =
       let f = built_good path four one two good in
       let old = Cuttings.each_map wider (old_path path).rows (read_writable 2 path bytes f.0) in
@@ -168,10 +169,10 @@ module _ (path four one two : List ℕ) (bytes : Bytes path) (bytes' : Bytes fou
 -- so it is written at width 4 wherever its bytes, two and four a number for each segment, are at most 65,535, given room
 module _ (κs : _) (given : _) (answer : _) (exit : _) (call : merge_as_path.Learnt κs given answer exit)
     (κs' : _) (given' : _) (answer' : _) (exit' : _) (call' : encode_as_path.Learnt κs' given' answer' exit') where
-  pub merged_written : (m n : ℕ) → answer ≡ Path m n → Bytes (as_path given) → Bytes (as4_path given)
+  pub merged_written : (m n : ℕ) → answer ≡ Ok (path_with m n) → Bytes (as_path given) → Bytes (as4_path given)
       → given'.0.now ≡ take (2 * m) (pairs exit) → given'.1.0.now ≡ take n (numbers exit) → given'.1.1.0 ≡ Bits32 → given'.1.1.1.0 ≡ Crate
       → 2 * m + 4 * n ≤ list_limit → 2 * m + 4 * n ≤ length given'.1.1.1.1.0.now
-      → (answer' ≡ W.Bytes (2 * m + 4 * n))
+      → (answer' ≡ Ok (2 * m + 4 * n))
       × (exit'.1.1.1.1.0.now ≡ laid given'.1.1.1.1.0.now 0 (path_bytes 4 (built_of (as_path given) (as4_path given) (first given) (second given)).rows))
   unfolding lent_bytes
   merged_written m n said bytes bytes' p q width rule short room =
@@ -188,13 +189,13 @@ module _ (κs : _) (given : _) (answer : _) (exit : _) (call : merge_as_path.Lea
       let lent_asns : given'.1.0.now ≡ asns = q ∙ ap (take n) (call.1.1 ∙ alike.1.1 ∙ stores.1) ∙ take_at asns _ n h.3 in
       let w = lend known_type 4 r.rows (built_writable (as_path given) (as4_path given) (first given) (second given) bytes bytes' h.1) in
       let size : length heads + span 4 (length asns) ≡ 2 * m + 4 * n = omega (arith, two, h.3, span_is 4 (length asns)) in
-      let good : (lent_path known_type 4 heads asns).verdict ≡ 0 = ap (λ (x : Reading Segment). x.verdict) w.0 in
+      let good : (lent_path known_type 4 heads asns).verdict ≡ fine = ap (λ (x : Reading Segment). x.verdict) w.0 in
       let written = all_written known_type 4 heads asns (length out) w.1 (sym good) (omega (arith, size, short)) (omega (arith, size, room)) in
       let same : (f : Rule → ℕ → List ℕ → List ℕ → List ℕ) → f (rule_of given'.1.1.1.0) (width_of given'.1.1.0) given'.0.now given'.1.0.now ≡ f known_type 4 heads asns =
       λ f. ap₂ (λ (x : PathRule) (y : AsnLength). f (rule_of x) (width_of y) given'.0.now given'.1.0.now) rule width ∙ ap₂ (f known_type 4) lent_heads lent_asns in (
         call'.0
             ∙ ap₂ (λ (x : PathRule) (y : AsnLength). encode_answer (rule_of x) (width_of y) given'.0.now given'.1.0.now (length out)) rule width
-            ∙ ap₂ (λ (x y : List ℕ). encode_answer known_type 4 x y (length out)) lent_heads lent_asns ∙ written ∙ ap W.Bytes size,
+            ∙ ap₂ (λ (x y : List ℕ). encode_answer known_type 4 x y (length out)) lent_heads lent_asns ∙ written ∙ ap Ok size,
         call'.1
             ∙ same (λ x y z t. encode_left x y z t out) ∙ written_out known_type 4 heads asns out _ written
             ∙ ap (λ (x : Reading Segment). laid out 0 (path_bytes 4 x.rows)) w.0,

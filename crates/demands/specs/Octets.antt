@@ -15,7 +15,6 @@ use Rattle.families.proofs.octets.after.Reads as after
 use Rattle.routes.proofs.TableLaws.{count_list_family, count_section_family}
 use Rattle.routes.proofs.count_list_by.Reads as count_list_by
 use Rattle.routes.proofs.count_section_by.Reads as count_section_by
-use Rattle.routes.proofs.counted.Reads as counted
 use Rattle.routes.proofs.count_nlri_list.Reads as count_nlri_list
 use Rattle.routes.proofs.count_nlri.Reads as count_nlri
 
@@ -45,9 +44,9 @@ module _ (afi : Afi) (κt : _) (table : _) (exit : _) (made : counts.Learnt κt 
 
   -- ---- a list and a section that are counted by it
 
-  module _ (s : _) (mode : AddPath) (κs : _) (number : _) (left : _) (κc : _) (answer : _) (kept : _) (told : counted.Learnt κc (number, tt) answer kept) (κf : _) (given : _) (after : _) where
-    pub list_by_family : count_list_by.Learnt κs (s, (lent, (mode, tt))) number left → count_nlri_list.Learnt κf (s, (afi, (mode, tt))) given after → answer ≡ given
-    list_by_family call family = told ∙ call ∙ count_list_family lent.now afi (same ∙ made) s.now mode ∙ sym family
+  module _ (s : _) (mode : AddPath) (κs : _) (answer : _) (left : _) (κf : _) (given : _) (after : _) where
+    pub list_by_family : count_list_by.Learnt κs (s, (lent, (mode, tt))) answer left → count_nlri_list.Learnt κf (s, (afi, (mode, tt))) given after → answer ≡ given
+    list_by_family call family = call ∙ count_list_family lent.now afi (same ∙ made) s.now mode ∙ sym family
 
-    pub section_by_family : count_section_by.Learnt κs (s, (lent, (mode, tt))) number left → count_nlri.Learnt κf (s, (afi, (mode, tt))) given after → answer ≡ given
-    section_by_family call family = told ∙ call ∙ count_section_family lent.now afi (same ∙ made) s.now mode ∙ sym family
+    pub section_by_family : count_section_by.Learnt κs (s, (lent, (mode, tt))) answer left → count_nlri.Learnt κf (s, (afi, (mode, tt))) given after → answer ≡ given
+    section_by_family call family = call ∙ count_section_family lent.now afi (same ∙ made) s.now mode ∙ sym family

@@ -1,15 +1,16 @@
 -- What reading and writing an AS_PATH are, of the calls themselves: whatever they are given, answer and leave. For each width of AS numbers, and for
 -- each of the two rules, the crate's and the strict one, with its own idea of a well-formed segment.
 -- Assumes nothing.
-use Rattle.std.specs.Prelude.{ℕ, ◌*◌, ◌/◌, ◌≤◌, ◌≡◌, List, length, take}
+use Rattle.std.specs.Prelude.{ℕ, ◌*◌, ◌/◌, ◌≤◌, ◌≡◌, List, length, take, Ok, Err}
 use Rattle.std.proofs.Common.{sym, ap, ap₂, ◌∙◌}
 use Rattle.std.specs.Borrow.{Bor, MutBor}
 use Rattle.wire.specs.Cutting.{Some, Cutting}
 use Rattle.wire.specs.Number.{Bytes}
-use Rattle.wire.specs.Refusal.{empty_segment, list_limit}
+use Rattle.wire.specs.Refusal.{list_limit}
 use Rattle.wire.specs.Store.{laid}
 use Rattle.wire.specs.Walk.{Reading, flat}
-use Rattle.wire.specs.declared.WriteAnswer.TheVariants as W
+use Rattle.wire.specs.declared.refusal.Refusal.{Refusal}
+use Rattle.wire.specs.declared.refusal.Refusal.TheVariants.{EmptySegment}
 use Rattle.asns.specs.Asn.{width_of}
 use Rattle.asns.specs.declared.AsnLength.{AsnLength}
 use Rattle.paths.specs.Promises.{count_answer, read_answer, pairs_after, numbers_after}
@@ -17,7 +18,7 @@ use Rattle.paths.specs.Segment.{Segment, NoNumbers, known_type, rule_of}
 use Rattle.paths.specs.WellFormed.{Known, Allowed, WellFormed, Empty, head_of, as_numbers}
 use Rattle.paths.specs.declared.PathRule.{PathRule}
 use Rattle.paths.specs.declared.PathRule.TheVariants.{Crate, Strict}
-use Rattle.paths.specs.declared.PathAnswer.TheVariants.{Path, Refused}
+use Rattle.paths.specs.declared.Path.{Path}
 use Rattle.paths.proofs.FormedLaws.{ruled}
 use Rattle.paths.proofs.PromiseLaws.{count_path, read_path}
 use Rattle.paths.proofs.RuleLaws.{counted_alike, read_alike, empty_counted, counted_empty, empty_read, read_empty}
@@ -78,12 +79,16 @@ heads items = flat head_of items
 abbrev pub asns : AsnLength → List (List ℕ) → List ℕ
 asns asn_length items = flat (as_numbers (width_of asn_length)) items
 
+-- of so many segments and numbers
+abbrev pub path_with : ℕ → ℕ → Path
+path_with segments numbers = record { segments = segments; numbers = numbers }
+
 -- ---- 1. Bytes are accepted, given room, exactly if they can be cut into segments that are well-formed by the rule.
 -- A call that accepts has a cutting, with as many items as segments and as many numbers, within the limit and with room; a cutting within the limit
 -- and with room is accepted.
 
 module _ (κs : _) (given : _) (answer : _) (exit : _) (call : parse_as_path.Learnt κs given answer exit) where
-  pub path_accepted : (m n : ℕ) → answer ≡ Path m n
+  pub path_accepted : (m n : ℕ) → answer ≡ Ok (path_with m n)
       → (items : List (List ℕ)) × Cut (rule given) (width given) (bytes given) items × (length items ≡ m) × (length (asns (width given) items) ≡ n)
       × (length (bytes given) ≤ list_limit) × (m ≤ length (pairs given) / 2) × (n ≤ length (numbers given))
   path_accepted m n said =
@@ -91,18 +96,18 @@ module _ (κs : _) (given : _) (answer : _) (exit : _) (call : parse_as_path.Lea
 
   pub path_cut : (items : List (List ℕ)) → Cut (rule given) (width given) (bytes given) items → length (bytes given) ≤ list_limit
       → length items ≤ length (pairs given) / 2 → length (asns (width given) items) ≤ length (numbers given)
-      → answer ≡ Path (length items) (length (asns (width given) items))
+      → answer ≡ Ok (path_with (length items) (length (asns (width given) items)))
   path_cut items cut short room space =
       call.0 ∙ Laws.cut_accepted (rule_of (rule given)) (Allowed (rule given)) (ruled (rule given)) (width_of (width given)) (bytes given) items cut (length (pairs given)) (length (numbers given)) short room space
 
 -- counting needs no room
 module _ (κs : _) (given : _) (answer : _) (exit : _) (call : count_as_path.Learnt κs given answer exit) where
-  pub path_counted : (m n : ℕ) → answer ≡ Path m n
+  pub path_counted : (m n : ℕ) → answer ≡ Ok (path_with m n)
       → (items : List (List ℕ)) × Cut (rule given) (width given) (bytes given) items × (length items ≡ m) × (length (asns (width given) items) ≡ n) × (length (bytes given) ≤ list_limit)
   path_counted m n said = Laws.counted_cut (rule_of (rule given)) (Allowed (rule given)) (ruled (rule given)) (width_of (width given)) (bytes given) m n (sym call ∙ said)
 
   pub path_cut_counted : (items : List (List ℕ)) → Cut (rule given) (width given) (bytes given) items → length (bytes given) ≤ list_limit
-      → answer ≡ Path (length items) (length (asns (width given) items))
+      → answer ≡ Ok (path_with (length items) (length (asns (width given) items)))
   path_cut_counted items cut short = call ∙ Laws.cut_counted (rule_of (rule given)) (Allowed (rule given)) (ruled (rule given)) (width_of (width given)) (bytes given) items cut short
 
 -- ---- 2. There is one cutting.
@@ -113,7 +118,7 @@ one_cutting path_rule asn_length = Laws.one_cutting (rule_of path_rule) (Allowed
 -- ---- 3. What is read are its items: as many segments and numbers, and the stores at exit hold them from their fronts.
 
 module _ (κs : _) (given : _) (answer : _) (exit : _) (call : parse_as_path.Learnt κs given answer exit) where
-  pub path_rows : (m n : ℕ) → answer ≡ Path m n → (items : List (List ℕ)) → Cut (rule given) (width given) (bytes given) items
+  pub path_rows : (m n : ℕ) → answer ≡ Ok (path_with m n) → (items : List (List ℕ)) → Cut (rule given) (width given) (bytes given) items
       → (m ≡ length items) × (n ≡ length (asns (width given) items))
       × (pairs exit ≡ laid (pairs given) 0 (heads items)) × (numbers exit ≡ laid (numbers given) 0 (asns (width given) items))
   path_rows m n said items cut =
@@ -124,9 +129,9 @@ module _ (κs : _) (given : _) (answer : _) (exit : _) (call : parse_as_path.Lea
 
 module _ (κs : _) (given : _) (answer : _) (exit : _) (call : parse_as_path.Learnt κs given answer exit)
     (κs' : _) (given' : _) (answer' : _) (exit' : _) (call' : encode_as_path.Learnt κs' given' answer' exit') where
-  pub written_back : (m n : ℕ) → answer ≡ Path m n → width given ≡ width_asked given' → rule given ≡ rule_asked given'
+  pub written_back : (m n : ℕ) → answer ≡ Ok (path_with m n) → width given ≡ width_asked given' → rule given ≡ rule_asked given'
       → pairs_lent given' ≡ take (2 * m) (pairs exit) → numbers_lent given' ≡ take n (numbers exit) → Bytes (bytes given) → length (bytes given) ≤ length (output given')
-      → (answer' ≡ W.Bytes (length (bytes given))) × (output exit' ≡ laid (output given') 0 (bytes given))
+      → (answer' ≡ Ok (length (bytes given))) × (output exit' ≡ laid (output given') 0 (bytes given))
   written_back m n said alike by back after each room =
       let r = Laws.read_written (rule_of (rule given)) (Allowed (rule given)) (ruled (rule given)) (width_of (width given)) (bytes given) each (pairs given) (numbers given) m n (sym call.0 ∙ said) (output given') room in
       let p = back ∙ ap (take (2 * m)) call.1.0 in
@@ -145,8 +150,8 @@ module _ (κs : _) (given : _) (answer : _) (exit : _) (call : parse_as_path.Lea
 
 module _ (κs : _) (given : _) (answer : _) (exit : _) (call : encode_as_path.Learnt κs given answer exit) where
   -- by the crate's rule they are written the same
-  by_crate_lem : (n : ℕ) → answer ≡ W.Bytes n
-      → (encode_answer known_type (width_of (width_asked given)) (pairs_lent given) (numbers_lent given) (length (output given)) ≡ W.Bytes n)
+  by_crate_lem : (n : ℕ) → answer ≡ Ok n
+      → (encode_answer known_type (width_of (width_asked given)) (pairs_lent given) (numbers_lent given) (length (output given)) ≡ Ok n)
       × (encode_left known_type (width_of (width_asked given)) (pairs_lent given) (numbers_lent given) (output given) ≡ output exit)
   by_crate_lem n said =
       let c = encode_alike (rule_asked given) (width_of (width_asked given)) (pairs_lent given) (numbers_lent given) (output given) n (sym call.0 ∙ said) in
@@ -154,7 +159,7 @@ module _ (κs : _) (given : _) (answer : _) (exit : _) (call : encode_as_path.Le
 
 module _ (κs : _) (given : _) (answer : _) (exit : _) (call : encode_as_path.Learnt κs given answer exit)
     (κs' : _) (given' : _) (answer' : _) (exit' : _) (call' : encode_as_path.Learnt κs' given' answer' exit') where
-  pub paths_equal : width_asked given ≡ width_asked given' → (n n' : ℕ) → answer ≡ W.Bytes n → answer' ≡ W.Bytes n' → take n (output exit) ≡ take n' (output exit')
+  pub paths_equal : width_asked given ≡ width_asked given' → (n n' : ℕ) → answer ≡ Ok n → answer' ≡ Ok n' → take n (output exit) ≡ take n' (output exit')
       → (pairs_lent given ≡ pairs_lent given') × (numbers_lent given ≡ numbers_lent given')
   paths_equal alike n n' said said' same =
       let c = by_crate_lem κs given answer exit call n said in
@@ -172,7 +177,7 @@ module _ (κs : _) (given : _) (answer : _) (exit : _) (call : encode_as_path.Le
 -- reading into stores
 module _ (value : _) (asn_length : _) (stores : _) (κs : _) (answer : _) (exit : _) (strict : parse_as_path.Learnt κs (value, (asn_length, (Strict, stores))) answer exit)
     (κs' : _) (answer' : _) (exit' : _) (lax : parse_as_path.Learnt κs' (value, (asn_length, (Crate, stores))) answer' exit') where
-  pub strict_is_crate : (m n : ℕ) → answer ≡ Path m n → (answer' ≡ Path m n) × (pairs exit' ≡ pairs exit) × (numbers exit' ≡ numbers exit)
+  pub strict_is_crate : (m n : ℕ) → answer ≡ Ok (path_with m n) → (answer' ≡ Ok (path_with m n)) × (pairs exit' ≡ pairs exit) × (numbers exit' ≡ numbers exit)
   strict_is_crate m n said =
       let s : List ℕ = value.now in
       let p : List ℕ = stores.0.now in
@@ -183,49 +188,49 @@ module _ (value : _) (asn_length : _) (stores : _) (κs : _) (answer : _) (exit 
         lax.1.1 ∙ ap (λ (r : Reading Segment). numbers_after s r (length p) q) same ∙ sym strict.1.1,
       )
 
-  module _ (m n : ℕ) (accepted : answer' ≡ Path m n) (items : List (List ℕ)) (cut : Cut Crate asn_length value.now items) where
+  module _ (m n : ℕ) (accepted : answer' ≡ Ok (path_with m n)) (items : List (List ℕ)) (cut : Cut Crate asn_length value.now items) where
     read_short : length value.now ≤ list_limit
     read_short = (read_path value.now _ m n _ _ (sym lax.0 ∙ accepted)).0
 
-    pub empty_is_refused : Some Empty items → answer ≡ Refused empty_segment
+    pub empty_is_refused : Some Empty items → answer ≡ Err EmptySegment
     empty_is_refused some = strict.0 ∙ empty_read (width_of asn_length) value.now read_short items cut _ _ some
 
-    pub refused_is_empty : (k : ℕ) → answer ≡ Refused k → Some Empty items × (k ≡ empty_segment)
+    pub refused_is_empty : (k : Refusal) → answer ≡ Err k → Some Empty items × (k ≡ EmptySegment)
     refused_is_empty k said = read_empty (width_of asn_length) value.now read_short items cut _ _ m n k (sym lax.0 ∙ accepted) (sym strict.0 ∙ said)
 
 -- counting
 module _ (value : _) (asn_length : _) (κs : _) (answer : _) (exit : _) (strict : count_as_path.Learnt κs (value, (asn_length, (Strict, tt))) answer exit)
     (κs' : _) (answer' : _) (exit' : _) (lax : count_as_path.Learnt κs' (value, (asn_length, (Crate, tt))) answer' exit') where
-  pub strict_count_is_crate : (m n : ℕ) → answer ≡ Path m n → answer' ≡ Path m n
+  pub strict_count_is_crate : (m n : ℕ) → answer ≡ Ok (path_with m n) → answer' ≡ Ok (path_with m n)
   strict_count_is_crate m n said =
       lax ∙ ap (count_answer value.now) (counted_alike Strict (width_of asn_length) value.now m n (sym strict ∙ said)) ∙ sym strict ∙ said
 
-  module _ (m n : ℕ) (accepted : answer' ≡ Path m n) (items : List (List ℕ)) (cut : Cut Crate asn_length value.now items) where
+  module _ (m n : ℕ) (accepted : answer' ≡ Ok (path_with m n)) (items : List (List ℕ)) (cut : Cut Crate asn_length value.now items) where
     count_short : length value.now ≤ list_limit
     count_short = (count_path value.now _ m n (sym lax ∙ accepted)).0
 
-    pub empty_is_not_counted : Some Empty items → answer ≡ Refused empty_segment
+    pub empty_is_not_counted : Some Empty items → answer ≡ Err EmptySegment
     empty_is_not_counted some = strict ∙ empty_counted (width_of asn_length) value.now count_short items cut some
 
-    pub not_counted_is_empty : (k : ℕ) → answer ≡ Refused k → Some Empty items × (k ≡ empty_segment)
+    pub not_counted_is_empty : (k : Refusal) → answer ≡ Err k → Some Empty items × (k ≡ EmptySegment)
     not_counted_is_empty k said = counted_empty (width_of asn_length) value.now count_short items cut m n k (sym lax ∙ accepted) (sym strict ∙ said)
 
 -- writing
 module _ (lent_pairs : _) (lent_numbers : _) (asn_length : _) (out : _) (κs : _) (answer : _) (exit : _)
     (strict : encode_as_path.Learnt κs (lent_pairs, (lent_numbers, (asn_length, (Strict, out)))) answer exit)
     (κs' : _) (answer' : _) (exit' : _) (lax : encode_as_path.Learnt κs' (lent_pairs, (lent_numbers, (asn_length, (Crate, out)))) answer' exit') where
-  pub strict_writes_as_crate : (n : ℕ) → answer ≡ W.Bytes n → (answer' ≡ W.Bytes n) × (output exit' ≡ output exit)
+  pub strict_writes_as_crate : (n : ℕ) → answer ≡ Ok n → (answer' ≡ Ok n) × (output exit' ≡ output exit)
   strict_writes_as_crate n said =
       let c = by_crate_lem κs (lent_pairs, (lent_numbers, (asn_length, (Strict, out)))) answer exit strict n said in
       (lax.0 ∙ c.0, lax.1 ∙ c.1)
 
-  module _ (n : ℕ) (accepted : answer' ≡ W.Bytes n) where
+  module _ (n : ℕ) (accepted : answer' ≡ Ok n) where
     -- the segments that are lent
     abbrev segments : List Segment
     segments = (lent_path (rule_of Crate) (width_of asn_length) lent_pairs.now lent_numbers.now).rows
 
-    pub empty_is_not_written : Some NoNumbers segments → answer ≡ W.Refused empty_segment
+    pub empty_is_not_written : Some NoNumbers segments → answer ≡ Err EmptySegment
     empty_is_not_written some = strict.0 ∙ empty_written (width_of asn_length) lent_pairs.now lent_numbers.now (length out.0.now) n (sym lax.0 ∙ accepted) some
 
-    pub not_written_is_empty : (k : ℕ) → answer ≡ W.Refused k → Some NoNumbers segments × (k ≡ empty_segment)
+    pub not_written_is_empty : (k : Refusal) → answer ≡ Err k → Some NoNumbers segments × (k ≡ EmptySegment)
     not_written_is_empty k said = written_empty (width_of asn_length) lent_pairs.now lent_numbers.now (length out.0.now) n (sym lax.0 ∙ accepted) k (sym strict.0 ∙ said)

@@ -3,6 +3,7 @@
 use Rattle.std.specs.Prelude.{ℕ, ◌+◌, ◌≡◌, refl, List, [], ◌∷◌}
 use Rattle.wire.specs.Number.{be_at}
 use Rattle.wire.specs.Refusal.{truncated, prefix_length, one_byte_section, segment_type}
+use Rattle.wire.specs.Verdict.{verdict_number}
 use Rattle.wire.specs.Walk.{Reading, read_all, walk}
 use Rattle.families.specs.Family.{max_of}
 use Rattle.routes.specs.Prefix.{word_at, row_of, item_row, prefix_of}
@@ -22,14 +23,15 @@ pub data Example : Type 0 where
   section : AddPath → List ℕ → List Row → ℕ → Example
   path : AsnLength → List ℕ → List Segment → ℕ → Example
 
-abbrev pub reads : {A : Type 0} → List A → ℕ → Reading A
-reads rows number = record { rows = rows; verdict = number }
+pub record Reads {A : Type 0} (reading : Reading A) (rows : List A) (number : ℕ) : Type 0 where
+  pub rows : reading.rows ≡ rows
+  pub number : verdict_number reading.verdict ≡ number
 
 -- the items before a refusal are those rows, and the refusal is that number, 0 where there is none
 abbrev pub Holds : Example → Type 0
-Holds (list mode s rows number) = list_of s (max_of Ipv4) mode ≡ reads rows number
-Holds (section mode s rows number) = section_of s (max_of Ipv4) mode ≡ reads rows number
-Holds (path width s segments number) = path_of known_type (width_of width) s ≡ reads segments number
+Holds (list mode s rows number) = Reads (list_of s (max_of Ipv4) mode) rows number
+Holds (section mode s rows number) = Reads (section_of s (max_of Ipv4) mode) rows number
+Holds (path width s segments number) = Reads (path_of known_type (width_of width) s) segments number
 
 abbrev pub AllHold : List Example → Type 0
 AllHold [] = Unit
@@ -72,4 +74,4 @@ table =
 -- every example of the table holds
 pub starred : AllHold table
 unfolding list_by section_by step_by in_form guess_form prefix_of item_row row_of word_at be_at read_all walk path_of segment_of segment_at numbers_of type_fault span
-starred = (refl, (refl, (refl, (refl, (refl, (refl, (refl, (refl, (refl, (refl, (refl, (refl, (refl, tt)))))))))))))
+starred = (e, (e, (e, (e, (e, (e, (e, (e, (e, (e, (e, (e, (e, tt)))))))))))))

@@ -1,6 +1,6 @@
 -- Written and read again, of the calls themselves: what a writer wrote is read as what it was given, a message whatever follows it; and what keeps
 -- the limits is written, given room, so that no writer refuses too much.
-use Rattle.std.specs.Prelude.{ℕ, ◌+◌, ◌/◌, ◌^◌, ◌≤◌, ◌<◌, ◌≡◌, true, false, take, ltb}
+use Rattle.std.specs.Prelude.{ℕ, ◌+◌, ◌/◌, ◌^◌, ◌≤◌, ◌<◌, ◌≡◌, true, false, take, ltb, Result, Ok}
 use Rattle.std.proofs.Math.Path.{sym, ap}
 use Rattle.std.proofs.Common.{ap₂, ◌∙◌, arith}
 use mathlib.Core.List.{List, ◌++◌}
@@ -9,15 +9,15 @@ use Rattle.wire.specs.Number.{Words}
 use Rattle.wire.specs.Extent.{within}
 use Rattle.wire.specs.Refusal.{list_limit, body_limit}
 use Rattle.wire.specs.Store.{laid}
-use Rattle.wire.specs.declared.WriteAnswer.TheVariants.{Bytes}
+use Rattle.wire.specs.Verdict.{fine}
+use Rattle.wire.specs.declared.refusal.Refusal.{Refusal}
 use Rattle.wire.proofs.AnswerLaws.{limited_fits}
 use Rattle.wire.proofs.AnswerLaws.{written_front}
-use Rattle.messages.specs.Header.{open_kind, route_refresh_kind, header_size, limit_of, least_length, most_length, message_of, strict_of, body_at}
+use Rattle.messages.specs.Header.{open_kind, route_refresh_kind, kind_named, header_size, limit_of, least_length, most_length, message_of, strict_of, body_at}
 use Rattle.messages.specs.Written.{message_bytes, write_message}
 use Rattle.messages.specs.declared.Edition.{Edition}
 use Rattle.messages.specs.declared.Edition.TheVariants.{Rfc8654}
-use Rattle.messages.specs.declared.MessageAnswer.{MessageAnswer}
-use Rattle.messages.specs.declared.MessageAnswer.TheVariants.{Message}
+use Rattle.messages.specs.declared.Message.{Message}
 use Rattle.messages.proofs.WrittenLaws.{most_small, written_fit, fit_written, message_front}
 use Rattle.messages.proofs.Framing.{Framed, written_accepted, written_whole}
 use Rattle.messages.proofs.encode_bgp_message.Reads as encode_bgp_message
@@ -30,17 +30,14 @@ use Rattle.families.specs.declared.Afi.TheVariants.{Ipv4}
 use Rattle.families.specs.declared.AddPath.{AddPath}
 use Rattle.families.specs.declared.Form.{Form}
 use Rattle.routes.specs.List.{fixed, hosts_of}
-use Rattle.routes.specs.Promises.{with_hosts}
-use Rattle.routes.specs.declared.ListAnswer.TheVariants.{Rows}
-use Rattle.routes.specs.declared.RoutesAnswer.{RoutesAnswer}
+use Rattle.routes.specs.declared.Routes.{Routes}
 use Rattle.route_bytes.specs.Encode.{writing, bytes_of}
 use Rattle.route_writer.specs.Promises.{write_answer}
 use Rattle.route_writer.proofs.encode_nlri_prefixes.Reads as encode_nlri_prefixes
 use Rattle.updates.specs.Body.{parts_of, withdrawn_of, attributes_of, announced_of}
 use Rattle.updates.specs.Update.{count_update, read_update, withdrawn_after, announced_after}
-use Rattle.updates.specs.declared.PartsAnswer.TheVariants.{Parts}
-use Rattle.updates.specs.declared.UpdateAnswer.{UpdateAnswer}
-use Rattle.updates.specs.declared.UpdateAnswer.TheVariants.{Update}
+use Rattle.updates.specs.declared.Parts.{Parts}
+use Rattle.updates.specs.declared.Update.{Update}
 use Rattle.updates.proofs.BodyLaws.{holds_withdrawn, holds_attributes, holds_announced}
 use Rattle.updates.proofs.update_parts.Reads as update_parts
 use Rattle.updates.proofs.withdrawn_part.Reads as withdrawn_part
@@ -55,7 +52,7 @@ use Rattle.update_writer.proofs.encode_bgp_update_message.Reads as encode_bgp_up
 use Rattle.asns.specs.Asn.{width_of}
 use Rattle.asns.specs.Aggregator.{unlike, aggregator_of, aggregator_bytes, aggregator_written, aggregator_left}
 use Rattle.asns.specs.declared.AsnLength.{AsnLength}
-use Rattle.asns.specs.declared.AggregatorAnswer.TheVariants.{Aggregator}
+use Rattle.asns.specs.declared.Aggregator.{Aggregator}
 use Rattle.asns.proofs.AggregatorLaws.{bytes_length}
 use Rattle.asns.proofs.RoundTrip as Aggregators
 use Rattle.asns.proofs.encode_aggregator.Reads as encode_aggregator
@@ -83,16 +80,16 @@ module _ (κs : _) (given : _) (answer : _) (exit : _) (call : encode_bgp_messag
 
   -- a known type and a length that the type allows are written, given room
   pub message_is_written : open_kind ≤ kind → kind ≤ route_refresh_kind → least_length kind ≤ header_size + length body → header_size + length body ≤ most_length kind
-      → header_size + length body ≤ length out → answer ≡ Bytes (header_size + length body)
+      → header_size + length body ≤ length out → answer ≡ Ok (header_size + length body)
   message_is_written low high least most room = call.0 ∙ fit_written kind body (length out) low high least most room
 
   -- what it wrote, and any bytes after it
-  module _ (n : ℕ) (wrote : answer ≡ Bytes n) (rest : List ℕ) where
+  module _ (n : ℕ) (wrote : answer ≡ Ok n) (rest : List ℕ) where
     -- the answer of a reading: that type, all of what was written, and no flag but that bytes follow
-    abbrev again : MessageAnswer
-    again = Message kind n n false false (ltb 0 (length rest))
+    abbrev again : Result Message Refusal
+    again = Ok (record { kind = kind_named kind; claimed = n; taken = n; marker = false; cut = false; trailing = ltb 0 (length rest) })
 
-    written : write_message kind body (length out) ≡ Bytes n
+    written : write_message kind body (length out) ≡ Ok n
     written = sym call.0 ∙ wrote
 
     size : n ≡ header_size + length body
@@ -108,7 +105,7 @@ module _ (κs : _) (given : _) (answer : _) (exit : _) (call : encode_bgp_messag
         read
         ∙ ap message_of (bytes given'.0.now same)
         ∙ (written_accepted kind body rest (length out) n written).same
-        ∙ ap (λ (m : ℕ). Message kind m m false false (ltb 0 (length rest))) (sym size)
+        ∙ ap (λ (m : ℕ). Ok (record { kind = kind_named kind; claimed = m; taken = m; marker = false; cut = false; trailing = ltb 0 (length rest) })) (sym size)
 
     pub body_again : (κs' : _) (given' : _) (part : _) (exit' : _) → message_body.Learnt κs' given' part exit' → given'.0.now ≡ take n left ++ rest → part.now ≡ body
     body_again κs' given' part exit' read same =
@@ -127,7 +124,7 @@ module _ (κs : _) (given : _) (answer : _) (exit : _) (call : encode_bgp_messag
       pub strict_message_again : (κs' : _) (s : _) (answer' : _) (exit' : _) → parse_bgp_message_strict.Learnt κs' (s, (edition, tt)) answer' exit' → s.now ≡ take n left ++ rest
           → answer' ≡ again
       strict_message_again κs' s answer' exit' read same =
-          read ∙ ap (strict_of edition) (bytes s.now same) ∙ framed.same ∙ ap (λ (m : ℕ). Message kind m m false false (ltb 0 (length rest))) (sym size)
+          read ∙ ap (strict_of edition) (bytes s.now same) ∙ framed.same ∙ ap (λ (m : ℕ). Ok (record { kind = kind_named kind; claimed = m; taken = m; marker = false; cut = false; trailing = ltb 0 (length rest) })) (sym size)
 
       pub strict_body_again : (κs' : _) (s : _) (part : _) (exit' : _) → message_body_strict.Learnt κs' (s, (edition, tt)) part exit' → s.now ≡ take n left ++ rest → part.now ≡ body
       strict_body_again κs' s part exit' read same =
@@ -166,17 +163,17 @@ module _ (κs : _) (given : _) (answer : _) (exit : _) (call : encode_bgp_update
   total = body_size (length withdrawn_bytes) (length attributes) (length announced_bytes)
 
   -- two lists that can be written, in sections that keep the limits, are written, given room
-  pub update_is_written : (writing withdrawn (max_of Ipv4) form).verdict ≡ 0 → (writing announced (max_of Ipv4) form).verdict ≡ 0
-      → length withdrawn_bytes ≤ list_limit → length attributes ≤ list_limit → total ≤ body_limit → total ≤ length out_body → answer ≡ Bytes total
+  pub update_is_written : (writing withdrawn (max_of Ipv4) form).verdict ≡ fine → (writing announced (max_of Ipv4) form).verdict ≡ fine
+      → length withdrawn_bytes ≤ list_limit → length attributes ≤ list_limit → total ≤ body_limit → total ≤ length out_body → answer ≡ Ok total
   update_is_written good good' low middle whole room =
       call.0 ∙ Bodies.fit_written withdrawn attributes announced form (length out_body) good good' (record { low = low; middle = middle; whole = whole; room = room })
 
   -- what it wrote
-  module _ (n : ℕ) (wrote : answer ≡ Bytes n) where
+  module _ (n : ℕ) (wrote : answer ≡ Ok n) where
     abbrev update_body : List ℕ
     update_body = body_bytes withdrawn attributes announced form
 
-    wrote_body : body_answer withdrawn attributes announced form (length out_body) ≡ Bytes n
+    wrote_body : body_answer withdrawn attributes announced form (length out_body) ≡ Ok n
     wrote_body = sym call.0 ∙ wrote
 
     reads : Reads withdrawn_bytes attributes announced_bytes update_body
@@ -187,7 +184,7 @@ module _ (κs : _) (given : _) (answer : _) (exit : _) (call : encode_bgp_update
 
     -- its sections are the bytes of the withdrawn rows, the attributes, and the bytes of the announced rows
     pub parts_again : (κs' : _) (given' : _) (answer' : _) (exit' : _) → update_parts.Learnt κs' given' answer' exit' → given'.0.now ≡ take n left_body
-        → answer' ≡ Parts (length withdrawn_bytes) (length attributes) (length announced_bytes)
+        → answer' ≡ Ok (record { withdrawn = length withdrawn_bytes; attributes = length attributes; announced = length announced_bytes })
     parts_again κs' given' answer' exit' read same = read ∙ ap parts_of (body_read given'.0.now same) ∙ reads.parts
 
     pub withdrawn_part_again : (κs' : _) (given' : _) (part : _) (exit' : _) → withdrawn_part.Learnt κs' given' part exit' → given'.0.now ≡ take n left_body → part.now ≡ withdrawn_bytes
@@ -201,11 +198,11 @@ module _ (κs : _) (given : _) (answer : _) (exit : _) (call : encode_bgp_update
 
     -- its rows are those that were written, under the setting of their form, and those of their bytes have a host bit; six numbers are a row
     module _ (wide : Words withdrawn) (wide' : Words announced) where
-      abbrev rows_of : List ℕ → List ℕ → RoutesAnswer
-      rows_of ws bytes = with_hosts (Rows (length ws / 6)) (hosts_of bytes (max_of Ipv4) (fixed form))
+      abbrev rows_of : List ℕ → List ℕ → Result Routes Refusal
+      rows_of ws bytes = Ok (record { rows = length ws / 6; hosts = hosts_of bytes (max_of Ipv4) (fixed form) })
 
-      abbrev counts : UpdateAnswer
-      counts = Update (rows_of withdrawn withdrawn_bytes) (rows_of announced announced_bytes)
+      abbrev counts : Result Update Refusal
+      counts = Ok (record { withdrawn = rows_of withdrawn withdrawn_bytes; announced = rows_of announced announced_bytes })
 
       pub update_counted_again : (κs' : _) (given' : _) (answer' : _) (exit' : _) → count_bgp_update_message.Learnt κs' given' answer' exit'
           → given'.0.now ≡ take n left_body → given'.1.0 ≡ fixed form → answer' ≡ counts
@@ -227,14 +224,14 @@ module _ (κs : _) (given : _) (answer : _) (exit : _) (call : encode_bgp_update
         pub withdrawn_rows_again : exit'.1.1.0.now ≡ laid given'.1.1.0.now 0 withdrawn
         withdrawn_rows_again =
             read.1.0
-            ∙ ap (λ (u : UpdateAnswer). withdrawn_after u given'.0.now given'.1.0 given'.1.1.0.now) update_read_again
+            ∙ ap (λ (u : Result Update Refusal). withdrawn_after u given'.0.now given'.1.0 given'.1.1.0.now) update_read_again
             ∙ ap₂ (λ (b : List ℕ) (m : AddPath). withdrawn_after counts b m given'.1.1.0.now) (body_read given'.0.now same) setting
             ∙ ap (laid given'.1.1.0.now 0) (Bodies.withdrawn_again withdrawn attributes announced form (length out_body) n wrote_body wide wide')
 
         pub announced_rows_again : exit'.1.1.1.0.now ≡ laid given'.1.1.1.0.now 0 announced
         announced_rows_again =
             read.1.1
-            ∙ ap (λ (u : UpdateAnswer). announced_after u given'.0.now given'.1.0 given'.1.1.1.0.now) update_read_again
+            ∙ ap (λ (u : Result Update Refusal). announced_after u given'.0.now given'.1.0 given'.1.1.1.0.now) update_read_again
             ∙ ap₂ (λ (b : List ℕ) (m : AddPath). announced_after counts b m given'.1.1.1.0.now) (body_read given'.0.now same) setting
             ∙ ap (laid given'.1.1.1.0.now 0) (Bodies.announced_again withdrawn attributes announced form (length out_body) n wrote_body wide wide')
 
@@ -258,16 +255,16 @@ module _ (κs : _) (given : _) (answer : _) (exit : _) (call : encode_aggregator
   left_aggregator = exit.1.1.1.0.now
 
   -- a number that the width holds is written, given room
-  pub aggregator_is_written : asn < 256 ^ width_of width → width_of width + 4 ≤ length out_aggregator → answer ≡ Bytes (width_of width + 4)
+  pub aggregator_is_written : asn < 256 ^ width_of width → width_of width + 4 ≤ length out_aggregator → answer ≡ Ok (width_of width + 4)
   aggregator_is_written fits room = call.0 ∙ Aggregators.fits_written asn identifier width (length out_aggregator) fits room
 
   -- what it wrote is read as the number and the identifier, with the flag exactly if another width is configured
-  pub aggregator_again : (n : ℕ) → answer ≡ Bytes n → identifier < 2 ^ 32
+  pub aggregator_again : (n : ℕ) → answer ≡ Ok n → identifier < 2 ^ 32
       → (κs' : _) (given' : _) (answer' : _) (exit' : _) → parse_aggregator.Learnt κs' given' answer' exit' → given'.0.now ≡ take n left_aggregator
-      → answer' ≡ Aggregator asn identifier (unlike width given'.1.0)
+      → answer' ≡ Ok (record { asn = asn; identifier = identifier; differs = unlike width given'.1.0 })
   unfolding aggregator_left
   aggregator_again n wrote small κs' given' answer' exit' read same =
-      let e : aggregator_written asn identifier width (length out_aggregator) ≡ Bytes n = sym call.0 ∙ wrote in
+      let e : aggregator_written asn identifier width (length out_aggregator) ≡ Ok n = sym call.0 ∙ wrote in
       let fit = Aggregators.written_fits asn identifier width (length out_aggregator) n e in
       let size : length (aggregator_bytes width asn identifier) ≡ n = bytes_length asn identifier width ∙ sym fit.1 in
       let bytes : given'.0.now ≡ aggregator_bytes width asn identifier =
@@ -285,8 +282,8 @@ module _ (κs : _) (given : _) (answer : _) (exit : _) (call : encode_nlri_prefi
   list_bytes = bytes_of rows (max_of given.1.0) given.1.1.0
 
   -- rows that can be written, of up to 65,535 bytes, are written, given room
-  pub list_is_written : (writing rows (max_of given.1.0) given.1.1.0).verdict ≡ 0 → length list_bytes ≤ list_limit → length list_bytes ≤ length given.1.1.1.0.now
-      → answer ≡ Bytes (length list_bytes)
+  pub list_is_written : (writing rows (max_of given.1.0) given.1.1.0).verdict ≡ fine → length list_bytes ≤ list_limit → length list_bytes ≤ length given.1.1.1.0.now
+      → answer ≡ Ok (length list_bytes)
   unfolding write_answer
   list_is_written good short room = call.0 ∙ rw good (limited_fits list_limit (length list_bytes) (length given.1.1.1.0.now) short room)
 
@@ -308,7 +305,7 @@ module _ (κs : _) (given : _) (answer : _) (exit : _) (call : encode_as_path.Le
   path_size = length (Paths.lent_bytes path_rule number_size pairs numbers)
 
   -- whole pairs whose counts use up the numbers, in segments that can be written, of up to 65,535 bytes, are written, given room
-  pub path_is_written : adds_up pairs (length numbers) ≡ true → (lent_path path_rule number_size pairs numbers).verdict ≡ 0 → path_size ≤ list_limit
-      → path_size ≤ length given.1.1.1.1.0.now → answer ≡ Bytes path_size
+  pub path_is_written : adds_up pairs (length numbers) ≡ true → (lent_path path_rule number_size pairs numbers).verdict ≡ fine → path_size ≤ list_limit
+      → path_size ≤ length given.1.1.1.1.0.now → answer ≡ Ok path_size
   unfolding Paths.encode_answer
   path_is_written whole good short room = call.0 ∙ rw (whole, good) (limited_fits list_limit path_size (length given.1.1.1.1.0.now) short room)
