@@ -1,10 +1,13 @@
 -- Every number and every order of two checks that documents 01 and 02 fix, and the lister's case, as one table over the definitions with one claim: definition and code
 -- cannot be changed to the same wrong number. A line holds what the definitions say of an input to what the documents say.
 -- Assumes nothing.
-use Rattle.std.specs.Prelude.{ℕ, ◌+◌, ◌-◌, ◌*◌, ◌≡◌, refl, List, [], ◌∷◌, ◌++◌, map, Bool, true, false, ◌&&◌, length, get_or, replicate, eqb}
-use Rattle.wire.specs.Answer.{Answer, given, refusal, number_in, value_in, write_meaning, limited}
+use Rattle.std.specs.Prelude.{ℕ, ◌+◌, ◌-◌, ◌*◌, ◌≡◌, refl, List, [], ◌∷◌, ◌++◌, map, Bool, true, false, ◌&&◌, length, get_or, replicate, eqb, Option, Some, None, Result, Ok, Err}
+use Rattle.wire.specs.Answer.{Answer, given, refusal, number_in, value_in, count_meaning, limited}
 use Rattle.wire.specs.Number.{be, be_at, to_be}
 use Rattle.wire.specs.Refusal as refusals
+use Rattle.wire.specs.Verdict.{fine}
+use Rattle.wire.specs.declared.refusal.Refusal.{Refusal}
+use Rattle.wire.specs.declared.refusal.Refusal.TheVariants as R
 use Rattle.wire.specs.Walk.{read_all, walk, flat, tally, notes, starts}
 use Rattle.families.specs.Family.{max_of, id_size, mark_of, guessed, guess_mark, octets, mode_of}
 use Rattle.families.specs.Octets.{table_of, entry}
@@ -17,14 +20,14 @@ use Rattle.families.specs.declared.AddPath.TheVariants.{On, Off, Guess}
 use Rattle.routes.specs.Prefix.{words, word_at, row_of, item_row, prefix_of, host_bits, route_of, route_meaning}
 use Rattle.routes.specs.List.{up_to, in_form, guess_form, step_by, list_by, hosts_by, section_by, list_of, section_of}
 use Rattle.routes.specs.Promises as routes
-use Rattle.routes.specs.Promises.{list_meaning, with_hosts, count_list, count_section, read_list, routes_meaning}
+use Rattle.routes.specs.Promises.{with_hosts, count_list, count_section, read_list, routes_meaning}
 use Rattle.route_bytes.specs.Encode.{four_words, row_bytes, all_zero, writable, front_row, write_step, writing, bytes_of}
 use Rattle.route_bytes.specs.Promises.{measured}
 use Rattle.route_marks.specs.Marks.{cleared_from}
 use Rattle.route_marks.specs.Marks as marks
 use Rattle.route_marks.specs.Promises.{clear_answer, clear_after}
 use Rattle.route_index.specs.Index.{sixteenths, index_by, is_index, route_from, route_by}
-use Rattle.route_index.specs.Promises.{index_meaning, count_index, build_index}
+use Rattle.route_index.specs.Promises.{count_index, build_index}
 use Rattle.route_writer.specs.Promises as route_writer
 use Rattle.asns.specs.Asn.{width_of, span}
 use Rattle.asns.specs.Aggregator.{aggregator_meaning, aggregator_of, aggregator_bytes, aggregator_written}
@@ -44,14 +47,13 @@ use Rattle.as4.specs.Standing as as4
 use Rattle.as4.specs.Standing.{as_trans, size_fault, ignored, standing_meaning}
 use Rattle.as4.specs.Merge as Merge
 use Rattle.as4.specs.Promises.{fault_of, both_of, built_of, merge_answer}
-use Rattle.messages.specs.Header.{marker_size, header_size, message_limit, extended_limit, least_length, most_length, crate_limit, is_outside, is_unknown, all_ff, message_meaning, message_of, limit_of, strict_within, strict_of}
+use Rattle.messages.specs.Header.{kind_named, kind_read, marker_size, header_size, message_limit, extended_limit, least_length, most_length, crate_limit, is_outside, is_unknown, all_ff, message_meaning, message_of, limit_of, strict_within, strict_of}
 use Rattle.messages.specs.Written as message_writer
 use Rattle.attributes.specs.Attribute.{is_extended, length_size, head_size, attribute_front, attribute_of}
 use Rattle.attributes.specs.Attribute as attribute
 use Rattle.attributes.specs.Promises.{attribute_meaning, standing, attribute_at, first_of, count_of, verdict_of, judged, find_answer}
-use Rattle.attributes.specs.declared.AttributeAnswer.TheVariants as A
 use Rattle.updates.specs.Body.{parts_meaning, parts_of, withdrawn_of, announced_of}
-use Rattle.updates.specs.Update.{count_update}
+use Rattle.updates.specs.Update.{update_of, count_update}
 use Rattle.update_writer.specs.Body.{body_sized, body_answer}
 use Rattle.slots.specs.Slot.{mark_first, mark_second, record_size, settings_limit, found, slot_of}
 use Rattle.slots.specs.declared.SlotAnswer.TheVariants.{Slot, More, Stop, End}
@@ -62,9 +64,7 @@ use Rattle.words.specs.Word.{fields, in_fields, word_of}
 use Rattle.firmware.specs.Fields.{message_fields, update_fields, host_fields, reach_fields, cleared_fields, slot_fields, attribute_fields, version_fields, aggregator_size, row_words, index_spacing, index_places, pair_words, kept_limit, body_rows}
 use Rattle.messages.specs.declared.Edition.{Edition}
 use Rattle.messages.specs.declared.Edition.TheVariants.{Rfc4271, Rfc8654}
-use Rattle.messages.specs.declared.MessageAnswer.TheVariants.{Message}
-use Rattle.routes.specs.declared.ListAnswer.TheVariants as L
-use Rattle.updates.specs.declared.UpdateAnswer.TheVariants.{Update}
+use Rattle.messages.specs.declared.Message.{Message}
 use Rattle.words.specs.Settings.{family_of, form_of, asn_length_of, edition_of, edition_number, settings_of}
 
 -- ---- a table of numbers
@@ -110,6 +110,27 @@ refusal_numbers =
     ∷ line refusals.next_hop_length 18
     ∷ line refusals.not_an_index 19
     ∷ line refusals.no_such_route 20
+    -- and of each reason
+    ∷ line (refusals.number_of R.TooLong) 1
+    ∷ line (refusals.number_of R.Truncated) 2
+    ∷ line (refusals.number_of R.MessageLength) 3
+    ∷ line (refusals.number_of R.MessageType) 4
+    ∷ line (refusals.number_of R.ShortBody) 5
+    ∷ line (refusals.number_of R.BadMarker) 6
+    ∷ line (refusals.number_of R.PrefixLength) 7
+    ∷ line (refusals.number_of R.OneByteSection) 8
+    ∷ line (refusals.number_of R.SegmentType) 9
+    ∷ line (refusals.number_of R.AggregatorLength) 10
+    ∷ line (refusals.number_of R.NoRoom) 11
+    ∷ line (refusals.number_of R.LongSegment) 12
+    ∷ line (refusals.number_of R.WideNumber) 13
+    ∷ line (refusals.number_of R.NotWritable) 14
+    ∷ line (refusals.number_of R.RepeatedMpNlri) 15
+    ∷ line (refusals.number_of R.EmptySegment) 16
+    ∷ line (refusals.number_of R.OtherFamily) 17
+    ∷ line (refusals.number_of R.NextHopLength) 18
+    ∷ line (refusals.number_of R.NotAnIndex) 19
+    ∷ line (refusals.number_of R.NoSuchRoute) 20
     ∷ line refusals.list_limit 65535
     ∷ line refusals.body_limit 65516
     ∷ []
@@ -136,7 +157,7 @@ unmarked = by_edition Rfc4271 254
 
 -- of writing a type and a body of so many bytes
 abbrev pub written : ℕ → ℕ → ℕ → ℕ
-written kind size places = number_in (write_meaning (message_writer.write_message kind (zeros size) places))
+written kind size places = number_in (count_meaning (message_writer.write_message kind (zeros size) places))
 
 abbrev pub headers : List Line
 headers =
@@ -258,7 +279,7 @@ abbrev pub body : List ℕ → ℕ
 body b = number_in (parts_meaning (parts_of b))
 
 abbrev pub body_written : List ℕ → ℕ → List ℕ → ℕ → ℕ
-body_written withdrawn attributes announced places = number_in (write_meaning (body_answer withdrawn (zeros attributes) announced Plain places))
+body_written withdrawn attributes announced places = number_in (count_meaning (body_answer withdrawn (zeros attributes) announced Plain places))
 
 abbrev pub bodies : List Line
 bodies =
@@ -295,17 +316,17 @@ abbrev pub route : Afi → Form → List ℕ → ℕ
 route family form s = number_in (route_meaning (route_of s (max_of family) form))
 
 abbrev pub list : AddPath → List ℕ → ℕ
-list setting s = number_in (list_meaning (routes.count_answer s (list_of s (max_of Ipv4) setting)))
+list setting s = number_in (count_meaning (routes.count_answer s (list_of s (max_of Ipv4) setting)))
 
 abbrev pub section : AddPath → List ℕ → ℕ
-section setting s = number_in (list_meaning (routes.count_answer s (section_of s (max_of Ipv4) setting)))
+section setting s = number_in (count_meaning (routes.count_answer s (section_of s (max_of Ipv4) setting)))
 
 abbrev pub list_into : List ℕ → ℕ → ℕ
-list_into s places = number_in (list_meaning (routes.read_answer s (list_of s (max_of Ipv4) Off) places))
+list_into s places = number_in (count_meaning (routes.read_answer s (list_of s (max_of Ipv4) Off) places))
 
 -- of writing rows in a form into so many places
 abbrev pub list_written : Form → List ℕ → ℕ → ℕ
-list_written form rows places = number_in (write_meaning (route_writer.write_answer rows (max_of Ipv4) form places))
+list_written form rows places = number_in (count_meaning (route_writer.write_answer rows (max_of Ipv4) form places))
 
 abbrev pub lists : List Line
 lists =
@@ -378,13 +399,13 @@ abbrev pub path_into : List ℕ → ℕ → ℕ → ℕ
 path_into s pairs numbers = number_in (path_meaning (paths.read_answer s (path_of known_type 2 s) pairs numbers))
 
 abbrev pub path_written : AsnLength → List ℕ → List ℕ → ℕ → ℕ
-path_written width pairs numbers places = number_in (write_meaning (path_writer.encode_answer known_type (width_of width) pairs numbers places))
+path_written width pairs numbers places = number_in (count_meaning (path_writer.encode_answer known_type (width_of width) pairs numbers places))
 
 abbrev pub aggregator : List ℕ → ℕ
 aggregator value = number_in (aggregator_meaning (aggregator_of value Bits16))
 
 abbrev pub aggregator_into : AsnLength → ℕ → ℕ → ℕ
-aggregator_into width asn places = number_in (write_meaning (aggregator_written asn 0 width places))
+aggregator_into width asn places = number_in (count_meaning (aggregator_written asn 0 width places))
 
 abbrev pub paths_and_aggregators : List Line
 paths_and_aggregators =
@@ -548,14 +569,14 @@ abbrev pub strict_path_into : List ℕ → ℕ → ℕ → ℕ
 strict_path_into s pairs numbers = number_in (path_meaning (paths.read_answer s (path_of (rule_of Strict) 2 s) pairs numbers))
 
 abbrev pub strict_written : List ℕ → List ℕ → ℕ → ℕ
-strict_written pairs numbers places = number_in (write_meaning (path_writer.encode_answer (rule_of Strict) 2 pairs numbers places))
+strict_written pairs numbers places = number_in (count_meaning (path_writer.encode_answer (rule_of Strict) 2 pairs numbers places))
 
 -- and by the crate's rule, as a call has it
 abbrev pub crate_path : List ℕ → ℕ
 crate_path s = number_in (path_meaning (paths.count_answer s (path_of (rule_of Crate) 2 s)))
 
 abbrev pub crate_written : List ℕ → List ℕ → ℕ → ℕ
-crate_written pairs numbers places = number_in (write_meaning (path_writer.encode_answer (rule_of Crate) 2 pairs numbers places))
+crate_written pairs numbers places = number_in (count_meaning (path_writer.encode_answer (rule_of Crate) 2 pairs numbers places))
 
 abbrev pub empty_segments : List Line
 empty_segments =
@@ -778,7 +799,7 @@ first_word setting s i = get_or (flat words (list_of s (max_of Ipv4) setting).ro
 
 -- rows, and 65,536 times the refusal number, of taking the marks off a store; and a place of it afterwards
 abbrev pub cleared_rows : ℕ → ℕ
-cleared_rows places = let a = list_meaning (clear_answer places) in value_in 0 a + 65536 * number_in a
+cleared_rows places = let a = count_meaning (clear_answer places) in value_in 0 a + 65536 * number_in a
 
 abbrev pub cleared_place : List ℕ → ℕ → ℕ
 cleared_place ws i = get_or (clear_after ws) i 0
@@ -832,14 +853,19 @@ guessed_ids =
 
 abbrev pub limits : List Line
 limits =
-    line (number_in (write_meaning (limited refusals.list_limit 65534 65534))) 0
-    ∷ line (number_in (write_meaning (limited refusals.list_limit 65535 65535))) 0
-    ∷ line (number_in (write_meaning (limited refusals.list_limit 65535 65534))) 11
-    ∷ line (number_in (write_meaning (limited refusals.list_limit 65536 0))) 1
-    ∷ line (number_in (write_meaning (limited refusals.list_limit 65536 70000))) 1
+    line (number_in (count_meaning (limited refusals.list_limit 65534 65534))) 0
+    ∷ line (number_in (count_meaning (limited refusals.list_limit 65535 65535))) 0
+    ∷ line (number_in (count_meaning (limited refusals.list_limit 65535 65534))) 11
+    ∷ line (number_in (count_meaning (limited refusals.list_limit 65536 0))) 1
+    ∷ line (number_in (count_meaning (limited refusals.list_limit 65536 70000))) 1
     ∷ []
 
 -- ---- the settings of a slot and of a C call, and C's words
+
+-- a message of a type
+abbrev pub message : ℕ → ℕ → ℕ → Bool → Bool → Bool → Result Message Refusal
+message kind claimed taken marker cut trailing =
+    Ok (record { kind = kind_named kind; claimed = claimed; taken = taken; marker = marker; cut = cut; trailing = trailing })
 
 abbrev pub settings : List Line
 settings =
@@ -880,18 +906,18 @@ settings =
     ∷ line (word_of (fields 0 0 1 0)) 0x100000000
     ∷ line (word_of (fields 0 0 0 1)) 0x1000000000000
     -- a message: claimed, taken, and the type with the flags 1 marker, 2 cut, 4 trailing above it
-    ∷ line (word_of (message_fields (Message 2 19 23 false false false))) 0x200170013
-    ∷ line (word_of (message_fields (Message 2 0 0 true false false))) 0x10200000000
-    ∷ line (word_of (message_fields (Message 2 0 0 false true false))) 0x20200000000
-    ∷ line (word_of (message_fields (Message 2 0 0 false false true))) 0x40200000000
+    ∷ line (word_of (message_fields (message 2 19 23 false false false))) 0x200170013
+    ∷ line (word_of (message_fields (message 2 0 0 true false false))) 0x10200000000
+    ∷ line (word_of (message_fields (message 2 0 0 false true false))) 0x20200000000
+    ∷ line (word_of (message_fields (message 2 0 0 false false true))) 0x40200000000
     -- an UPDATE: the rows of both sections, and the verdict of the announced one above that of the withdrawn one
-    ∷ line (word_of (update_fields (Update (with_hosts (L.Rows 3) 2) (with_hosts (L.Refused 7) 2)))) 0x70000000003
-    ∷ line (word_of (update_fields (Update (with_hosts (L.Refused 2) 2) (with_hosts (L.Rows 3) 2)))) 0x200030000
+    ∷ line (word_of (update_fields (update_of (with_hosts (Ok 3) 2) (with_hosts (Err R.PrefixLength) 2)))) 0x70000000003
+    ∷ line (word_of (update_fields (update_of (with_hosts (Err R.Truncated) 2) (with_hosts (Ok 3) 2)))) 0x200030000
     -- the rows with a host bit: of a list above its rows, and of an UPDATE those of both sections by themselves
-    ∷ line (word_of (in_fields (routes_meaning (with_hosts (L.Rows 3) 2)))) 0x20003
-    ∷ line (word_of (in_fields (routes_meaning (with_hosts (L.Refused 7) 2)))) 0x7000000000000
-    ∷ line (word_of (host_fields (Update (with_hosts (L.Rows 3) 2) (with_hosts (L.Rows 5) 4)))) 0x40002
-    ∷ line (word_of (host_fields (Update (with_hosts (L.Refused 7) 2) (with_hosts (L.Rows 5) 4)))) 0x40000
+    ∷ line (word_of (in_fields (routes_meaning (with_hosts (Ok 3) 2)))) 0x20003
+    ∷ line (word_of (in_fields (routes_meaning (with_hosts (Err R.PrefixLength) 2)))) 0x7000000000000
+    ∷ line (word_of (host_fields (update_of (with_hosts (Ok 3) 2) (with_hosts (Ok 5) 4)))) 0x40002
+    ∷ line (word_of (host_fields (update_of (with_hosts (Err R.PrefixLength) 2) (with_hosts (Ok 5) 4)))) 0x40000
     -- a slot: the kept bytes and the settings of a record, 0; more bytes are needed, 1; no record, 2; the end, 3
     ∷ line (word_of (slot_fields (Slot 65535 Off))) 0xFFFF
     ∷ line (word_of (slot_fields (Slot 3 On))) 0x10003
@@ -910,9 +936,9 @@ settings =
     -- the version of the calls for C
     ∷ line (word_of version_fields) 0x10002
     -- an attribute: where its value starts, its length, its type and its flags
-    ∷ line (word_of (attribute_fields (A.Attribute 0x50 2 8 3 11))) 0x500200030008
-    ∷ line (word_of (attribute_fields A.Absent)) 0
-    ∷ line (word_of (attribute_fields (A.Refused 15))) 0xF000000000000
+    ∷ line (word_of (attribute_fields (Ok (Some (record { flags = 0x50; kind = 2; start = 8; length = 3; next = 11 }))))) 0x500200030008
+    ∷ line (word_of (attribute_fields (Ok None))) 0
+    ∷ line (word_of (attribute_fields (Err R.RepeatedMpNlri))) 0xF000000000000
     -- other answers: their values in order
     ∷ line (word_of (in_fields (given (1 ∷ 2 ∷ 3 ∷ [])))) 0x300020001
     ∷ line (word_of (in_fields (refusal 11))) 0xB000000000000
@@ -1076,10 +1102,10 @@ unreach_into v places = number_in (routes_meaning (read_unreach v Off places))
 
 -- of writing rows after a next hop of so many bytes, and without one, into so many places
 abbrev pub reach_written : ℕ → List ℕ → ℕ → ℕ
-reach_written hop rows places = number_in (write_meaning (write_reach hop rows Plain places))
+reach_written hop rows places = number_in (count_meaning (write_reach hop rows Plain places))
 
 abbrev pub unreach_written : List ℕ → ℕ → ℕ
-unreach_written rows places = number_in (write_meaning (write_unreach rows Plain places))
+unreach_written rows places = number_in (count_meaning (write_unreach rows Plain places))
 
 -- 2001:db8::/32 as a row, and one that no writer takes
 abbrev pub documentation : List ℕ
@@ -1179,7 +1205,7 @@ abbrev pub index_place : Form → List ℕ → ℕ → ℕ
 index_place form s i = get_or (index_by (up_to (max_of Ipv4)) s form) i 0
 
 abbrev pub built_places : List ℕ → ℕ → ℕ
-built_places s places = let a = index_meaning (build_index (up_to (max_of Ipv4)) s Plain places) in value_in 0 a + 1000 * number_in a
+built_places s places = let a = count_meaning (build_index (up_to (max_of Ipv4)) s Plain places) in value_in 0 a + 1000 * number_in a
 
 -- 1,000 times the refusal number and the first word of route n of a list, by an index
 abbrev pub route_at : List ℕ → List ℕ → ℕ → ℕ
@@ -1253,29 +1279,29 @@ table = refusal_numbers ++ (headers ++ (bodies ++ (lists ++ (paths_and_aggregato
 
 -- every line of the table holds
 pub numbers : agree table ≡ true
-unfolding agree zeros starts sixteenths index_by is_index route_from route_by count_index build_index cleared_from clear_answer clear_after pair_fault head_of count_reach read_reach count_unreach read_unreach reach_head reach_bytes unreach_bytes route_writer.write_after write_reach table_of be_at read_all walk notes flat mode_of word_at row_of item_row prefix_of host_bits route_of hosts_by in_form guess_form step_by list_by section_by routes.count_answer routes.read_answer four_words row_bytes all_zero writable front_row write_step writing bytes_of measured route_writer.write_answer limited span aggregator_of aggregator_bytes aggregator_written type_fault numbers_of segment_at segment_of path_of paths.count_answer paths.read_answer segment_bytes adds_up all_fit write_fault lent_of lent_path path_bytes path_writer.lent_bytes path_writer.encode_answer least_length most_length crate_limit is_outside is_unknown all_ff message_of strict_within message_writer.write_message is_extended length_size head_size attribute_front attribute_of attribute.section_of standing attribute_at first_of count_of verdict_of judged find_answer parts_of withdrawn_of announced_of count_update body_sized body_answer word_of family_of form_of asn_length_of edition_of tally found slot_of digits fields_text section_text entry_of entry_text line_of stop_text heading_text lines_of ending_text size_fault as4.standing ignored Merge.kept Merge.leading Merge.joint fault_of both_of built_of
+unfolding agree zeros starts sixteenths index_by is_index route_from route_by count_index build_index cleared_from clear_answer clear_after pair_fault head_of count_reach read_reach count_unreach read_unreach reach_head reach_bytes unreach_bytes route_writer.write_after write_reach table_of be_at read_all walk notes flat mode_of word_at row_of item_row prefix_of host_bits route_of hosts_by in_form guess_form step_by list_by section_by routes.count_answer routes.read_answer four_words row_bytes all_zero writable front_row write_step writing bytes_of measured route_writer.write_answer limited span aggregator_of aggregator_bytes aggregator_written type_fault numbers_of segment_at segment_of path_of paths.count_answer paths.read_answer segment_bytes adds_up all_fit write_fault lent_of lent_path path_bytes path_writer.lent_bytes path_writer.encode_answer least_length most_length crate_limit is_outside is_unknown kind_named kind_read all_ff message_of strict_within message_writer.write_message is_extended length_size head_size attribute_front attribute_of attribute.section_of standing attribute_at first_of count_of verdict_of judged find_answer parts_of withdrawn_of announced_of count_update body_sized body_answer word_of family_of form_of asn_length_of edition_of tally found slot_of digits fields_text section_text entry_of entry_text line_of stop_text heading_text lines_of ending_text size_fault as4.standing ignored Merge.kept Merge.leading Merge.joint fault_of both_of built_of
 numbers = refl
 
 -- the limit of a list and of a path to write is of their bytes, whatever they are
-pub list_limit_lem : (rows : List ℕ) (max : ℕ) (form : Form) (places : ℕ) → (writing rows max form).verdict ≡ 0
+pub list_limit_lem : (rows : List ℕ) (max : ℕ) (form : Form) (places : ℕ) → (writing rows max form).verdict ≡ fine
     → route_writer.write_answer rows max form places ≡ limited refusals.list_limit (length (bytes_of rows max form)) places
 unfolding route_writer.write_answer
 list_limit_lem rows max form places e = rw e
 
 pub path_limit : (rule : PathRule) (width : AsnLength) (pairs numbers : List ℕ) (places : ℕ) → adds_up pairs (length numbers) ≡ true
-    → (lent_path (rule_of rule) (width_of width) pairs numbers).verdict ≡ 0
+    → (lent_path (rule_of rule) (width_of width) pairs numbers).verdict ≡ fine
     → path_writer.encode_answer (rule_of rule) (width_of width) pairs numbers places
     ≡ limited refusals.list_limit (length (path_writer.lent_bytes (rule_of rule) (width_of width) pairs numbers)) places
 unfolding path_writer.encode_answer
 path_limit rule width pairs numbers places adds e = rw (adds, e)
 
 -- and that of MP_REACH_NLRI and MP_UNREACH_NLRI is of the whole value
-pub reach_limit : (hop : ℕ) (rows : List ℕ) (form : Form) (places : ℕ) → is_hop_size hop ≡ true → (writing rows (max_of Ipv6) form).verdict ≡ 0
+pub reach_limit : (hop : ℕ) (rows : List ℕ) (form : Form) (places : ℕ) → is_hop_size hop ≡ true → (writing rows (max_of Ipv6) form).verdict ≡ fine
     → write_reach hop rows form places ≡ limited refusals.list_limit (4 + hop + 1 + length (route_bytes rows form)) places
 unfolding write_reach route_writer.write_after
 reach_limit hop rows form places size e = rw (size, e)
 
-pub unreach_limit : (rows : List ℕ) (form : Form) (places : ℕ) → (writing rows (max_of Ipv6) form).verdict ≡ 0
+pub unreach_limit : (rows : List ℕ) (form : Form) (places : ℕ) → (writing rows (max_of Ipv6) form).verdict ≡ fine
     → write_unreach rows form places ≡ limited refusals.list_limit (3 + length (route_bytes rows form)) places
 unfolding route_writer.write_after
 unreach_limit rows form places e = rw e

@@ -23,9 +23,8 @@ pub data Example : Type 0 where
   section : AddPath → List ℕ → List Row → ℕ → Example
   path : AsnLength → List ℕ → List Segment → ℕ → Example
 
-pub record Reads {A : Type 0} (reading : Reading A) (rows : List A) (number : ℕ) : Type 0 where
-  pub rows : reading.rows ≡ rows
-  pub number : verdict_number reading.verdict ≡ number
+abbrev pub Reads : {A : Type 0} → Reading A → List A → ℕ → Type 0
+Reads reading rows number = (reading.rows ≡ rows) × (verdict_number reading.verdict ≡ number)
 
 -- the items before a refusal are those rows, and the refusal is that number, 0 where there is none
 abbrev pub Holds : Example → Type 0
@@ -74,4 +73,4 @@ table =
 -- every example of the table holds
 pub starred : AllHold table
 unfolding list_by section_by step_by in_form guess_form prefix_of item_row row_of word_at be_at read_all walk path_of segment_of segment_at numbers_of type_fault span
-starred = (e, (e, (e, (e, (e, (e, (e, (e, (e, (e, (e, (e, (e, tt)))))))))))))
+starred = ((refl, refl), ((refl, refl), ((refl, refl), ((refl, refl), ((refl, refl), ((refl, refl), ((refl, refl), ((refl, refl), ((refl, refl), ((refl, refl), ((refl, refl), ((refl, refl), ((refl, refl), tt)))))))))))))
