@@ -5,6 +5,8 @@ use mathlib.Core.Path.{◌≡◌, refl}
 use mathlib.Core.List.{List}
 use mathlib.Core.Bool.{Bool, true, false}
 use native.Mathlib.Omega.{arith}
+use borrow.Author.Tests.{lt-ltb, le-ltb}
+use lib.Dec.{ltb, eqb}
 use lib.ListN.{length, get_or}
 use Rattle.wire.specs.Choice.{pick}
 use Rattle.wire.proofs.ChoiceLaws.{pick_any, pick_eqb, pick_leb}
@@ -60,3 +62,24 @@ end_none s last =
     (λ _ e. let z : ◌≡◌ {A = ℕ} 0 1 = cc in absurd (omega arith))
     (λ _ e. let z : ◌≡◌ {A = ℕ} 0 1 = cc in absurd (omega arith))
     (λ _ e. let z : ◌≡◌ {A = ℕ} 0 1 = cc in absurd (omega arith))
+
+-- ---- the tests, one by one
+
+-- the mark and the settings byte are right, as far as they are there
+pub record Marked (s : List ℕ) : Type 0 where
+  pub some : eqb (length s) 0 ≡ false
+  pub first : differs s 0 mark_first ≡ false
+  pub second : differs s 1 mark_second ≡ false
+  pub settings : over_settings s ≡ false
+
+module _ (s : List ℕ) (last : Bool) (m : Marked s) where
+  -- it is not all there
+  pub marked_short : length s < record_size + kept_of s → slot_of s last ≡ short last
+  unfolding slot_of
+  marked_short h =
+      simp (m.some, m.first, m.second, m.settings, lt-ltb (length s) (record_size + kept_of s) h)
+      (pick_any (λ (a : SlotAnswer). a ≡ short last) (ltb (length s) record_size) _ _ refl refl)
+
+  pub marked_whole : record_size + kept_of s ≤ length s → slot_of s last ≡ Slot (kept_of s) (mode_of (get_or s 4 0))
+  unfolding slot_of
+  marked_whole h = simp (m.some, m.first, m.second, m.settings, le-ltb (length s) record_size (omega (arith, h)), le-ltb (length s) (record_size + kept_of s) h)

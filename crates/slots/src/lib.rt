@@ -18,7 +18,7 @@ const SETTINGS_LIMIT: u8 = 3;
 
 // What stands at the front of the input: a record of so many kept bytes and its setting; too few bytes to tell, where more may come;
 // what is no record; or nothing at all, and no more will come.
-#[derive(Clone, Copy)]
+#[derive(Clone, Copy, Debug, PartialEq, Eq, Hash)]
 pub enum SlotAnswer {
     Slot { kept: usize, mode: AddPath },
     More,
@@ -30,20 +30,14 @@ pub enum SlotAnswer {
 fn differs_at(s: &[u8], at: usize, b: u8) -> bool
     ensures { result ≡ differs s.now at b }
 {
-    if s.len() <= at {
-        return false;
-    }
-    s[at] != b
+    at < s.len() && s[at] != b
 }
 
 // Whether the settings byte is there, and is none.
 fn over_settings(s: &[u8]) -> bool
     ensures { result ≡ over_settings s.now }
 {
-    if s.len() <= 4 {
-        return false;
-    }
-    SETTINGS_LIMIT < s[4]
+    4 < s.len() && SETTINGS_LIMIT < s[4]
 }
 
 // The answer where a record is not all there.
@@ -51,32 +45,28 @@ fn short_record(last: bool) -> SlotAnswer
     ensures { result ≡ short last }
 {
     if last {
-        return SlotAnswer::Stop;
+        SlotAnswer::Stop
+    } else {
+        SlotAnswer::More
     }
-    SlotAnswer::More
 }
 
 // What stands at the front of the input. `last` says that no bytes follow those in hand.
 pub fn next_slot(bytes: &[u8], last: bool) -> SlotAnswer
     ensures { result ≡ slot_of bytes.now last }
 {
-    if bytes.len() == 0 {
-        if last {
-            return SlotAnswer::End;
-        }
-        return SlotAnswer::More;
+    if bytes.is_empty() {
+        return if last {
+            SlotAnswer::End
+        } else {
+            SlotAnswer::More
+        };
     }
-    if differs_at(bytes, 0, MARK_FIRST) {
+    if differs_at(bytes, 0, MARK_FIRST)
+        || differs_at(bytes, 1, MARK_SECOND)
+        || over_settings(bytes)
+    {
         return SlotAnswer::Stop;
-    }
-    if differs_at(bytes, 1, MARK_SECOND) {
-        return SlotAnswer::Stop;
-    }
-    if over_settings(bytes) {
-        return SlotAnswer::Stop;
-    }
-    if bytes.len() < RECORD_SIZE {
-        return short_record(last);
     }
     let kept = wire::u16_at(bytes, 2) as usize;
     if bytes.len() < RECORD_SIZE + kept {
@@ -84,6 +74,6 @@ pub fn next_slot(bytes: &[u8], last: bool) -> SlotAnswer
     }
     SlotAnswer::Slot {
         kept,
-        mode: families::mode_of(bytes[4]),
+        mode: AddPath::from(bytes[4]),
     }
 }

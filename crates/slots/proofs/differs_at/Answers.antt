@@ -1,11 +1,11 @@
-use borrow.Author.Tests.{le-leb, lt-leb}
+use borrow.Author.Tests.{le-leb, lt-leb, le-ltb}
 use Rattle.slots.specs.Slot.{found}
 use Rattle.slots.proofs.differs_at.Goals as goal
 
-pub returns-then-s-at : goal.returns-then-s-at
+pub returns-then-at-s : goal.returns-then-at-s
 unfolding found
-returns-then-s-at c = simp (le-leb _ _ c.if-s-at.true)
+returns-then-at-s c = simp (lt-leb _ _ c.if-at-s.true)
 
-pub returns : goal.returns
+pub returns-else-at-s : goal.returns-else-at-s
 unfolding found
-returns c = simp (lt-leb _ _ c.if-s-at.false)
+returns-else-at-s c = simp (le-leb _ _ c.if-at-s.false, le-ltb _ _ c.if-at-s.false)
