@@ -4,4 +4,4 @@ use Rattle.words.proofs.word.Goals as goal
 
 pub returns : goal.returns
 unfolding word_of
-returns c = refl
+returns c = rw (c.from.ensures, c.from-2.ensures, c.from-3.ensures, c.from-4.ensures) refl
