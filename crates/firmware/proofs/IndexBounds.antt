@@ -8,10 +8,13 @@ use borrow.Author.Tests.{le-leb, lt-leb}
 use mir.Val.{bool_byte}
 use lib.ListN.{length, get_or, drop, length-drop}
 use lib.Dec.{leb, ltb}
-use Rattle.wire.specs.Answer.{value_in}
-use Rattle.wire.specs.Refusal.{too_long, no_room, not_an_index, no_such_route, list_limit}
+use Rattle.std.specs.Prelude.{Result, Ok, Err}
+use Rattle.wire.specs.Answer.{value_in, count_meaning}
+use Rattle.wire.specs.Refusal.{number_of, no_room, list_limit}
 use Rattle.wire.specs.Store.{laid}
 use Rattle.wire.specs.Walk.{notes}
+use Rattle.wire.specs.declared.refusal.Refusal.{Refusal}
+use Rattle.wire.specs.declared.refusal.Refusal.TheVariants.{TooLong, NoRoom, NotAnIndex, NoSuchRoute}
 use Rattle.wire.proofs.ChoiceLaws.{pick_any, pick_leb}
 use Rattle.wire.proofs.WalkLaws.{noted_alike}
 use Rattle.families.specs.declared.Form.{Form}
@@ -22,61 +25,56 @@ use Rattle.routes.specs.Promises.{count_answer}
 use Rattle.routes.proofs.ListLaws.{fair, sound}
 use Rattle.routes.proofs.PrefixLaws.{prefix_cases}
 use Rattle.routes.specs.declared.Row.{Row}
-use Rattle.routes.specs.declared.PrefixAnswer.TheVariants as P
-use Rattle.routes.specs.declared.ListAnswer.{ListAnswer}
-use Rattle.routes.specs.declared.ListAnswer.TheVariants as L
-use Rattle.routes.specs.declared.RouteAnswer.{RouteAnswer}
-use Rattle.route_index.specs.Index.{items_by, index_by, is_index, refused_route, past_item, unless_none, route_from, route_by}
-use Rattle.route_index.specs.Promises.{index_meaning, places_for, count_index, room_for, build_index}
-use Rattle.route_index.specs.declared.IndexAnswer.{IndexAnswer}
-use Rattle.route_index.specs.declared.IndexAnswer.TheVariants as I
+use Rattle.routes.specs.declared.Route.{Route}
+use Rattle.route_index.specs.Index.{items_by, index_by, is_index, past_item, unless_none, route_from, route_by}
+use Rattle.route_index.specs.Promises.{places_for, count_index, room_for, build_index}
 use Rattle.route_index.proofs.OwnLaws.{own_length}
 use Rattle.words.specs.Word.{fields, in_fields, word_of, Narrow}
 use Rattle.words.proofs.FlagLaws.{flag_byte}
 use Rattle.words.proofs.WordLaws.{refused_narrow, number_narrow}
 use Rattle.firmware.specs.Fields.{row_words, route_stored, route_after, index_places}
 use Rattle.firmware.proofs.Bounds.{answer_any}
-use Rattle.firmware.proofs.ListBounds.{list_modest}
+use Rattle.firmware.proofs.ListBounds.{list_few}
 
 -- ---- an index
 
 module _ (s : List ℕ) (max : ℕ) (form : Form) where
   items_few : length (items_by (up_to max) s form) ≤ length s
   unfolding notes list_by
-  items_few = omega (arith, (noted_alike (λ _ item. item) (step_of max (fixed form)) (sound max (fixed form)) Plain s).1, (list_modest s max (fixed form)).few)
+  items_few = omega (arith, (noted_alike (λ _ item. item) (step_of max (fixed form)) (sound max (fixed form)) Plain s).1, list_few s max (fixed form))
 
   index_few : 16 * length (index_by (up_to max) s form) ≤ length s + 15
   index_few = omega (arith, own_length (up_to max) (fair max) form s, items_few)
 
   -- what counting tells
-  pub count_few : value_in 0 (index_meaning (count_index (up_to max) s form)) ≤ index_places
+  pub count_few : value_in 0 (count_meaning (count_index (up_to max) s form)) ≤ index_places
   unfolding count_index count_answer
   count_few =
-      let Few : ListAnswer → Type 0 = λ a. value_in 0 (index_meaning (places_for a (index_by (up_to max) s form))) ≤ index_places in
-      pick_leb Few (length s) list_limit _ (L.Refused too_long)
-      (λ short. answer_any Few (list_of s max (fixed form)).verdict (L.Rows _) L.Refused (omega (arith, index_few, short)) (λ n. omega arith))
+      let Few : Result ℕ Refusal → Type 0 = λ a. value_in 0 (count_meaning (places_for a (index_by (up_to max) s form))) ≤ index_places in
+      pick_leb Few (length s) list_limit _ (Err TooLong)
+      (λ short. answer_any Few (list_of s max (fixed form)).verdict (Ok _) Err (omega (arith, index_few, short)) (λ n. omega arith))
       (λ _. omega arith)
 
-room_few : (a : IndexAnswer) (places : ℕ) → value_in 0 (index_meaning a) ≤ index_places → value_in 0 (index_meaning (room_for a places)) ≤ index_places
-room_few (I.Places n) places h =
-    pick_any (λ (a : IndexAnswer). value_in 0 (index_meaning a) ≤ index_places) (leb n places) (I.Places n) (I.Refused no_room) h (omega arith)
-room_few (I.Refused n) places h = h
+room_few : (a : Result ℕ Refusal) (places : ℕ) → value_in 0 (count_meaning a) ≤ index_places → value_in 0 (count_meaning (room_for a places)) ≤ index_places
+room_few (Ok n) places h =
+    pick_any (λ (a : Result ℕ Refusal). value_in 0 (count_meaning a) ≤ index_places) (leb n places) (Ok n) (Err NoRoom) h (omega arith)
+room_few (Err r) places h = h
 
-few_narrow : (a : IndexAnswer) → value_in 0 (index_meaning a) ≤ index_places → Narrow (in_fields (index_meaning a))
-few_narrow (I.Places n) h = number_narrow n (omega (arith, h))
-few_narrow (I.Refused n) h = refused_narrow n
+few_narrow : (a : Result ℕ Refusal) → value_in 0 (count_meaning a) ≤ index_places → Narrow (in_fields (count_meaning a))
+few_narrow (Ok n) h = number_narrow n (omega (arith, h))
+few_narrow (Err r) h = refused_narrow _
 
 module _ (s : List ℕ) (max : ℕ) (form : Form) where
-  pub count_index_narrow : Narrow (in_fields (index_meaning (count_index (up_to max) s form)))
+  pub count_index_narrow : Narrow (in_fields (count_meaning (count_index (up_to max) s form)))
   count_index_narrow = few_narrow (count_index (up_to max) s form) (count_few s max form)
 
-  pub build_index_narrow : (places : ℕ) → Narrow (in_fields (index_meaning (build_index (up_to max) s form places)))
+  pub build_index_narrow : (places : ℕ) → Narrow (in_fields (count_meaning (build_index (up_to max) s form places)))
   unfolding build_index
   build_index_narrow places = few_narrow (room_for (count_index (up_to max) s form) places) (room_few (count_index (up_to max) s form) places (count_few s max form))
 
 -- ---- a route
 
-unless_few : (s : List ℕ) (a : RouteAnswer) → value_in 0 (route_meaning a) ≤ length s → value_in 0 (route_meaning (unless_none s a)) ≤ length s
+unless_few : (s : List ℕ) (a : Result Route Refusal) → value_in 0 (route_meaning a) ≤ length s → value_in 0 (route_meaning (unless_none s a)) ≤ length s
 unless_few [] a h = omega arith
 unless_few (b ∷ s) a h = h
 
@@ -88,44 +86,41 @@ from_few max form zero s =
     (prefix_cases s max form (λ a. value_in 0 (route_meaning (with_host form s a)) ≤ length s)
     (omega arith)
     (omega arith)
-    (λ used row t. t.room))
+    (λ item t. t.room))
 from_few max form (suc n) s =
     unless_few s _
     (prefix_cases s max form (λ a. value_in 0 (route_meaning (past_item a (λ used. route_from (up_to max) form n (drop used s)))) ≤ length s)
     (omega arith)
     (omega arith)
-    (λ used row t. omega (arith, from_few max form n (drop used s), length-drop used s)))
+    (λ item t. omega (arith, from_few max form n (drop item.used s), length-drop item.used s)))
 
 pub route_few : (max : ℕ) (form : Form) (s index : List ℕ) (n : ℕ) → value_in 0 (route_meaning (route_by (up_to max) form s index n)) ≤ list_limit
 unfolding route_by
 route_few max form s index n =
-    let Few : RouteAnswer → Type 0 = λ a. value_in 0 (route_meaning a) ≤ list_limit in
+    let Few : Result Route Refusal → Type 0 = λ a. value_in 0 (route_meaning a) ≤ list_limit in
     let start : ℕ = get_or index (n / 16) 0 in
-    pick_leb Few (length s) list_limit _ (refused_route too_long)
-    (λ short. pick_any Few (is_index (length s) index) _ (refused_route not_an_index)
-    (pick_any Few (ltb (n / 16) (length index)) _ (refused_route no_such_route)
+    pick_leb Few (length s) list_limit _ (Err TooLong)
+    (λ short. pick_any Few (is_index (length s) index) _ (Err NotAnIndex)
+    (pick_any Few (ltb (n / 16) (length index)) _ (Err NoSuchRoute)
     (omega (arith, from_few max form (n % 16) (drop start s), length-drop start s, short))
     (omega arith))
     (omega arith))
     (λ _. omega arith)
 
-pub used_few : (max : ℕ) (form : Form) (s index : List ℕ) (n : ℕ) (a : RouteAnswer) (used : ℕ) (row : Row)
-    → a ≡ route_by (up_to max) form s index n → a.prefix ≡ P.Prefix used row → used ≤ list_limit
-used_few max form s index n a used row e p =
-    let few : value_in 0 (route_meaning a) ≤ list_limit = rw e (route_few max form s index n) in
-    rw p at few
+pub used_few : (max : ℕ) (form : Form) (s index : List ℕ) (n : ℕ) (route : Route) → Ok route ≡ route_by (up_to max) form s index n → route.prefix.used ≤ list_limit
+used_few max form s index n route e = rw (← e) at (route_few max form s index n)
 
 -- what asking told, from what was found: a row that has no room, one that was put, and a refusal
-module _ (a b : RouteAnswer) (e : a ≡ b) (store : List ℕ) (r : ℕ) where
-  pub route_full : (used : ℕ) (row : Row) → a.prefix ≡ P.Prefix used row → length store < row_words → r ≡ word_of (fields 0 0 0 no_room)
-      → (r ≡ word_of (in_fields (route_stored b (length store)))) × (store ≡ route_after b store)
-  route_full used row p few w = rw (← e, p, lt-leb row_words (length store) few) (w, refl)
+module _ (a : Result Route Refusal) (store : List ℕ) (r : ℕ) where
+  pub route_full : (route : Route) → Ok route ≡ a → length store < row_words → r ≡ word_of (fields 0 0 0 no_room)
+      → (r ≡ word_of (in_fields (route_stored a (length store)))) × (store ≡ route_after a store)
+  route_full route e few w = rw (← e, lt-leb row_words (length store) few) (w, refl)
 
-  pub route_put : (used : ℕ) (row : Row) (store' : List ℕ) → a.prefix ≡ P.Prefix used row → row_words ≤ length store → store' ≡ laid store 0 (words row)
-      → r ≡ word_of (fields used (bool_byte a.host) 0 0)
-      → (r ≡ word_of (in_fields (route_stored b (length store)))) × (store' ≡ route_after b store)
-  route_put used row store' p room put w = rw (← e, p, le-leb row_words (length store) room, ← flag_byte a.host) (w, put)
+  pub route_put : (route : Route) (store' : List ℕ) → Ok route ≡ a → row_words ≤ length store → store' ≡ laid store 0 (words route.prefix.row)
+      → r ≡ word_of (fields route.prefix.used (bool_byte route.host) 0 0)
+      → (r ≡ word_of (in_fields (route_stored a (length store)))) × (store' ≡ route_after a store)
+  route_put route store' e room put w = rw (← e, le-leb row_words (length store) room, ← flag_byte route.host) (w, put)
 
-  pub route_refused : (why : ℕ) → a.prefix ≡ P.Refused why → r ≡ word_of (fields 0 0 0 why)
-      → (r ≡ word_of (in_fields (route_stored b (length store)))) × (store ≡ route_after b store)
-  route_refused why p w = rw (← e, p) (w, refl)
+  pub route_refused : (why : Refusal) → Err why ≡ a → r ≡ word_of (fields 0 0 0 (number_of why))
+      → (r ≡ word_of (in_fields (route_stored a (length store)))) × (store ≡ route_after a store)
+  route_refused why e w = rw (← e) (w, refl)

@@ -1,7 +1,7 @@
 -- The fields of every answer of the module merge are of 16 bits: a value that stands has its one size; and the path that is made has no more segments, and no
 -- more numbers, than AS_PATH and AS4_PATH together.
 -- Assumes nothing.
-use Prim.Native.Nat.{ℕ, zero, suc, ◌+◌, ◌-◌, ◌*◌, ◌≤◌}
+use Prim.Native.Nat.{ℕ, ◌+◌, ◌-◌, ◌*◌, ◌≤◌}
 use mathlib.Core.Path.{◌≡◌, refl, ap, ◌∙◌}
 use mathlib.Core.List.{List, [], ◌∷◌, ◌++◌}
 use mathlib.Core.Bool.{◌&&◌}
@@ -9,21 +9,22 @@ use native.Mathlib.Nat.{mul-zero, mul-add, mul_comm, min-le_right}
 use native.Mathlib.Omega.{arith}
 use lib.ListN.{length, length-take, get_or, drop}
 use lib.Dec.{leb, eqb}
-use Rattle.wire.specs.Answer.{answer_by}
+use Rattle.std.specs.Prelude.{Result, Ok, Err}
 use Rattle.wire.specs.Refusal.{list_limit}
 use Rattle.wire.specs.Walk.{read_all, tally, flat}
-use Rattle.wire.proofs.AnswerLaws.{either_none}
+use Rattle.wire.specs.Verdict.{Verdict, fine, unless}
+use Rattle.wire.specs.declared.refusal.Refusal.{Refusal}
+use Rattle.wire.proofs.AnswerLaws.{refused_not_fine, either_none}
 use Rattle.wire.proofs.ChoiceLaws.{pick_any, pick_eqb}
 use Rattle.wire.proofs.Turn.{Light, tally_few}
 use Rattle.wire.proofs.WalkLaws.{tally_one, tally_flat, tally_append}
 use Rattle.asns.proofs.AsnLaws.{span_is}
 use Rattle.paths.specs.Segment.{Segment, known_type, segment_of, segment_at, path_of, asns_of}
 use Rattle.paths.specs.Promises.{path_meaning, answer_of}
-use Rattle.paths.specs.declared.PathAnswer.TheVariants as P
 use Rattle.paths.proofs.SegmentLaws.{length_numbers, segment_sound, segment_taken}
 use Rattle.as4.specs.Standing.{size_fault, sizes_fault, aggregator_size, as4_aggregator_size, standing, ignored}
-use Rattle.as4.specs.declared.StandingAnswer.{StandingAnswer}
-use Rattle.as4.specs.declared.StandingAnswer.TheVariants.{Aggregator, As4Aggregator, Refused}
+use Rattle.as4.specs.declared.Standing.{Standing}
+use Rattle.as4.specs.declared.Standing.TheVariants.{Aggregator, As4Aggregator}
 use Rattle.as4.specs.Merge.{is_confed, route_len, route_len_of, kept, split, leading, some, joint, merged}
 use Rattle.as4.specs.Promises.{old_path, new_path, fault_of, both_of, built_of, merge_answer}
 use Rattle.as4.proofs.PromiseLaws.{no_fault}
@@ -34,28 +35,28 @@ use Rattle.firmware.proofs.PathBounds.{stores_narrow}
 -- ---- the AGGREGATOR that stands
 
 -- absent, or of its one size
-sized : (n size : ℕ) → size_fault n size ≡ 0 → n ≤ size
+sized : (n size : ℕ) → size_fault n size ≡ fine → n ≤ size
 unfolding size_fault
 sized n size =
-    let Fine : ℕ → Type 0 = λ f. f ≡ 0 → n ≤ size in
-    pick_eqb Fine n 0 _ _ (λ e _. omega (arith, e)) (λ _. pick_eqb Fine n size _ _ (λ e _. omega (arith, e)) (λ _ z. absurd (omega (arith, z))))
+    let Fine : Verdict → Type 0 = λ f. f ≡ fine → n ≤ size in
+    pick_eqb Fine n 0 _ _ (λ e _. omega (arith, e)) (λ _. pick_eqb Fine n size _ _ (λ e _. omega (arith, e)) (λ _ z. absurd (refused_not_fine _ z)))
 
 module _ (first second : List ℕ) where
   -- of what is no refusal
-  both_sized : (v : ℕ) (good a : StandingAnswer) → sizes_fault first second ≡ v → a ≡ answer_by v good Refused → ((n : ℕ) → a ≡ Refused n → ⊥)
+  both_sized : (v : Verdict) (good one : Standing) → sizes_fault first second ≡ v → Ok one ≡ unless v good
       → (length first ≤ aggregator_size) × (length second ≤ as4_aggregator_size)
-  both_sized zero good a e f stands =
+  both_sized (Ok tt) good one e f =
       let h = either_none (size_fault (length first) aggregator_size) (size_fault (length second) as4_aggregator_size) e in
       (sized (length first) aggregator_size h.0, sized (length second) as4_aggregator_size h.1)
-  both_sized (suc v) good a e f stands = absurd (stands (suc v) f)
+  both_sized (Err r) good one e f = let z : ◌≡◌ {A = ℕ} 0 1 = cc in absurd (omega arith)
 
-  pub first_sized : Aggregator ≡ standing first second → length first ≤ aggregator_size
+  pub first_sized : Ok Aggregator ≡ standing first second → length first ≤ aggregator_size
   unfolding standing
-  first_sized e = (both_sized (sizes_fault first second) _ Aggregator refl e (λ n f. let z : ◌≡◌ {A = ℕ} 0 1 = cc in omega (arith, z))).0
+  first_sized e = (both_sized (sizes_fault first second) _ Aggregator refl e).0
 
-  pub second_sized : As4Aggregator ≡ standing first second → length second ≤ as4_aggregator_size
+  pub second_sized : Ok As4Aggregator ≡ standing first second → length second ≤ as4_aggregator_size
   unfolding standing
-  second_sized e = (both_sized (sizes_fault first second) _ As4Aggregator refl e (λ n f. let z : ◌≡◌ {A = ℕ} 0 1 = cc in omega (arith, z))).1
+  second_sized e = (both_sized (sizes_fault first second) _ As4Aggregator refl e).1
 
 -- ---- the path that is made, by a weight to which a split does not add
 
@@ -146,9 +147,9 @@ module _ (path four first second : List ℕ) where
   unfolding built_of both_of
   built_narrow = by (built_of path four first second).verdict refl
     where
-      by : (v : ℕ) → (built_of path four first second).verdict ≡ v
-          → Narrow (in_fields (path_meaning (answer_by v (P.Path (length (built_of path four first second).rows) (length (flat asns_of (built_of path four first second).rows))) P.Refused)))
-      by zero e =
+      by : (v : Verdict) → (built_of path four first second).verdict ≡ v
+          → Narrow (in_fields (path_meaning (unless v (record { segments = length (built_of path four first second).rows; numbers = length (flat asns_of (built_of path four first second).rows) }))))
+      by (Ok tt) e =
           let none = either_none (fault_of path (old_path path)) (fault_of four (new_path four)) (either_none (sizes_fault first second) _ e).1 in
           let short : length path ≤ list_limit = (no_fault path (old_path path) none.0).0 in
           let short' : length four ≤ list_limit = (no_fault four (new_path four) none.1).0 in
@@ -157,7 +158,7 @@ module _ (path four first second : List ℕ) where
             b = omega (arith, numbers_both, numbers_part 2 path, numbers_part 4 four);
             c = omega arith;
           }
-      by (suc v) e = refused_narrow (suc v)
+      by (Err r) e = refused_narrow _
 
   pub merge_narrow : (p q : ℕ) → Narrow (in_fields (path_meaning (merge_answer (built_of path four first second) p q)))
   merge_narrow p q = stores_narrow (answer_of (built_of path four first second)) p q built_narrow

@@ -7,12 +7,13 @@ use native.Mathlib.Omega.{arith}
 use borrow.Author.Tests.{le-leb, lt-leb}
 use lib.ListN.{length}
 use lib.Dec.{leb}
-use Rattle.wire.specs.Answer.{write_meaning}
-use Rattle.wire.specs.declared.WriteAnswer.{WriteAnswer}
-use Rattle.wire.specs.declared.WriteAnswer.TheVariants as W
+use Rattle.std.specs.Prelude.{Result, Ok, Err}
+use Rattle.wire.specs.Answer.{count_meaning}
 use Rattle.wire.proofs.ChoiceLaws.{pick_any, pick_leb}
-use Rattle.wire.specs.Refusal.{too_long, no_room, not_writable, list_limit}
+use Rattle.wire.specs.Refusal.{list_limit}
 use Rattle.wire.specs.Walk.{read_all, flat}
+use Rattle.wire.specs.declared.refusal.Refusal.{Refusal}
+use Rattle.wire.specs.declared.refusal.Refusal.TheVariants.{TooLong, NoRoom, NotWritable}
 use Rattle.wire.proofs.WalkLaws.{tally_one, tally_flat}
 use Rattle.wire.proofs.Turn.{Light, tally_few}
 use Rattle.asns.specs.Asn.{width_of}
@@ -24,8 +25,7 @@ use Rattle.paths.specs.Promises as paths
 use Rattle.paths.specs.Promises.{path_meaning}
 use Rattle.paths.specs.declared.PathRule.{PathRule}
 use Rattle.paths.specs.declared.PathRule.TheVariants.{Crate, Strict}
-use Rattle.paths.specs.declared.PathAnswer.{PathAnswer}
-use Rattle.paths.specs.declared.PathAnswer.TheVariants as P
+use Rattle.paths.specs.declared.Path.{Path}
 use Rattle.path_writer.specs.Promises.{encode_answer, encode_left}
 use Rattle.path_writer.specs.Write.{adds_up, lent_path}
 use Rattle.words.specs.Settings.{asn_length_of}
@@ -39,13 +39,13 @@ width_pos Bits16 = omega arith
 width_pos Bits32 = omega arith
 
 -- in stores of so many places
-pub stores_narrow : (a : PathAnswer) (p q : ℕ) → Narrow (in_fields (path_meaning a)) → Narrow (in_fields (path_meaning (paths.in_stores a p q)))
-stores_narrow (P.Path m n) p q h =
-    let Fine : PathAnswer → Type 0 = λ a. Narrow (in_fields (path_meaning a)) in
-    pick_any Fine (leb m (p / 2)) _ (P.Refused no_room)
-    (pick_any Fine (leb n q) (P.Path m n) (P.Refused no_room) h (refused_narrow no_room))
-    (refused_narrow no_room)
-stores_narrow (P.Refused n) p q h = refused_narrow n
+pub stores_narrow : (a : Result Path Refusal) (p q : ℕ) → Narrow (in_fields (path_meaning a)) → Narrow (in_fields (path_meaning (paths.in_stores a p q)))
+stores_narrow (Ok path) p q h =
+    let Fine : Result Path Refusal → Type 0 = λ a. Narrow (in_fields (path_meaning a)) in
+    pick_any Fine (leb path.segments (p / 2)) _ (Err NoRoom)
+    (pick_any Fine (leb path.numbers q) (Ok path) (Err NoRoom) h (refused_narrow _))
+    (refused_narrow _)
+stores_narrow (Err r) p q h = refused_narrow _
 
 module _ (s : List ℕ) (width : AsnLength) (rule : Rule) where
   segments_few : length (path_of rule (width_of width) s).rows ≤ length s
@@ -64,18 +64,18 @@ module _ (s : List ℕ) (width : AsnLength) (rule : Rule) where
   pub count_path_narrow : Narrow (in_fields (path_meaning (paths.count_answer s (path_of rule (width_of width) s))))
   unfolding paths.count_answer
   count_path_narrow =
-      let Fine : PathAnswer → Type 0 = λ a. Narrow (in_fields (path_meaning a)) in
-      pick_leb Fine (length s) list_limit _ (P.Refused too_long)
-      (λ short. answer_any Fine (path_of rule (width_of width) s).verdict _ P.Refused
-      (record { a = omega (arith, segments_few); b = omega (arith, numbers_few); c = omega arith }) refused_narrow)
-      (λ _. refused_narrow too_long)
+      let Fine : Result Path Refusal → Type 0 = λ a. Narrow (in_fields (path_meaning a)) in
+      pick_leb Fine (length s) list_limit _ (Err TooLong)
+      (λ short. answer_any Fine (path_of rule (width_of width) s).verdict _ Err
+      (record { a = omega (arith, segments_few); b = omega (arith, numbers_few); c = omega arith }) (λ r. refused_narrow _))
+      (λ _. refused_narrow _)
 
   pub read_path_narrow : (p q : ℕ) → Narrow (in_fields (path_meaning (paths.read_answer s (path_of rule (width_of width) s) p q)))
   unfolding paths.read_answer
   read_path_narrow p q = stores_narrow (paths.count_answer s (path_of rule (width_of width) s)) p q count_path_narrow
 
 -- what reading into two stores told, by the width and the rule that a call was given
-pub read_told : (s : List ℕ) (width width' : AsnLength) (rule rule' : PathRule) (pairs numbers pairs' numbers' : List ℕ) (a : PathAnswer) (r : ℕ)
+pub read_told : (s : List ℕ) (width width' : AsnLength) (rule rule' : PathRule) (pairs numbers pairs' numbers' : List ℕ) (a : Result Path Refusal) (r : ℕ)
     → width ≡ width' → rule ≡ rule' → r ≡ word_of (in_fields (path_meaning a)) → a ≡ paths.read_answer s (path_of (rule_of rule) (width_of width) s) (length pairs) (length numbers)
     → pairs' ≡ paths.pairs_after s (path_of (rule_of rule) (width_of width) s) pairs (length numbers)
     → numbers' ≡ paths.numbers_after s (path_of (rule_of rule) (width_of width) s) (length pairs) numbers
@@ -87,19 +87,19 @@ read_told s width width' rule rule' pairs numbers pairs' numbers' a r m n e f g 
 -- ---- what is written
 
 pub write_path_narrow : (pairs numbers : List ℕ) (width : AsnLength) (rule : Rule) (places : ℕ)
-    → Narrow (in_fields (write_meaning (encode_answer rule (width_of width) pairs numbers places)))
+    → Narrow (in_fields (count_meaning (encode_answer rule (width_of width) pairs numbers places)))
 unfolding encode_answer
 write_path_narrow pairs numbers width rule places =
-    let Fine : WriteAnswer → Type 0 = λ a. Narrow (in_fields (write_meaning a)) in
-    pick_any Fine (adds_up pairs (length numbers)) _ (W.Refused not_writable)
-    (answer_any Fine (lent_path rule (width_of width) pairs numbers).verdict _ W.Refused (limited_narrow list_limit _ places (omega arith)) refused_narrow)
-    (refused_narrow not_writable)
+    let Fine : Result ℕ Refusal → Type 0 = λ a. Narrow (in_fields (count_meaning a)) in
+    pick_any Fine (adds_up pairs (length numbers)) _ (Err NotWritable)
+    (answer_any Fine (lent_path rule (width_of width) pairs numbers).verdict _ Err (limited_narrow list_limit _ places (omega arith)) (λ r. refused_narrow _))
+    (refused_narrow _)
 
 -- what writing one told, likewise
-pub write_told : (pairs numbers : List ℕ) (width width' : AsnLength) (rule rule' : PathRule) (out out' : List ℕ) (a : WriteAnswer) (r : ℕ)
-    → width ≡ width' → rule ≡ rule' → r ≡ word_of (in_fields (write_meaning a)) → a ≡ encode_answer (rule_of rule) (width_of width) pairs numbers (length out)
+pub write_told : (pairs numbers : List ℕ) (width width' : AsnLength) (rule rule' : PathRule) (out out' : List ℕ) (a : Result ℕ Refusal) (r : ℕ)
+    → width ≡ width' → rule ≡ rule' → r ≡ word_of (in_fields (count_meaning a)) → a ≡ encode_answer (rule_of rule) (width_of width) pairs numbers (length out)
     → out' ≡ encode_left (rule_of rule) (width_of width) pairs numbers out
-    → (r ≡ word_of (in_fields (write_meaning (encode_answer (rule_of rule') (width_of width') pairs numbers (length out)))))
+    → (r ≡ word_of (in_fields (count_meaning (encode_answer (rule_of rule') (width_of width') pairs numbers (length out)))))
     × (out' ≡ encode_left (rule_of rule') (width_of width') pairs numbers out)
 write_told pairs numbers width width' rule rule' out out' a r m n e f g = rw (← m, ← n, ← f) (e, g)
 
