@@ -11,8 +11,9 @@ use Rattle.wire.specs.Number as Number
 use Rattle.wire.specs.Refusal.{list_limit}
 use Rattle.wire.specs.Store.{laid}
 use Rattle.wire.specs.Answer.{flag}
+use Rattle.wire.specs.Verdict.{fine}
 use Rattle.wire.specs.Walk.{Reading, pieces, tally, flat}
-use Rattle.wire.specs.declared.WriteAnswer.TheVariants.{Bytes}
+use Rattle.std.specs.Prelude.{Ok}
 use Rattle.wire.proofs.CuttingLaws as Cuttings
 use Rattle.wire.proofs.StoreLaws.{take_laid}
 use Rattle.wire.proofs.WalkLaws.{tally_one, tally_flat}
@@ -24,7 +25,6 @@ use Rattle.routes.specs.List.{up_to, fixed, step_of, list_by, list_of, hosts_by,
 use Rattle.routes.specs.Prefix.{item_row, words}
 use Rattle.routes.specs.Promises.{count_answer, read_answer, store_after}
 use Rattle.routes.specs.WellFormed.{WellFormed, NoZeroFirst}
-use Rattle.routes.specs.declared.ListAnswer.TheVariants.{Rows}
 use Rattle.routes.specs.declared.Row.{Row}
 use Rattle.routes.proofs.CuttingLaws.{decides, guess_same, cut_not_strange}
 use Rattle.routes.proofs.ListLaws.{words_length, count_good, count_rows, count_short, read_rows, read_stored, leave_rows, section_list, section_counted}
@@ -37,8 +37,8 @@ use Rattle.route_writer.proofs.PromiseLaws.{leave_bytes, written_bytes}
 -- ---- a reading whose rows are those of a cutting
 
 pub record Reads (max : ℕ) (form : Form) (s : List ℕ) (r : Reading Row) : Type 0 where
-  pub cut : (n : ℕ) → count_answer s r ≡ Rows n → (items : List (List ℕ)) × Cutting (WellFormed max form) s items
-  pub read : (items : List (List ℕ)) → Cutting (WellFormed max form) s items → r ≡ record { rows = map (item_row form) items; verdict = 0 }
+  pub cut : (n : ℕ) → count_answer s r ≡ Ok n → (items : List (List ℕ)) × Cutting (WellFormed max form) s items
+  pub read : (items : List (List ℕ)) → Cutting (WellFormed max form) s items → r ≡ record { rows = map (item_row form) items; verdict = fine }
 
 module _ (max : ℕ) (form : Form) (s : List ℕ) where
   -- a list under the setting that has the form
@@ -68,20 +68,20 @@ module _ {max : ℕ} {form : Form} {s : List ℕ} {r : Reading Row} (reads : Rea
   rows_items : (items : List (List ℕ)) → Cutting (WellFormed max form) s items → length r.rows ≡ length items
   rows_items items c = ap (λ (x : Reading Row). length x.rows) (reads.read items c) ∙ length-map items (item_row form)
 
-  pub cut_counted : (items : List (List ℕ)) → Cutting (WellFormed max form) s items → length s ≤ list_limit → count_answer s r ≡ Rows (length items)
+  pub cut_counted : (items : List (List ℕ)) → Cutting (WellFormed max form) s items → length s ≤ list_limit → count_answer s r ≡ Ok (length items)
   cut_counted items c short = count_good s r (length items) short (ap (λ (x : Reading Row). x.verdict) (reads.read items c), tally_one r.rows ∙ rows_items items c)
 
-  pub counted_cut : (n : ℕ) → count_answer s r ≡ Rows n → (items : List (List ℕ)) × Cutting (WellFormed max form) s items × (length items ≡ n) × (length s ≤ list_limit)
+  pub counted_cut : (n : ℕ) → count_answer s r ≡ Ok n → (items : List (List ℕ)) × Cutting (WellFormed max form) s items × (length items ≡ n) × (length s ≤ list_limit)
   counted_cut n e =
       let c = reads.cut n e in
       (c.0, c.1, sym (rows_items c.0 c.1) ∙ (count_rows s r n e).1, count_short s r n e)
 
   module _ (d : List ℕ) where
     pub cut_accepted : (items : List (List ℕ)) → Cutting (WellFormed max form) s items → length s ≤ list_limit → length items ≤ length d / 6
-        → read_answer s r (length d) ≡ Rows (length items)
+        → read_answer s r (length d) ≡ Ok (length items)
     cut_accepted items c short room = sym (leave_rows s r d (length items) (cut_counted items c short) room).0
 
-    module _ (n : ℕ) (e : read_answer s r (length d) ≡ Rows n) where
+    module _ (n : ℕ) (e : read_answer s r (length d) ≡ Ok n) where
       pub accepted_cut : (items : List (List ℕ)) × Cutting (WellFormed max form) s items × (length items ≡ n) × (length s ≤ list_limit) × (n ≤ length d / 6)
       accepted_cut =
           let h = read_rows s r n (length d) e in
@@ -100,8 +100,8 @@ module _ {max : ℕ} {form : Form} {s : List ℕ} {r : Reading Row} (reads : Rea
       read_words items c = (read_stored s r d n e).2 ∙ ap (λ (x : Reading Row). flat words x.rows) (reads.read items c)
 
 -- bytes that are read to their end with Add-Path on are cut into items with ids, whose rows are those read
-pub cut_tagged : (max : ℕ) (s : List ℕ) → (list_of s max On).verdict ≡ 0
-    → (items : List (List ℕ)) × Cutting (WellFormed max Tagged) s items × (list_of s max On ≡ record { rows = map (item_row Tagged) items; verdict = 0 })
+pub cut_tagged : (max : ℕ) (s : List ℕ) → (list_of s max On).verdict ≡ fine
+    → (items : List (List ℕ)) × Cutting (WellFormed max Tagged) s items × (list_of s max On ≡ record { rows = map (item_row Tagged) items; verdict = fine })
 unfolding list_by
 cut_tagged max s good =
     let c = Cuttings.read_cut (step_of max On) (WellFormed max Tagged) (item_row Tagged) (decides max Tagged) Plain s good in
@@ -116,17 +116,17 @@ one_cutting max form s = Cuttings.one_cutting (step_of max (fixed form)) (WellFo
 module _ (max : ℕ) (small : max ≤ 128) (form : Form) where
   -- the rows of a cutting can be written, and their bytes are those that were cut
   pub items_bytes : (s : List ℕ) (items : List (List ℕ)) → Number.Bytes s → Cutting (WellFormed max form) s items
-      → let ws = flat words (map (item_row form) items) in ((writing ws max form).verdict ≡ 0) × (bytes_of ws max form ≡ s)
+      → let ws = flat words (map (item_row form) items) in ((writing ws max form).verdict ≡ fine) × (bytes_of ws max form ≡ s)
   unfolding bytes_of writing
   items_bytes s items b c =
       let rows : List Row = map (item_row form) items in
       let h = Cuttings.items_written (WellFormed max form) (item_row form) (GoodRow max form) (row_bytes form) (stands max small form) items c.each (subst Number.Bytes (sym c.whole) b) in
-      let w : writing (flat words rows) max form ≡ record { rows = rows; verdict = 0 } = rows_write max form rows h.0 in
+      let w : writing (flat words rows) max form ≡ record { rows = rows; verdict = fine } = rows_write max form rows h.0 in
       (ap (λ (x : Reading Row). x.verdict) w, ap (λ (x : Reading Row). flat (row_bytes form) x.rows) w ∙ h.2 ∙ c.whole)
 
   -- into any output that has room
   pub items_out : (s : List ℕ) (items : List (List ℕ)) → Number.Bytes s → Cutting (WellFormed max form) s items → length s ≤ list_limit → (out : List ℕ) → length s ≤ length out
-      → let ws = flat words (map (item_row form) items) in (write_answer ws max form (length out) ≡ Bytes (length s)) × (out_after ws max form out ≡ laid out 0 s)
+      → let ws = flat words (map (item_row form) items) in (write_answer ws max form (length out) ≡ Ok (length s)) × (out_after ws max form out ≡ laid out 0 s)
   unfolding bytes_of
   items_out s items b c short out room =
       let ws : List ℕ = flat words (map (item_row form) items) in
@@ -136,9 +136,9 @@ module _ (max : ℕ) (small : max ≤ 128) (form : Form) where
       (sym l.0, sym l.1 ∙ ap (laid out 0) h.1)
 
   -- writing what was read, from the store that it was read into
-  pub written_back : (s : List ℕ) (r : Reading Row) (d : List ℕ) (n : ℕ) → Reads max form s r → read_answer s r (length d) ≡ Rows n → Number.Bytes s
+  pub written_back : (s : List ℕ) (r : Reading Row) (d : List ℕ) (n : ℕ) → Reads max form s r → read_answer s r (length d) ≡ Ok n → Number.Bytes s
       → (out : List ℕ) → length s ≤ length out
-      → let ws = take (6 * n) (store_after s r d) in (write_answer ws max form (length out) ≡ Bytes (length s)) × (out_after ws max form out ≡ laid out 0 s)
+      → let ws = take (6 * n) (store_after s r d) in (write_answer ws max form (length out) ≡ Ok (length s)) × (out_after ws max form out ≡ laid out 0 s)
   written_back s r d n reads e b out room =
       let a = accepted_cut reads d n e in
       let is = read_words reads d n e a.0 a.1 in
@@ -146,14 +146,14 @@ module _ (max : ℕ) (small : max ≤ 128) (form : Form) where
       (ap (λ (ws : List ℕ). write_answer ws max form (length out)) is ∙ o.0, ap (λ (ws : List ℕ). out_after ws max form out) is ∙ o.1)
 
   -- the bytes that were written stand at the front of the output
-  out_bytes : (ws d : List ℕ) (n : ℕ) → write_answer ws max form (length d) ≡ Bytes n → take n (out_after ws max form d) ≡ bytes_of ws max form
+  out_bytes : (ws d : List ℕ) (n : ℕ) → write_answer ws max form (length d) ≡ Ok n → take n (out_after ws max form d) ≡ bytes_of ws max form
   out_bytes ws d n e =
       let h = written_bytes ws max form d n e in
       let all : n ≡ 0 + length (bytes_of ws max form) = omega (arith, h.1) in
       ap₂ take all h.4 ∙ take_laid d 0 (bytes_of ws max form) (omega (arith, h.3))
 
   -- stores that can be written and whose bytes are the same are equal
-  pub bytes_equal : (ws ws' : List ℕ) → Words ws → Words ws' → (writing ws max form).verdict ≡ 0 → (writing ws' max form).verdict ≡ 0 → bytes_of ws max form ≡ bytes_of ws' max form → ws ≡ ws'
+  pub bytes_equal : (ws ws' : List ℕ) → Words ws → Words ws' → (writing ws max form).verdict ≡ fine → (writing ws' max form).verdict ≡ fine → bytes_of ws max form ≡ bytes_of ws' max form → ws ≡ ws'
   unfolding bytes_of writing
   bytes_equal ws ws' h h' good good' bytes =
       let a = store_rows max form ws h good in
@@ -162,14 +162,14 @@ module _ (max : ℕ) (small : max ≤ 128) (form : Form) where
       (step_of max (fixed form)) (decides max form) Plain (writing ws max form).rows (writing ws' max form).rows a.0 b.0 bytes in
       sym a.1 ∙ ap (flat words) rows ∙ b.1
 
-  pub stores_equal : (ws ws' d d' : List ℕ) (n n' : ℕ) → Words ws → Words ws' → write_answer ws max form (length d) ≡ Bytes n → write_answer ws' max form (length d') ≡ Bytes n'
+  pub stores_equal : (ws ws' d d' : List ℕ) (n n' : ℕ) → Words ws → Words ws' → write_answer ws max form (length d) ≡ Ok n → write_answer ws' max form (length d') ≡ Ok n'
       → take n (out_after ws max form d) ≡ take n' (out_after ws' max form d') → ws ≡ ws'
   stores_equal ws ws' d d' n n' h h' e e' same =
       bytes_equal ws ws' h h' (written_bytes ws max form d n e).0 (written_bytes ws' max form d' n' e').0 (sym (out_bytes ws d n e) ∙ same ∙ out_bytes ws' d' n' e')
 
 -- ---- a store that is written, from its bytes
 
-module _ (max : ℕ) (small : max ≤ 128) (form : Form) (ws : List ℕ) (wide : Words ws) (good : (writing ws max form).verdict ≡ 0) where
+module _ (max : ℕ) (small : max ≤ 128) (form : Form) (ws : List ℕ) (wide : Words ws) (good : (writing ws max form).verdict ≡ fine) where
   -- they can be cut into those of its rows
   again_cut : let rows : List Row = (writing ws max form).rows in
       Cutting (WellFormed max form) (bytes_of ws max form) (map (row_bytes form) rows) × (map (item_row form) (map (row_bytes form) rows) ≡ rows)
@@ -178,8 +178,8 @@ module _ (max : ℕ) (small : max ≤ 128) (form : Form) (ws : List ℕ) (wide :
       Cuttings.rows_cut (WellFormed max form) (item_row form) (GoodRow max form) (row_bytes form) (stands max small form) (writing ws max form).rows (store_rows max form ws wide good).0
 
   -- as a list, its rows are read again
-  pub list_again : list_of (bytes_of ws max form) max (fixed form) ≡ record { rows = (writing ws max form).rows; verdict = 0 }
-  list_again = (fixed_reads max form (bytes_of ws max form)).read _ again_cut.0 ∙ ap (λ (l : List Row). record { rows = l; verdict = 0 }) again_cut.1
+  pub list_again : list_of (bytes_of ws max form) max (fixed form) ≡ record { rows = (writing ws max form).rows; verdict = fine }
+  list_again = (fixed_reads max form (bytes_of ws max form)).read _ again_cut.0 ∙ ap (λ (l : List Row). record { rows = l; verdict = fine }) again_cut.1
 
   -- and as a section
   pub section_again : section_of (bytes_of ws max form) max (fixed form) ≡ list_of (bytes_of ws max form) max (fixed form)
@@ -191,7 +191,7 @@ module _ (max : ℕ) (small : max ≤ 128) (form : Form) (ws : List ℕ) (wide :
   words_again = ap (λ (r : Reading Row). flat words r.rows) list_again ∙ (store_rows max form ws wide good).1
 
   -- a sixth of it in number
-  pub counted_again : length (bytes_of ws max form) ≤ list_limit → count_answer (bytes_of ws max form) (list_of (bytes_of ws max form) max (fixed form)) ≡ Rows (length ws / 6)
+  pub counted_again : length (bytes_of ws max form) ≤ list_limit → count_answer (bytes_of ws max form) (list_of (bytes_of ws max form) max (fixed form)) ≡ Ok (length ws / 6)
   counted_again short =
       let s : List ℕ = bytes_of ws max form in
       let r : Reading Row = list_of s max (fixed form) in

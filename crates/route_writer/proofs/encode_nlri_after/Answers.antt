@@ -1,63 +1,31 @@
-use mathlib.Core.Path.{◌≡◌, refl, sym, ◌∙◌}
-use native.Mathlib.Omega.{arith}
-use lib.ListN.{length}
+use Rattle.std.proofs.Common.{length, sym, ◌∙◌, arith}
+use Rattle.std.proofs.lemmas.Result.{err_from_is_err_and}
 use Rattle.families.specs.Family.{max_of}
-use Rattle.route_bytes.specs.Promises.{measured}
-use Rattle.wire.specs.declared.WriteAnswer.TheVariants.{Bytes}
 use Rattle.route_writer.proofs.PromiseLaws.{after_refused, after_long, after_full, after_bytes}
 use Rattle.route_writer.proofs.encode_nlri_after.Goals as goal
 
-pub returns-then-before-gt-LIST_LIMIT : goal.returns-then-before-gt-LIST_LIMIT
-returns-then-before-gt-LIST_LIMIT c =
-    let size : let a = c.args in
-    measured a.rows.now (max_of a.afi) a.form ≡ Bytes c.in-Bytes.n = sym c.measure_nlri_prefixes.ensures ∙ c.in-Bytes.is in
+pub returns-in_err-size-clause-answer : goal.returns-in_err-size-clause-answer
+returns-in_err-size-clause-answer c =
     let a = c.args in
-    record {
-      answer = after_long a.before a.rows.now (max_of a.afi) a.form (length a.out.now) _ size (omega (arith, c.if-before-gt-LIST_LIMIT.true));
-      out = refl;
-    }
+    let why = err_from_is_err_and c.from_residual.result c.from_residual.ensures.1 in
+    rw (why.1, why.2) (after_refused a.before a.rows.now (max_of a.afi) a.form (length a.out.now) _ (sym c.measure_nlri_prefixes.ensures ∙ c.in_err-size.was))
 
-pub returns-then-before-n : goal.returns-then-before-n
-returns-then-before-n c =
-    let size : let a = c.args in
-    measured a.rows.now (max_of a.afi) a.form ≡ Bytes c.in-Bytes.n = sym c.measure_nlri_prefixes.ensures ∙ c.in-Bytes.is in
+pub returns-then-before-gt-LIST_LIMIT-clause-answer : goal.returns-then-before-gt-LIST_LIMIT-clause-answer
+returns-then-before-gt-LIST_LIMIT-clause-answer c =
     let a = c.args in
-    record {
-      answer = after_long a.before a.rows.now (max_of a.afi) a.form (length a.out.now) _ size (omega (arith, c.if-before-gt-LIST_LIMIT.false, c.if-before-n.true));
-      out = refl;
-    }
+    after_long a.before a.rows.now (max_of a.afi) a.form (length a.out.now) _ (sym c.measure_nlri_prefixes.ensures ∙ c.in_ok-size.was) (omega arith)
 
-pub returns-then-out-before : goal.returns-then-out-before
-returns-then-out-before c =
-    let size : let a = c.args in
-    measured a.rows.now (max_of a.afi) a.form ≡ Bytes c.in-Bytes.n = sym c.measure_nlri_prefixes.ensures ∙ c.in-Bytes.is in
+pub returns-then-before-size-clause-answer : goal.returns-then-before-size-clause-answer
+returns-then-before-size-clause-answer c =
     let a = c.args in
-    record {
-      answer = after_full a.before a.rows.now (max_of a.afi) a.form (length a.out.now) _ size (omega (arith, c.if-before-gt-LIST_LIMIT.false, c.if-before-n.false)) c.if-out-before.true;
-      out = refl;
-    }
+    after_long a.before a.rows.now (max_of a.afi) a.form (length a.out.now) _ (sym c.measure_nlri_prefixes.ensures ∙ c.in_ok-size.was) (omega arith)
 
-pub put_rows-requires : goal.put_rows-requires
-put_rows-requires c =
-    let size : let a = c.args in
-    measured a.rows.now (max_of a.afi) a.form ≡ Bytes c.in-Bytes.n = sym c.measure_nlri_prefixes.ensures ∙ c.in-Bytes.is in
-    (size, c.if-out-before.false)
-
-pub returns-else-out-before : goal.returns-else-out-before
-returns-else-out-before c =
-    let size : let a = c.args in
-    measured a.rows.now (max_of a.afi) a.form ≡ Bytes c.in-Bytes.n = sym c.measure_nlri_prefixes.ensures ∙ c.in-Bytes.is in
+pub returns-then-out-before-clause-answer : goal.returns-then-out-before-clause-answer
+returns-then-out-before-clause-answer c =
     let a = c.args in
-    let low = c.if-before-gt-LIST_LIMIT.false in
-    record {
-      answer = after_bytes a.before a.rows.now (max_of a.afi) a.form (length a.out.now) _ size (omega (arith, low, c.if-before-n.false)) c.if-out-before.false;
-      out = c.put_rows.ensures;
-    }
+    after_full a.before a.rows.now (max_of a.afi) a.form (length a.out.now) _ (sym c.measure_nlri_prefixes.ensures ∙ c.in_ok-size.was) (omega arith) c.if-out-before.true
 
-pub returns-in-Refused : goal.returns-in-Refused
-returns-in-Refused c =
+pub returns-clause-answer : goal.returns-clause-answer
+returns-clause-answer c =
     let a = c.args in
-    record {
-      answer = after_refused a.before a.rows.now (max_of a.afi) a.form (length a.out.now) _ (sym c.measure_nlri_prefixes.ensures ∙ c.in-Refused.is);
-      out = refl;
-    }
+    after_bytes a.before a.rows.now (max_of a.afi) a.form (length a.out.now) _ (sym c.measure_nlri_prefixes.ensures ∙ c.in_ok-size.was) (omega arith) c.if-out-before.false

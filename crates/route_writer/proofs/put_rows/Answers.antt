@@ -4,7 +4,7 @@ use Prim.Native.Nat.{ℕ, ◌+◌, ◌-◌, ◌≤◌}
 use native.Mathlib.Omega.{arith}
 use lib.ListN.{length, take, drop, length-drop}
 use lib.Seq.{length-take-le}
-use Rattle.wire.specs.declared.WriteAnswer.TheVariants.{Bytes}
+use Rattle.std.specs.Prelude.{Ok}
 use Rattle.wire.specs.Store.{laid}
 use Rattle.wire.proofs.StoreLaws.{laid_part}
 use Rattle.families.specs.declared.Form.{Form}
@@ -15,7 +15,7 @@ use Rattle.route_writer.specs.Private.{Fillable}
 use Rattle.route_writer.proofs.put_rows.Goals as goal
 
 -- the part from `to` on has room, and the rows' bytes at its front are those at `to`
-module _ (rows : List ℕ) (max : ℕ) (form : Form) (size : ℕ) (d : List ℕ) (to : ℕ) (sized : measured rows max form ≡ Bytes size) (room : to + size ≤ length d) where
+module _ (rows : List ℕ) (max : ℕ) (form : Form) (size : ℕ) (d : List ℕ) (to : ℕ) (sized : measured rows max form ≡ Ok size) (room : to + size ≤ length d) where
   fits : Fillable rows max form (take (length d - to) (drop to d)) size
   fits =
       let k : ℕ = length d - to in
