@@ -8,12 +8,12 @@ use native.Mathlib.Omega.{arith}
 use borrow.Author.Tests.{eq-eqb, ne_eqb}
 use lib.ListN.{length, get_or, set, take, drop, length-set, drop_of_length-le}
 use lib.Seq.{drop-drop, take-add, take_all}
-use Rattle.wire.specs.Refusal.{not_writable}
+use Rattle.std.specs.Prelude.{Ok, Err}
 use Rattle.wire.specs.Walk.{flat}
+use Rattle.wire.specs.declared.refusal.Refusal.TheVariants.{NotWritable}
 use Rattle.routes.specs.Prefix.{words}
 use Rattle.routes.proofs.ListLaws.{words_length}
 use Rattle.routes.specs.declared.Row.{Row}
-use Rattle.routes.specs.declared.ListAnswer.TheVariants as L
 use Rattle.route_marks.specs.Marks.{has_mark, unmarked, bare, cleared_from, cleared}
 use Rattle.route_marks.specs.Promises.{clear_answer, clear_after}
 
@@ -96,7 +96,7 @@ pub clearing_start : (ws : List ℕ) → length ws % 6 ≡ 0 → Clearing ws ws 
 clearing_start ws h = record { long = refl; rows = omega (arith, h); within = omega arith; is = refl }
 
 module _ (ws d : List ℕ) (at : ℕ) (h : Clearing ws d at) where
-  pub clearing_step : at < length d → (v : ℕ) → v ≡ unmarked (get_or d at 0) → (at + 6 ≤ length ws) × Clearing ws (set d at v) (at + 6)
+  pub clearing_step : at < length d → (v : ℕ) → v ≡ unmarked (get_or d at 0) → Clearing ws (set d at v) (at + 6)
   clearing_step lt v e =
       let d' : List ℕ = set d at v in
       let fits : at + 6 ≤ length ws = omega (arith, h.long, h.rows) in
@@ -108,7 +108,7 @@ module _ (ws d : List ℕ) (at : ℕ) (h : Clearing ws d at) where
       ∙ sym (append_assoc (take (suc at) d') (take 5 (drop (suc at) d')) (cleared (drop 5 (drop (suc at) d'))))
       ∙ ap₂ (λ (l r : List ℕ). l ++ cleared r) (sym (take-add (suc at) 5 d')) (drop-drop 5 (suc at) d')
       ∙ ap (λ (i : ℕ). take i d' ++ cleared (drop i d')) all in
-      (fits, record { long = length-set d at v ∙ h.long; rows = omega (arith, h.rows, fits); within = fits; is = h.is ∙ put ∙ on })
+      record { long = length-set d at v ∙ h.long; rows = omega (arith, h.rows, fits); within = fits; is = h.is ∙ put ∙ on }
 
   pub clearing_done : length d ≤ at → d ≡ cleared ws
   unfolding cleared_from
@@ -118,18 +118,18 @@ module _ (ws d : List ℕ) (at : ℕ) (h : Clearing ws d at) where
 -- ---- what is answered and left
 
 module _ (ws : List ℕ) where
-  pub clear_whole : length ws % 6 ≡ 0 → (L.Rows (length ws / 6) ≡ clear_answer (length ws)) × (cleared ws ≡ clear_after ws)
+  pub clear_whole : length ws % 6 ≡ 0 → (Ok (length ws / 6) ≡ clear_answer (length ws)) × (cleared ws ≡ clear_after ws)
   unfolding clear_answer clear_after
   clear_whole h = (simp (eq-eqb _ _ h), simp (eq-eqb _ _ h))
 
-  pub clear_part : (length ws % 6 ≡ 0 → ⊥) → (L.Refused not_writable ≡ clear_answer (length ws)) × (ws ≡ clear_after ws)
+  pub clear_part : (length ws % 6 ≡ 0 → ⊥) → (Err NotWritable ≡ clear_answer (length ws)) × (ws ≡ clear_after ws)
   unfolding clear_answer clear_after
   clear_part h = (simp (ne_eqb _ _ h), simp (ne_eqb _ _ h))
 
 -- of rows
-pub clear_rows : (rows : List Row) → (clear_answer (length (flat words rows)) ≡ L.Rows (length rows)) × (clear_after (flat words rows) ≡ flat words (map bare rows))
+pub clear_rows : (rows : List Row) → (clear_answer (length (flat words rows)) ≡ Ok (length rows)) × (clear_after (flat words rows) ≡ flat words (map bare rows))
 clear_rows rows =
     let places = words_length rows in
     let whole = clear_whole (flat words rows) (omega (arith, places)) in
     let sixth : length (flat words rows) / 6 ≡ length rows = omega (arith, places) in
-    (sym whole.0 ∙ ap L.Rows sixth, sym whole.1 ∙ cleared_words rows)
+    (sym whole.0 ∙ ap Ok sixth, sym whole.1 ∙ cleared_words rows)

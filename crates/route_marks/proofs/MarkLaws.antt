@@ -1,15 +1,19 @@
 -- Which rows of a reading have the mark, and what they are without it.
 -- Assumes nothing.
 use Prim.Native.Nat.{ℕ, ◌+◌, ◌/◌, ◌%◌, ◌≤◌, ◌<◌}
-use mathlib.Core.Path.{◌≡◌, sym, ap, ap₂, subst, ◌∙◌}
+use mathlib.Core.Path.{◌≡◌, refl, sym, ap, ap₂, subst, ◌∙◌}
 use mathlib.Core.List.{List, ◌∷◌, map}
 use mathlib.Core.Bool.{Bool, true, false}
+use Rattle.std.specs.Prelude.{Ok}
 use native.Mathlib.Omega.{arith}
 use borrow.Author.Tests.{eq-eqb, ne_eqb}
 use lib.ListN.{get_or, take, drop}
 use lib.Seq.{get_or-take}
 use Rattle.wire.specs.Answer.{flag}
 use Rattle.wire.specs.Cutting.{Each, one}
+use Rattle.wire.specs.Verdict.{fine}
+use Rattle.wire.specs.declared.refusal.Refusal.{Refusal}
+use Rattle.wire.proofs.AnswerLaws.{refused_not_fine}
 use Rattle.wire.specs.Walk.{Step, took, stop, more, read_all, notes, tally}
 use Rattle.wire.proofs.WalkLaws.{all_nil, all_stop, all_took, all_ind, all_blind, notes_nil, notes_stop, notes_took}
 use Rattle.families.specs.Family.{id_size, guess_mark}
@@ -18,11 +22,10 @@ use Rattle.families.specs.declared.AddPath.{AddPath}
 use Rattle.families.specs.declared.AddPath.TheVariants.{On, Off, Guess}
 use Rattle.families.specs.declared.Form.{Form}
 use Rattle.families.specs.declared.Form.TheVariants.{Plain, Tagged}
-use Rattle.routes.specs.Prefix.{row_of, item_row, host_bits, prefix_of, route_of}
+use Rattle.routes.specs.Prefix.{prefix_with, row_of, item_row, host_bits, prefix_of, route_of}
 use Rattle.routes.specs.List.{up_to, as_step, in_form, marked, form_by, step_of, list_by, list_of, hosts_by, hosts_of}
 use Rattle.routes.specs.declared.Row.{Row}
-use Rattle.routes.specs.declared.PrefixAnswer.TheVariants as P
-use Rattle.routes.specs.declared.RouteAnswer.{RouteAnswer}
+use Rattle.routes.specs.declared.Route.{Route}
 use Rattle.routes.proofs.BitLaws.{route_prefix}
 use Rattle.routes.proofs.PrefixLaws.{Took, prefix_took}
 use Rattle.routes.proofs.ListLaws.{fair, sound, step_form, step_stop, step_taken, step_took, fixed_step}
@@ -55,12 +58,11 @@ mark_off Guess Plain w h = omega arith
 mark_off Guess Tagged w h = unmarked_marked w h
 
 -- so is that of one route's, which is told its form
-pub route_unmarked : (s : List ℕ) (max : ℕ) → max ≤ 128 → (form : Form) (answer : RouteAnswer) → answer ≡ route_of s max form → (used : ℕ) (row : Row) → answer.prefix ≡ P.Prefix used row
-    → has_mark row.first ≡ false
-route_unmarked s max small form answer e used row said =
-    let t = prefix_took s max form used row (route_prefix s max form answer e (P.Prefix used row) said).0 in
-    let low : row.first < 512 = rw t.is (item_low s max form used row small t) in
-    ne_eqb (row.first / 512 % 2) 1 (λ f. omega (arith, low, f))
+pub route_unmarked : (s : List ℕ) (max : ℕ) → max ≤ 128 → (form : Form) (route : Route) → route_of s max form ≡ Ok route → has_mark route.prefix.row.first ≡ false
+route_unmarked s max small form route e =
+    let t = prefix_took s max form _ _ (route_prefix s max form (Ok route) (sym e) route refl).0 in
+    let low : route.prefix.row.first < 512 = rw t.is (item_low s max form _ _ small t) in
+    ne_eqb (route.prefix.row.first / 512 % 2) 1 (λ f. omega (arith, low, f))
 
 -- ---- a step
 
@@ -89,9 +91,9 @@ module _ (max : ℕ) (small : max ≤ 128) (mode : AddPath) (st st' : Form) (s :
       ∙ ap (as_step st') (step_taken (up_to max) (fair max) mode st st' s used row e).2
       ∙ ap (λ (r : Row). took used r st') (sym step_bare)
 
-before_stop : (max : ℕ) (mode : AddPath) (st : Form) (s : List ℕ) (n : ℕ) → step_of max mode st s ≡ stop n → step_before max mode st s ≡ stop n
+before_stop : (max : ℕ) (mode : AddPath) (st : Form) (s : List ℕ) (r : Refusal) → step_of max mode st s ≡ stop r → step_before max mode st s ≡ stop r
 unfolding in_form
-before_stop max mode st s n e = ap (as_step (form_by (up_to max) mode st s)) (step_stop (up_to max) mode st s n e)
+before_stop max mode st s r e = ap (as_step (form_by (up_to max) mode st s)) (step_stop (up_to max) mode st s r e)
 
 -- ---- a list
 
@@ -144,19 +146,19 @@ module _ (max : ℕ) (small : max ≤ 128) (mode : AddPath) where
 
 -- is without its marks what is read with Add-Path on
 module _ (max : ℕ) (small : max ≤ 128) where
-  tagged_from : (st : Form) (s : List ℕ) → (read_all (step_of max Guess) st s).verdict ≡ 0 → Each (λ (form : Form). form ≡ Tagged) (notes (λ form _. form) (step_of max Guess) st s)
-      → read_all (step_of max On) Plain s ≡ record { rows = map bare (read_all (step_of max Guess) st s).rows; verdict = 0 }
+  tagged_from : (st : Form) (s : List ℕ) → (read_all (step_of max Guess) st s).verdict ≡ fine → Each (λ (form : Form). form ≡ Tagged) (notes (λ form _. form) (step_of max Guess) st s)
+      → read_all (step_of max On) Plain s ≡ record { rows = map bare (read_all (step_of max Guess) st s).rows; verdict = fine }
   tagged_from =
       let forms : (st : Form) (s : List ℕ) → List Form = notes (λ form _. form) (step_of max Guess) in
       all_ind (step_of max Guess) (sound max Guess)
-      (λ st s r. r.verdict ≡ 0 → Each (λ (form : Form). form ≡ Tagged) (forms st s) → read_all (step_of max On) Plain s ≡ record { rows = map bare r.rows; verdict = 0 })
+      (λ st s r. r.verdict ≡ fine → Each (λ (form : Form). form ≡ Tagged) (forms st s) → read_all (step_of max On) Plain s ≡ record { rows = map bare r.rows; verdict = fine })
       (λ st _ _. all_nil (step_of max On) Plain)
-      (λ st s n pos e v _. absurd (let lt : 0 < n = (sound max Guess).names st s n e in omega (arith, v)))
+      (λ st s r pos e v _. absurd (refused_not_fine r v))
       (λ st st' s used row pos e again v each.
       let up = ((sound max Guess).takes st st' s used row e).0 in
       let ids = first_of (subst (Each (λ (form : Form). form ≡ Tagged)) (notes_took (λ form _. form) (step_of max Guess) st st' s used row pos up e) each) in
-      let item : prefix_of s max Tagged ≡ P.Prefix used (bare row) =
-      ap (prefix_of s max) (sym ids.0) ∙ (step_taken (up_to max) (fair max) Guess st st' s used row e).2 ∙ ap (P.Prefix used) (sym (step_bare max small Guess st st' s used row e)) in
+      let item : prefix_of s max Tagged ≡ Ok (prefix_with used (bare row)) =
+      ap (prefix_of s max) (sym ids.0) ∙ (step_taken (up_to max) (fair max) Guess st st' s used row e).2 ∙ ap (λ (q : Row). Ok (prefix_with used q)) (sym (step_bare max small Guess st st' s used row e)) in
       let on : step_of max On Plain s ≡ took used (bare row) Tagged = fixed_step (up_to max) Tagged Plain s ∙ ap (as_step Tagged) item in
       all_took (step_of max On) Plain Tagged s used (bare row) pos up on
       ∙ ap (more (bare row)) (all_blind (step_of max On) (λ st₁ st₂ t. fixed_step (up_to max) Tagged st₁ t ∙ sym (fixed_step (up_to max) Tagged st₂ t)) Tagged Plain (drop used s) ∙ again v ids.1))
@@ -164,7 +166,7 @@ module _ (max : ℕ) (small : max ≤ 128) where
       first_of : {form : Form} {forms : List Form} → Each (λ (f : Form). f ≡ Tagged) (form ∷ forms) → (form ≡ Tagged) × Each (λ (f : Form). f ≡ Tagged) forms
       first_of (one h t) = (h, t)
 
-  pub list_tagged : (s : List ℕ) → (list_of s max Guess).verdict ≡ 0 → Each (λ (form : Form). form ≡ Tagged) (forms_taken max Guess s)
-      → list_of s max On ≡ record { rows = map bare (list_of s max Guess).rows; verdict = 0 }
+  pub list_tagged : (s : List ℕ) → (list_of s max Guess).verdict ≡ fine → Each (λ (form : Form). form ≡ Tagged) (forms_taken max Guess s)
+      → list_of s max On ≡ record { rows = map bare (list_of s max Guess).rows; verdict = fine }
   unfolding list_by
   list_tagged s v each = tagged_from Plain s v each

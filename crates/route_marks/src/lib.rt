@@ -23,10 +23,8 @@ pub fn clear_guessed(store: &mut [u32]) -> Result<usize, Refusal>
     if store.len() % 6 != 0 {
         return Err(Refusal::NotWritable);
     }
-    let mut at: usize = 0;
-    while at < store.len() {
+    for at in (0..store.len()).step_by(6) {
         store[at] = without_mark(store[at]);
-        at = at + 6;
     }
     Ok(store.len() / 6)
 }
