@@ -10,8 +10,10 @@ use lib.ListN.{length, get_or, take, drop, length-append, length-drop}
 use lib.Seq.{take-append-le, drop-append-le, length-take-le}
 use lib.Dec.{leb}
 use Rattle.wire.specs.Choice.{pick}
-use Rattle.wire.proofs.ChoiceLaws.{pick_leb}
-use Rattle.wire.specs.Refusal.{empty_segment}
+use Rattle.std.specs.Prelude.{Err}
+use Rattle.std.proofs.lemmas.Grind.{common_steps}
+use Rattle.wire.specs.Verdict.{fine}
+use Rattle.wire.specs.declared.refusal.Refusal.TheVariants.{EmptySegment}
 use Rattle.wire.proofs.AnswerLaws.{either_none, either_second}
 use Rattle.wire.specs.Number.{be, be_at}
 use Rattle.wire.proofs.NumberLaws.{padded_take}
@@ -31,21 +33,21 @@ use Rattle.paths.proofs.SegmentLaws.{length_numbers, type_known, known_type_lem,
 
 -- it finds no fault exactly where the idea allows type and count
 pub record RuleFor (rule : Rule) (allowed : ℕ → ℕ → Type 0) : Type 0 where
-  pub sound : (kind count : ℕ) → rule kind count ≡ 0 → allowed kind count
-  pub whole : (kind count : ℕ) → allowed kind count → rule kind count ≡ 0
+  pub sound : (kind count : ℕ) → rule kind count ≡ fine → allowed kind count
+  pub whole : (kind count : ℕ) → allowed kind count → rule kind count ≡ fine
 
 -- the crate's rule finds no fault exactly where the type is one of the RFCs'
 known : RuleFor known_type Known
 known = record { sound = λ kind count e. type_known kind e; whole = λ kind count h. known_type_lem kind h.0 h.1 }
 
 -- and the strict one exactly where there is a number too
-some_number : (count : ℕ) → pick (leb 1 count) 0 empty_segment ≡ 0 → 1 ≤ count
-some_number count = pick_leb (λ (x : ℕ). x ≡ 0 → 1 ≤ count) 1 count _ _ (λ h _. h) (λ _ e. absurd (omega (arith, e)))
+some_number : (count : ℕ) → pick (leb 1 count) fine (Err EmptySegment) ≡ fine → 1 ≤ count
+some_number count e = grind (arith, common_steps)
 
 non_empty_lem : RuleFor non_empty NonEmpty
 non_empty_lem = record {
   sound = λ kind count e. let f = either_none (type_fault kind) _ e in (type_known kind f.0, some_number count f.1);
-  whole = λ kind count h. sym (either_second (type_fault kind) _ 0 (sym (known_type_lem kind h.0.0 h.0.1)) (rw (le-leb 1 count h.1) refl));
+  whole = λ kind count h. either_second (type_fault kind) _ (known_type_lem kind h.0.0 h.0.1) ∙ rw (le-leb 1 count h.1);
 }
 
 pub ruled : (rule : PathRule) → RuleFor (rule_of rule) (Allowed rule)
@@ -57,7 +59,7 @@ pub allowed_known : (rule : PathRule) (kind count : ℕ) → Allowed rule kind c
 allowed_known Crate kind count a = a
 allowed_known Strict kind count a = a.0
 
-pub rule_known : (rule : PathRule) (kind count : ℕ) → rule_of rule kind count ≡ 0 → known_type kind count ≡ 0
+pub rule_known : (rule : PathRule) (kind count : ℕ) → rule_of rule kind count ≡ fine → known_type kind count ≡ fine
 rule_known rule kind count e = known.whole kind count (allowed_known rule kind count ((ruled rule).sound kind count e))
 
 -- a well-formed segment by one idea of types and counts is one by a wider
@@ -113,7 +115,7 @@ module _ (rule : Rule) (allowed : ℕ → ℕ → Type 0) (for : RuleFor rule al
         count = c;
         body = take (span w c) (drop 2 s);
         parts = ap (λ (u : ℕ). take u s) t.size ∙ take_two_more s (span w c) t.there;
-        meant = for.sound (get_or s 0 0) c t.fine;
+        meant = for.sound (get_or s 0 0) c t.good;
         long = length-take-le (span w c) (drop 2 s) room ∙ span_is w c;
       }
 

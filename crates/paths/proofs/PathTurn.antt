@@ -17,51 +17,50 @@ use Rattle.paths.specs.Segment.{Segment, numbers_of, Rule, segment_at, segment_o
 use Rattle.paths.proofs.SegmentLaws.{segment_sound, segment_taken, counted_taken, counted_refused, light_segments, light_numbers, length_numbers}
 use Rattle.paths.specs.Promises.{count_in, count_answer}
 use Rattle.paths.proofs.PromiseLaws.{count_good, count_bad}
-use Rattle.paths.specs.declared.PathAnswer.TheVariants.{Path, Refused}
-use Rattle.paths.specs.declared.SegmentAnswer.{SegmentAnswer}
-use Rattle.paths.specs.declared.SegmentAnswer.TheVariants as G
+use Rattle.paths.specs.declared.Path.{Path}
+use Rattle.std.specs.Prelude.{Result, Ok, Err}
+use Rattle.wire.specs.Verdict.{fine}
+use Rattle.wire.specs.declared.refusal.Refusal.{Refusal}
 
 -- ---- counting
 
 -- at the head: so many segments and numbers stand before `at`
-abbrev pub CountedPath : Rule → ℕ → List ℕ → ℕ → ℕ → ℕ → Type 0
-CountedPath rule w s at m n =
-    Counted (segment_of rule w) (λ _. 1) 1 tt s tt at m × Counted (segment_of rule w) (λ g. length (asns_of g)) 1 tt s tt at n
+pub record CountedPath (rule : Rule) (w : ℕ) (s : List ℕ) (at m n : ℕ) : Type 0 where
+  pub segments : Counted (segment_of rule w) (λ _. 1) 1 tt s tt at m
+  pub numbers : Counted (segment_of rule w) (λ g. length (asns_of g)) 1 tt s tt at n
 
-module _ (rule : Rule) (w : ℕ) (pos : 0 < w) (s : List ℕ) where
+-- what a call on the part from `at` on says of the step there
+path_at : (rule : Rule) (w : ℕ) (s : List ℕ) (at : ℕ) (x : Result ℕ Refusal) → x ≡ count_in (segment_of rule w tt (take (length s - at) (drop at s))) → count_in (segment_of rule w tt (drop at s)) ≡ x
+path_at rule w s at x e = sym (rw rest at e)
+
+module _ {rule : Rule} {w : ℕ} (pos : 0 < w) {s : List ℕ} where
   pub path_start : CountedPath rule w s 0 0 0
-  path_start = (
-    count_start (segment_of rule w) (segment_sound rule w) (λ _. 1) 1 (light_segments rule w) tt s,
-    count_start (segment_of rule w) (segment_sound rule w) (λ g. length (asns_of g)) 1 (light_numbers rule w pos) tt s,
-  )
+  path_start = record {
+    segments = count_start (segment_of rule w) (segment_sound rule w) (λ _. 1) 1 (light_segments rule w) tt s;
+    numbers = count_start (segment_of rule w) (segment_sound rule w) (λ g. length (asns_of g)) 1 (light_numbers rule w pos) tt s;
+  }
 
-  -- what a call on the part from `at` on says of the step there
-  pub path_at : (at : ℕ) (r x : SegmentAnswer) → r ≡ count_in (segment_of rule w tt (take (length s - at) (drop at s))) → r ≡ x → count_in (segment_of rule w tt (drop at s)) ≡ x
-  path_at at r x e f = sym (rw rest at e) ∙ f
-
-  module _ (at m n : ℕ) (h : CountedPath rule w s at m n) where
-    pub path_next : (k : ℕ) → count_in (segment_of rule w tt (drop at s)) ≡ G.Numbers k
+  module _ {at m n : ℕ} (h : CountedPath rule w s at m n) where
+    pub path_next : (k : ℕ) → Ok k ≡ count_in (segment_of rule w tt (take (length s - at) (drop at s)))
         → (at + (2 + span w k) ≤ length s) × CountedPath rule w s (at + (2 + span w k)) (m + 1) (n + k)
     unfolding segment_at
     path_next k e =
-        let t = counted_taken rule w (drop at s) k e in
+        let t = counted_taken rule w (drop at s) k (path_at rule w s at (Ok k) e) in
         let len : length (asns_of (segment_at w (drop at s))) ≡ k = length_numbers w (get_or (drop at s) 1 0) (drop 2 (drop at s)) ∙ t.1 in
-        let one = count_step (segment_of rule w) (segment_sound rule w) (λ _. 1) 1 (light_segments rule w) tt s tt at m h.0 tt _ _ t.0 in
-        let more = count_step (segment_of rule w) (segment_sound rule w) (λ g. length (asns_of g)) 1 (light_numbers rule w pos) tt s tt at n h.1 tt _ _ t.0 in
-        (one.within, (one, subst (λ (j : ℕ). Counted (segment_of rule w) (λ g. length (asns_of g)) 1 tt s tt (at + (2 + span w k)) (n + j)) len more))
+        let one = count_step (segment_of rule w) (segment_sound rule w) (λ _. 1) 1 (light_segments rule w) tt s tt at m h.segments tt _ _ t.0 in
+        let more = count_step (segment_of rule w) (segment_sound rule w) (λ g. length (asns_of g)) 1 (light_numbers rule w pos) tt s tt at n h.numbers tt _ _ t.0 in
+        (one.within, record { segments = one; numbers = subst (λ (j : ℕ). Counted (segment_of rule w) (λ g. length (asns_of g)) 1 tt s tt (at + (2 + span w k)) (n + j)) len more })
 
-    pub path_stop : (k : ℕ) → length s ≤ list_limit → at < length s → count_in (segment_of rule w tt (drop at s)) ≡ G.Refused k → Refused k ≡ count_answer s (path_of rule w s)
+    pub path_stop : (r : Refusal) → length s ≤ list_limit → at < length s → Err r ≡ count_in (segment_of rule w tt (take (length s - at) (drop at s))) → ◌≡◌ {A = Result Path Refusal} (Err r) (count_answer s (path_of rule w s))
     unfolding path_of
-    path_stop k short lt e =
-        let f = counted_refused rule w (drop at s) k e in
-        count_bad s _ k short (count_stop (segment_of rule w) (segment_sound rule w) (λ _. 1) 1 (light_segments rule w) tt s tt at m h.0 k lt f)
-        ((segment_sound rule w).names tt (drop at s) k f)
+    path_stop r short lt e =
+        count_bad s _ r short (count_stop (segment_of rule w) (segment_sound rule w) (λ _. 1) 1 (light_segments rule w) tt s tt at m h.segments r lt (counted_refused rule w (drop at s) r (path_at rule w s at (Err r) e)))
 
-    pub path_done : length s ≤ list_limit → length s ≤ at → Path m n ≡ count_answer s (path_of rule w s)
+    pub path_done : length s ≤ list_limit → length s ≤ at → Ok (record { segments = m; numbers = n }) ≡ count_answer s (path_of rule w s)
     unfolding path_of
     path_done short le =
-        let one = count_done (segment_of rule w) (segment_sound rule w) (λ _. 1) 1 (light_segments rule w) tt s tt at m h.0 le in
-        let more = count_done (segment_of rule w) (segment_sound rule w) (λ g. length (asns_of g)) 1 (light_numbers rule w pos) tt s tt at n h.1 le in
+        let one = count_done (segment_of rule w) (segment_sound rule w) (λ _. 1) 1 (light_segments rule w) tt s tt at m h.segments le in
+        let more = count_done (segment_of rule w) (segment_sound rule w) (λ g. length (asns_of g)) 1 (light_numbers rule w pos) tt s tt at n h.numbers le in
         count_good s _ m n short one.0 one.1 more.1
 
 -- ---- the segment at a place
@@ -85,7 +84,7 @@ module _ (w : ℕ) (s : List ℕ) (at : ℕ) where
   pair_is = ap₂ (λ (k n : ℕ). k ∷ n ∷ []) kind_is asns_length
 
   -- where the rest of the path is good, it is taken
-  pub good_taken : (rule : Rule) → (path_of rule w (drop at s)).verdict ≡ 0 → at < length s
+  pub good_taken : (rule : Rule) → (path_of rule w (drop at s)).verdict ≡ fine → at < length s
       → segment_of rule w tt (drop at s) ≡ took (2 + span w (get_or s (at + 1) 0)) (segment_at w (drop at s)) tt
   unfolding path_of
   good_taken rule good lt =
@@ -101,7 +100,7 @@ FilledPath rule w s p₀ n₀ at pair to pairs numbers =
     Filled (segment_of rule w) pair_of tt s p₀ tt at pair pairs × Filled (segment_of rule w) asns_of tt s n₀ tt at to numbers
 
 module _ (rule : Rule) (w : ℕ) (s p₀ n₀ : List ℕ) where
-  filling_start : (path_of rule w s).verdict ≡ 0 → length (flat pair_of (path_of rule w s).rows) ≤ length p₀ → length (flat asns_of (path_of rule w s).rows) ≤ length n₀
+  filling_start : (path_of rule w s).verdict ≡ fine → length (flat pair_of (path_of rule w s).rows) ≤ length p₀ → length (flat asns_of (path_of rule w s).rows) ≤ length n₀
       → FilledPath rule w s p₀ n₀ 0 0 0 p₀ n₀
   unfolding path_of
   filling_start v p n =
@@ -151,12 +150,12 @@ filled_sum : (rule : Rule) (w : ℕ) (s p₀ n₀ : List ℕ) (at pair to : ℕ)
 unfolding path_of
 filled_sum rule w s p₀ n₀ at pair to pairs numbers f = fill_sum (segment_of rule w) (segment_sound rule w) asns_of tt s n₀ tt at to numbers f.1
 
-module _ (rule : Rule) (w : ℕ) (s p₀ n₀ : List ℕ) (total : ℕ) where
-  pub ahead_start : (path_of rule w s).verdict ≡ 0 → length (flat pair_of (path_of rule w s).rows) ≤ length p₀ → length (flat asns_of (path_of rule w s).rows) ≡ total → total ≤ length n₀
+module _ {rule : Rule} {w : ℕ} {s p₀ n₀ : List ℕ} {total : ℕ} where
+  pub ahead_start : (path_of rule w s).verdict ≡ fine → length (flat pair_of (path_of rule w s).rows) ≤ length p₀ → length (flat asns_of (path_of rule w s).rows) ≡ total → total ≤ length n₀
       → AheadPath rule w s p₀ n₀ total 0 0 0 p₀ n₀
   ahead_start v p all room = record { clean = n₀; filled = filling_start rule w s p₀ n₀ v p (omega arith); like = like_same total 0 n₀; all = all }
 
-  module _ (at pair to : ℕ) (pairs numbers : List ℕ) (h : AheadPath rule w s p₀ n₀ total at pair to pairs numbers) where
+  module _ {at pair to : ℕ} {pairs numbers : List ℕ} (h : AheadPath rule w s p₀ n₀ total at pair to pairs numbers) where
     sum : to + length (flat asns_of (path_of rule w (drop at s)).rows) ≡ total
     sum = filled_sum rule w s p₀ n₀ at pair to pairs h.clean h.filled ∙ h.all
 

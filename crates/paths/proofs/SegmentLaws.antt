@@ -6,27 +6,22 @@ use mathlib.Core.List.{List, [], ◌∷◌, ◌++◌}
 use native.Mathlib.Nat.{not-suc-le-zero, zero-add}
 use native.Mathlib.Numerals.{sub-one}
 use native.Mathlib.Omega.{arith}
-use borrow.Author.Tests.{le-leb, lt-leb}
+use borrow.Author.Tests.{le-leb}
 use lib.ListN.{length, get_or, drop}
-use lib.Dec.{leb}
 use lib.Seq.{drop-drop}
-use Rattle.wire.specs.Choice.{pick}
-use Rattle.wire.specs.Refusal.{truncated, empty_segment}
 use Rattle.wire.proofs.ChoiceLaws.{pick_leb}
+use Rattle.std.proofs.lemmas.Grind.{common_steps}
+use Rattle.std.specs.Prelude.{Ok, Err}
 use Rattle.asns.proofs.AsnLaws.{span_many}
-use Rattle.wire.specs.Answer.{answer_by, either}
-use Rattle.wire.proofs.AnswerLaws.{either_zero, either_first, either_second}
+use Rattle.wire.specs.declared.refusal.Refusal.{Refusal}
+use Rattle.wire.specs.Verdict.{Verdict, fine, answer_by}
 use Rattle.wire.specs.Number.{be_at}
 use Rattle.wire.specs.Walk.{Step, took, stop}
 use Rattle.wire.proofs.WalkLaws.{Sound}
 use Rattle.wire.proofs.Turn.{Light}
-use Rattle.paths.specs.Private.{fewest_by, few_fault}
 use Rattle.paths.specs.Promises.{count_in}
-use Rattle.paths.specs.declared.PathRule.{PathRule}
-use Rattle.paths.specs.declared.PathRule.TheVariants.{Crate, Strict}
-use Rattle.paths.specs.declared.SegmentAnswer.TheVariants.{Numbers, Refused}
 use Rattle.asns.specs.Asn.{span}
-use Rattle.paths.specs.Segment.{Segment, numbers_of, Rule, type_fault, rule_of, NoState, segment_at, segment_of, asns_of}
+use Rattle.paths.specs.Segment.{Segment, numbers_of, Rule, type_fault, NoState, segment_at, segment_of, asns_of}
 
 -- ---- numbers
 
@@ -65,39 +60,13 @@ numbers_add w (suc m) n s =
 
 -- ---- types
 
-pub type_known : (kind : ℕ) → type_fault kind ≡ 0 → (1 ≤ kind) × (kind ≤ 4)
+pub type_known : (kind : ℕ) → type_fault kind ≡ fine → (1 ≤ kind) × (kind ≤ 4)
 unfolding type_fault
-type_known kind =
-    pick_leb (λ (x : ℕ). x ≡ 0 → (1 ≤ kind) × (kind ≤ 4)) 1 kind _ _
-    (λ h. pick_leb (λ (x : ℕ). x ≡ 0 → (1 ≤ kind) × (kind ≤ 4)) kind 4 _ _ (λ k _. (h, k)) (λ _ e. absurd (omega (arith, e))))
-    (λ _ e. absurd (omega (arith, e)))
+type_known kind e = grind (arith, common_steps)
 
-pub known_type_lem : (kind : ℕ) → 1 ≤ kind → kind ≤ 4 → type_fault kind ≡ 0
+pub known_type_lem : (kind : ℕ) → 1 ≤ kind → kind ≤ 4 → type_fault kind ≡ fine
 unfolding type_fault
 known_type_lem kind h k = rw (le-leb 1 kind h, le-leb kind 4 k)
-
--- ---- the rule that a call is given: the type, then the count
-
-module _ (rule : PathRule) (kind count : ℕ) where
-  rule_is : either (type_fault kind) (few_fault count (fewest_by rule) empty_segment) ≡ rule_of rule kind count
-  unfolding few_fault
-  rule_is = by rule
-    where
-      by : (r : PathRule) → either (type_fault kind) (pick (leb (fewest_by r) count) 0 empty_segment) ≡ rule_of r kind count
-      by Crate = rw (le-leb 0 count (omega arith)) (either_zero (type_fault kind))
-      by Strict = refl
-
-  pub rule_type : (n : ℕ) → n ≡ type_fault kind → 0 < n → n ≡ rule_of rule kind count
-  rule_type n e pos = either_first _ _ n e pos ∙ rule_is
-
-  pub rule_count : (n : ℕ) → 0 ≡ type_fault kind → n ≡ few_fault count (fewest_by rule) empty_segment → n ≡ rule_of rule kind count
-  rule_count n e f = either_second _ _ n e f ∙ rule_is
-
--- ---- whether a segment is all there
-
-pub none_short : (there size : ℕ) → few_fault there size truncated ≡ 0 → size ≤ there
-unfolding few_fault
-none_short there size = pick_leb (λ (x : ℕ). x ≡ 0 → size ≤ there) size there _ _ (λ h _. h) (λ _ e. absurd (omega arith))
 
 -- ---- a segment that is taken
 
@@ -105,89 +74,67 @@ pub record Taken (rule : Rule) (w : ℕ) (s : List ℕ) (used : ℕ) (g : Segmen
   pub there : 2 ≤ length s
   pub size : used ≡ 2 + span w (get_or s 1 0)
   pub room : used ≤ length s
-  pub fine : rule (get_or s 0 0) (get_or s 1 0) ≡ 0
+  pub good : rule (get_or s 0 0) (get_or s 1 0) ≡ fine
   pub is : g ≡ segment_at w s
 
 module _ (rule : Rule) (w : ℕ) where
-  -- what a step says
+  -- what a step says of what it takes
   Said : List ℕ → Step NoState Segment → Type 0
   Said s (took used g st) = Taken rule w s used g
-  Said s (stop n) = 0 < n
+  Said s (stop r) = Unit
 
-  said_judged : (s : List ℕ) (n : ℕ) → 2 ≤ length s → 2 + span w (get_or s 1 0) ≤ length s → rule (get_or s 0 0) (get_or s 1 0) ≡ n
-      → Said s (answer_by n (took (2 + span w (get_or s 1 0)) (segment_at w s) tt) stop)
+  said_judged : (s : List ℕ) (v : Verdict) → 2 ≤ length s → 2 + span w (get_or s 1 0) ≤ length s → rule (get_or s 0 0) (get_or s 1 0) ≡ v
+      → Said s (answer_by v (took (2 + span w (get_or s 1 0)) (segment_at w s) tt) stop)
   unfolding Said
-  said_judged s zero h k e = record { there = h; size = refl; room = k; fine = e; is = refl }
-  said_judged s (suc n) h k e = omega arith
+  said_judged s (Ok tt) h k e = record { there = h; size = refl; room = k; good = e; is = refl }
+  said_judged s (Err r) h k e = tt
 
   said : (st : NoState) (s : List ℕ) → Said s (segment_of rule w st s)
   unfolding segment_of Said
   said st s =
       pick_leb (Said s) 2 (length s) _ _
-      (λ h. pick_leb (Said s) (2 + span w (get_or s 1 0)) (length s) _ _ (λ k. said_judged s _ h k refl) (λ _. omega arith))
-      (λ _. omega arith)
+      (λ h. pick_leb (Said s) (2 + span w (get_or s 1 0)) (length s) _ _ (λ k. said_judged s _ h k refl) (λ _. tt))
+      (λ _. tt)
 
   pub segment_taken : (st st' : NoState) (s : List ℕ) (used : ℕ) (g : Segment) → segment_of rule w st s ≡ took used g st' → Taken rule w s used g
   unfolding Said
   segment_taken st st' s used g e = rw e at (said st s)
 
   pub segment_sound : Sound (segment_of rule w)
-  unfolding Said
-  segment_sound = record {
-    takes = λ st st' s used g e. let t = segment_taken st st' s used g e in (omega (arith, t.size), t.room);
-    names = λ st s n e. rw e at (said st s);
-  }
+  segment_sound = record { takes = λ st st' s used g e. let t = segment_taken st st' s used g e in (omega (arith, t.size), t.room) }
 
-  -- what is not all there is refused by its number
-  pub short_segment : (s : List ℕ) (n : ℕ) → 2 ≤ length s → n ≡ few_fault (length s) (2 + span w (get_or s 1 0)) truncated → 0 < n → segment_of rule w tt s ≡ stop n
-  unfolding segment_of few_fault
-  short_segment s n h =
-      rw (le-leb 2 (length s) h)
-      (pick_leb (λ (x : ℕ). n ≡ x → 0 < n → pick (leb (2 + span w (get_or s 1 0)) (length s)) (answer_by (rule (get_or s 0 0) (get_or s 1 0)) (took (2 + span w (get_or s 1 0)) (segment_at w s) tt) stop) (stop truncated) ≡ stop n)
-      (2 + span w (get_or s 1 0)) (length s) _ _
-      (λ _ e pos. absurd (omega arith))
-      (λ k e pos. rw (lt-leb (2 + span w (get_or s 1 0)) (length s) k) (ap stop (sym e))))
+  module _ (s : List ℕ) (there : 2 ≤ length s) (room : 2 + span w (get_or s 1 0) ≤ length s) where
+    -- what is there, and has no fault, is taken
+    pub taken_segment : rule (get_or s 0 0) (get_or s 1 0) ≡ fine → segment_of rule w tt s ≡ took (2 + span w (get_or s 1 0)) (segment_at w s) tt
+    unfolding segment_of
+    taken_segment e = rw (le-leb 2 (length s) there, le-leb (2 + span w (get_or s 1 0)) (length s) room, e)
 
-  -- what is there, and has no fault, is taken
-  pub taken_segment : (s : List ℕ) → 2 ≤ length s → 2 + span w (get_or s 1 0) ≤ length s → rule (get_or s 0 0) (get_or s 1 0) ≡ 0
-      → segment_of rule w tt s ≡ took (2 + span w (get_or s 1 0)) (segment_at w s) tt
-  unfolding segment_of
-  taken_segment s h k e = rw (le-leb 2 (length s) h, le-leb (2 + span w (get_or s 1 0)) (length s) k, e)
+    -- what is there, and has a fault, is refused for it
+    pub fault_segment : (r : Refusal) → rule (get_or s 0 0) (get_or s 1 0) ≡ Err r → segment_of rule w tt s ≡ stop r
+    unfolding segment_of
+    fault_segment r e = rw (le-leb 2 (length s) there, le-leb (2 + span w (get_or s 1 0)) (length s) room, e)
 
-  -- what is there, and has a fault, is refused by its number
-  pub fault_segment : (s : List ℕ) (n : ℕ) → 2 ≤ length s → 2 + span w (get_or s 1 0) ≤ length s → n ≡ rule (get_or s 0 0) (get_or s 1 0) → 0 < n
-      → segment_of rule w tt s ≡ stop n
-  unfolding segment_of
-  fault_segment s zero h k e pos = absurd (not-suc-le-zero pos)
-  fault_segment s (suc n) h k e pos = rw (le-leb 2 (length s) h, le-leb (2 + span w (get_or s 1 0)) (length s) k, ← e)
+  -- ---- the step behind a count
 
-  -- ---- how many numbers a step found
-
-  pub count_taken : (s : List ℕ) → 2 ≤ length s → 2 + span w (get_or s 1 0) ≤ length s → 0 ≡ rule (get_or s 0 0) (get_or s 1 0)
-      → Numbers (get_or s 1 0) ≡ count_in (segment_of rule w tt s)
-  unfolding segment_at
-  count_taken s h k e = sym (ap count_in (taken_segment s h k (sym e)) ∙ ap Numbers (length_numbers w (get_or s 1 0) (drop 2 s)))
-
-  -- the step behind a count
-  behind : (s : List ℕ) (x : Step NoState Segment) (n : ℕ) → Said s x → count_in x ≡ Numbers n
+  behind : (s : List ℕ) (x : Step NoState Segment) (n : ℕ) → Said s x → count_in x ≡ Ok n
       → (x ≡ took (2 + span w n) (segment_at w s) tt) × (get_or s 1 0 ≡ n)
   unfolding Said segment_at
   behind s (took used g tt) n t e =
       let len : length g.asns ≡ n = cc in
       let k : get_or s 1 0 ≡ n = sym (length_numbers w (get_or s 1 0) (drop 2 s)) ∙ ap (λ (h : Segment). length h.asns) (sym t.is) ∙ len in
       (ap₂ (λ (u : ℕ) (h : Segment). took u h tt) (t.size ∙ ap (λ (j : ℕ). 2 + span w j) k) t.is, k)
-  behind s (stop m) n t e = let z : ◌≡◌ {A = ℕ} 0 1 = cc in absurd (omega (arith, z))
+  behind s (stop r) n t e = cc
 
-  pub counted_taken : (s : List ℕ) (n : ℕ) → count_in (segment_of rule w tt s) ≡ Numbers n
+  pub counted_taken : (s : List ℕ) (n : ℕ) → count_in (segment_of rule w tt s) ≡ Ok n
       → (segment_of rule w tt s ≡ took (2 + span w n) (segment_at w s) tt) × (get_or s 1 0 ≡ n)
   counted_taken s n e = behind s (segment_of rule w tt s) n (said tt s) e
 
-  refused_behind : (x : Step NoState Segment) (n : ℕ) → count_in x ≡ Refused n → x ≡ stop n
-  refused_behind (took used g st) n e = let z : ◌≡◌ {A = ℕ} 0 1 = cc in absurd (omega (arith, z))
-  refused_behind (stop m) n e = let p : m ≡ n = cc in ap stop p
+  refused_behind : (x : Step NoState Segment) (r : Refusal) → count_in x ≡ Err r → x ≡ stop r
+  refused_behind (took used g st) r e = cc
+  refused_behind (stop q) r e = cc
 
-  pub counted_refused : (s : List ℕ) (n : ℕ) → count_in (segment_of rule w tt s) ≡ Refused n → segment_of rule w tt s ≡ stop n
-  counted_refused s n e = refused_behind (segment_of rule w tt s) n e
+  pub counted_refused : (s : List ℕ) (r : Refusal) → count_in (segment_of rule w tt s) ≡ Err r → segment_of rule w tt s ≡ stop r
+  counted_refused s r e = refused_behind (segment_of rule w tt s) r e
 
   -- ---- what a loop counts is no more than the bytes passed
 

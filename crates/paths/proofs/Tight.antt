@@ -1,6 +1,7 @@
 -- Two results that the promise of a call allows are equal, and so is what it leaves: of the ensures clauses themselves.
 use mathlib.Core.Path.{◌≡◌, sym, ◌∙◌}
 use Rattle.paths.proofs.rule_fault.Reads as rule_fault
+use Rattle.paths.proofs.segment_size.Reads as segment_size
 use Rattle.paths.proofs.segment_count.Reads as segment_count
 use Rattle.paths.proofs.read_asns.Reads as read_asns
 use Rattle.paths.proofs.count_as_path.Reads as count_as_path
@@ -8,6 +9,9 @@ use Rattle.paths.proofs.parse_as_path.Reads as parse_as_path
 
 pub tight_rule_fault : (κs : _) (a : _) (z z' : _) (e e' : _) → rule_fault.Learnt κs a z e → rule_fault.Learnt κs a z' e' → z ≡ z'
 tight_rule_fault κs a z z' e e' p q = p ∙ sym q
+
+pub tight_segment_size : (κs : _) (a : _) (z z' : _) (e e' : _) → segment_size.Learnt κs a z e → segment_size.Learnt κs a z' e' → z ≡ z'
+tight_segment_size κs a z z' e e' p q = p ∙ sym q
 
 pub tight_segment_count : (κs : _) (a : _) (z z' : _) (e e' : _) → segment_count.Learnt κs a z e → segment_count.Learnt κs a z' e' → z ≡ z'
 tight_segment_count κs a z z' e e' p q = p ∙ sym q

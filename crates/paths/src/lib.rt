@@ -34,6 +34,7 @@ pub struct Path {
 }
 
 // What is wrong with a segment of that type: types are 1 to 4.
+#[tactic(auto, unfolding(crate::specs::Segment::type_fault))]
 fn type_fault(kind: u32) -> Result<(), Refusal>
     ensures { result ≡ type_fault kind }
 {
@@ -57,6 +58,7 @@ fn fewest_by(rule: PathRule) -> usize
 }
 
 // A refusal where so few are there of so many.
+#[tactic(auto, unfolding(crate::specs::Private::few_fault))]
 fn few_fault(there: usize, asked: usize, few: Refusal) -> Result<(), Refusal>
     ensures { result ≡ few_fault there asked few }
 {
@@ -64,6 +66,7 @@ fn few_fault(there: usize, asked: usize, few: Refusal) -> Result<(), Refusal>
 }
 
 // What is wrong with a segment of that type and count: the type, 9; the count, 16.
+#[tactic(auto, unfolding(crate::specs::Private::few_fault), using(wire::proofs::AnswerLaws::either_fine))]
 pub fn rule_fault(kind: u32, count: u32, rule: PathRule) -> Result<(), Refusal>
     ensures { result ≡ rule_of rule kind count }
 {
@@ -71,7 +74,16 @@ pub fn rule_fault(kind: u32, count: u32, rule: PathRule) -> Result<(), Refusal>
     few_fault(count as usize, fewest_by(rule), Refusal::EmptySegment)
 }
 
+// The bytes of a segment of so many numbers.
+#[tactic(auto, using(asns::proofs::AsnLaws::span_most))]
+pub fn segment_size(count: u8, width: AsnLength) -> usize
+    ensures { result ≡ 2 + span (width_of width) count }
+{
+    2 + asns::numbers_size(u16::from(count), width)
+}
+
 // How many numbers the segment at the front has: type and count there, 2; the numbers there, 2; then the rule, 9 and 16.
+#[tactic(auto, unfolding(crate::specs::Segment::segment_of, crate::specs::Segment::segment_at, crate::specs::Private::few_fault), using(crate::proofs::SegmentLaws::length_numbers))]
 pub fn segment_count(s: &[u8], width: AsnLength, rule: PathRule) -> Result<u8, Refusal>
     ensures { result ≡ count_in (segment_of (rule_of rule) (width_of width) tt s.now) }
 {
@@ -79,8 +91,7 @@ pub fn segment_count(s: &[u8], width: AsnLength, rule: PathRule) -> Result<u8, R
         return Err(Refusal::Truncated);
     }
     let count = s[1];
-    let size = 2 + asns::numbers_size(u16::from(count), width);
-    few_fault(s.len(), size, Refusal::Truncated)?;
+    few_fault(s.len(), segment_size(count, width), Refusal::Truncated)?;
     rule_fault(u32::from(s[0]), u32::from(count), rule)?;
     Ok(count)
 }
@@ -97,7 +108,7 @@ pub fn count_as_path(value: &[u8], width: AsnLength, rule: PathRule) -> Result<P
     let mut numbers: usize = 0;
     while at < value.len() {
         let count = segment_count(&value[at..], width, rule)?;
-        at += 2 + asns::numbers_size(u16::from(count), width);
+        at += segment_size(count, width);
         segments += 1;
         numbers += usize::from(count);
     }
@@ -138,6 +149,7 @@ fn put_narrow(s: &[u8], from: usize, n: usize, numbers: &mut [u32], start: usize
 }
 
 // The number of the four bytes at a place, the first byte lowest: a compiler sees one word in it, where it sees four bytes in `wire::u32_at`.
+#[tactic(auto, unfolding(crate::specs::Private::low_first))]
 fn low_first(s: &[u8], at: usize) -> u32
     requires { at + 4 ≤ length s.now }
     ensures { result ≡ low_first s.now at }
@@ -148,6 +160,7 @@ fn low_first(s: &[u8], at: usize) -> u32
 }
 
 // The same bytes, the first one highest.
+#[tactic(auto, unfolding(crate::specs::Private::turned_of))]
 fn turned(x: u32) -> u32
     ensures { result ≡ turned_of x }
 {
@@ -219,6 +232,7 @@ fn put_numbers(s: &[u8], from: usize, n: usize, width: AsnLength, numbers: &mut 
 }
 
 // The first n numbers of the bytes, to the front of a store; nothing where they are not all there, or have no room.
+#[tactic(auto, unfolding(crate::specs::Promises::asns_after), using(wire::proofs::StoreLaws::placed_fits, wire::proofs::StoreLaws::placed_not, crate::proofs::SegmentLaws::length_numbers))]
 pub fn read_asns(s: &[u8], n: u8, width: AsnLength, numbers: &mut [u32])
     ensures { numbers.new ≡ asns_after (width_of width) s.now n numbers.old }
 {
@@ -255,6 +269,7 @@ fn put_ahead(
 
 // The segments of a good path that has room, with `total` numbers. No test of a segment is made again, so it is the same for both rules: what the
 // strict one takes, the crate takes the same.
+#[tactic(auto, using(crate::proofs::PathTurn::ahead_fits, crate::proofs::PathTurn::ahead_long))]
 fn fill(value: &[u8], width: AsnLength, pairs: &mut [u32], numbers: &mut [u32], total: usize)
     requires value_good { (path_of known_type (width_of width) value.now).verdict ≡ fine }
     requires value_in_bounds { length (flat pair_of (path_of known_type (width_of width) value.now).rows) ≤ length pairs.old }
@@ -270,13 +285,14 @@ fn fill(value: &[u8], width: AsnLength, pairs: &mut [u32], numbers: &mut [u32], 
         let count = value[at + 1];
         put_pair(pairs, pair, u32::from(value[at]), u32::from(count));
         put_ahead(value, at + 2, usize::from(count), width, numbers, to, total);
-        at += 2 + asns::numbers_size(u16::from(count), width);
+        at += segment_size(count, width);
         pair += 2;
         to += usize::from(count);
     }
 }
 
 // A path into two lent stores: a pair of type and count for each segment, and the numbers back to back.
+#[tactic(auto, unfolding(crate::specs::Promises::read_answer, crate::specs::Promises::pairs_after, crate::specs::Promises::numbers_after), using(crate::proofs::RuleLaws::accepted))]
 pub fn parse_as_path(
     value: &[u8],
     width: AsnLength,
