@@ -4,7 +4,7 @@
 use Prim.Native.Nat.{ℕ, zero, suc, ◌≤◌, ◌<◌}
 use mathlib.Core.Path.{◌≡◌, refl, sym, ◌∙◌}
 use mathlib.Core.List.{List}
-use mathlib.Core.Bool.{Bool, false}
+use mathlib.Core.Bool.{false}
 use mathlib.Core.Logic.{inl, inr, ⊎_elim}
 use native.Mathlib.Nat.{lt_of_not-le}
 use native.Mathlib.Omega.{arith}
@@ -12,9 +12,11 @@ use borrow.Author.Tests.{le-ltb, lt-ltb}
 use lib.ListN.{length}
 use Rattle.wire.specs.Number.{Bytes}
 use Rattle.wire.proofs.NumberLaws.{be_at_lt}
-use Rattle.wire.specs.Refusal.{message_length}
+use Rattle.std.specs.Prelude.{Ok, Err}
+use Rattle.wire.specs.declared.refusal.Refusal.{Refusal}
+use Rattle.wire.specs.declared.refusal.Refusal.TheVariants.{MessageLength}
 use Rattle.messages.specs.Header.{open_kind, update_kind, notification_kind, route_refresh_kind, marker_size, header_size, message_limit, extended_limit, crate_limit, least_length, most_length, is_outside, is_unknown, claimed_of, kind_of, strict_within, LongKind, LongMessage}
-use Rattle.messages.specs.declared.MessageAnswer.TheVariants.{Message, Refused}
+use Rattle.messages.specs.declared.Message.{Message}
 use Rattle.messages.proofs.HeaderLaws.{Whole, strict_cases, inside_low, inside_high}
 
 -- ---- any two limits
@@ -31,31 +33,30 @@ module _ (s : List ℕ) where
   limits_alike limit limit' h h' = rw (outside_alike header_size limit limit' (claimed_of s) h h')
 
   -- one that claims more than a limit and is else right is refused under it with 3
-  pub over_refused : (limit limit' : ℕ) → Whole limit' s → limit < claimed_of s → strict_within limit s ≡ Refused message_length
+  pub over_refused : (limit limit' : ℕ) → Whole limit' s → limit < claimed_of s → strict_within limit s ≡ Err MessageLength
   unfolding strict_within is_outside
   over_refused limit limit' h over =
       simp (le-ltb (length s) header_size h.long, h.ones, le-ltb (claimed_of s) header_size h.claims, lt-ltb limit (claimed_of s) over)
 
-  module _ (kind claimed taken : ℕ) (marker cut trailing : Bool) where
+  module _ (m : Message) where
     -- what is found of a message that is accepted under a limit
-    pub accepted_whole_lem : (limit : ℕ) → strict_within limit s ≡ Message kind claimed taken marker cut trailing → Whole limit s
+    pub accepted_whole_lem : (limit : ℕ) → strict_within limit s ≡ Ok m → Whole limit s
     accepted_whole_lem limit =
-        strict_cases s (λ a. a ≡ Message kind claimed taken marker cut trailing → Whole limit s)
-        (λ n e. let z : ◌≡◌ {A = ℕ} 0 1 = cc in absurd (omega arith)) limit (λ h e. h)
+        strict_cases s (λ a. a ≡ Ok m → Whole limit s)
+        (λ r e. let z : ◌≡◌ {A = ℕ} 0 1 = cc in absurd (omega arith)) limit (λ h e. h)
 
     -- it is accepted the same under any limit that it keeps, and so under any higher one
-    pub accepted_alike : (limit limit' : ℕ) → limit ≤ limit' → strict_within limit s ≡ Message kind claimed taken marker cut trailing
-        → strict_within limit' s ≡ Message kind claimed taken marker cut trailing
+    pub accepted_alike : (limit limit' : ℕ) → limit ≤ limit' → strict_within limit s ≡ Ok m → strict_within limit' s ≡ Ok m
     accepted_alike limit limit' le e =
         let short = (accepted_whole_lem limit e).within in
         sym (limits_alike limit limit' short (omega (arith, short, le))) ∙ e
 
     -- and one that the higher limit alone accepts claims more than the lower one
-    pub alone_over : (limit limit' n : ℕ) → strict_within limit' s ≡ Message kind claimed taken marker cut trailing → strict_within limit s ≡ Refused n → limit < claimed_of s
-    alone_over limit limit' n accepted refused =
+    pub alone_over : (limit limit' : ℕ) (r : Refusal) → strict_within limit' s ≡ Ok m → strict_within limit s ≡ Err r → limit < claimed_of s
+    alone_over limit limit' r accepted refused =
         lt_of_not-le (λ le.
         let same = limits_alike limit limit' le (accepted_whole_lem limit' accepted).within in
-        let e : Refused n ≡ Message kind claimed taken marker cut trailing = sym refused ∙ same ∙ accepted in
+        let e : Err r ≡ Ok m = sym refused ∙ same ∙ accepted in
         let z : ◌≡◌ {A = ℕ} 0 1 = cc in
         absurd (omega arith))
 

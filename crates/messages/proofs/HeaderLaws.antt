@@ -1,25 +1,31 @@
 -- Laws of the header: its marker as words, and the checks one after another.
 -- Assumes nothing.
-use Prim.Native.Nat.{ℕ, zero, suc, ◌+◌, ◌-◌, ◌*◌, ◌^◌, ◌/◌, ◌%◌, ◌≤◌, ◌<◌, min}
+use Prim.Native.Nat.{ℕ, zero, suc, ◌+◌, ◌-◌, ◌≤◌, ◌<◌}
 use mathlib.Core.Path.{◌≡◌, refl, sym, ap, ◌∙◌}
 use mathlib.Core.List.{List, [], ◌∷◌, ◌++◌}
 use mathlib.Core.Bool.{Bool, true, false, not}
 use native.Mathlib.Nat.{le-min, min-le_right}
 use native.Mathlib.Omega.{arith}
-use borrow.Author.Tests.{eq-eqb, ne_eqb, lt-ltb, le-ltb, ltb-false, not-false}
+use borrow.Author.Tests.{eq-eqb, ne_eqb, le-ltb, ltb-false, not-false}
 use denote.Ref.{Bor}
 use lib.ListN.{length, get_or, drop}
 use lib.Dec.{eqb, ltb}
+use Rattle.std.specs.Prelude.{Result, Ok, Err, Some}
+use Rattle.std.specs.Ordering.{nat_cmp}
+use Rattle.std.specs.Range.{range_inclusive_start, range_inclusive_end, range_inclusive_exhausted, range_inclusive_contains}
+use Rattle.std.proofs.lemmas.Bool.Decides.{nat_tests}
 use Rattle.wire.specs.Choice.{pick}
-use Rattle.wire.proofs.ChoiceLaws.{pick_any, pick_eqb, pick_unless}
+use Rattle.wire.proofs.ChoiceLaws.{pick_eqb, pick_unless}
 use Rattle.wire.specs.Extent.{PartOf}
 use Rattle.wire.specs.Number.{be, padded, Bytes}
 use Rattle.wire.proofs.NumberLaws.{padded_cells, padded_add, padded_take}
-use Rattle.wire.specs.Refusal.{truncated, message_length, message_type, short_body, bad_marker}
-use Rattle.messages.specs.Header.{open_kind, update_kind, notification_kind, keepalive_kind, route_refresh_kind, message_limit, extended_limit, marker_size, all_ff, is_outside, is_unknown, header_size, crate_limit, least_length, most_length, message_of, strict_within, marker_of, claimed_of, kind_of, taken_of, accepted, accepted_whole, body_at}
+use Rattle.wire.specs.declared.refusal.Refusal.{Refusal}
+use Rattle.wire.specs.declared.refusal.Refusal.TheVariants.{Truncated, MessageLength, MessageType, ShortBody, BadMarker}
+use Rattle.messages.specs.Header.{open_kind, route_refresh_kind, kind_number, kind_named, kind_read, marker_size, all_ff, is_outside, is_unknown, header_size, crate_limit, least_length, most_length, message_of, strict_within, marker_of, claimed_of, kind_of, taken_of, accepted, accepted_whole, body_at}
 use Rattle.messages.specs.Private.{Fits}
-use Rattle.messages.specs.declared.MessageAnswer.{MessageAnswer}
-use Rattle.messages.specs.declared.MessageAnswer.TheVariants.{Message, Refused}
+use Rattle.messages.specs.declared.Message.{Message}
+use Rattle.messages.specs.declared.kind.Kind.{Kind}
+use Rattle.messages.specs.declared.kind.Kind.TheVariants.{Open, Update, Notification, Keepalive, RouteRefresh}
 
 -- ---- the marker
 
@@ -72,54 +78,7 @@ ones_word s at h =
 pub marker_words : (s : List ℕ) → marker_size ≤ length s → all_ff (marker_of s) ≡ pick (all_ff (padded 8 (drop 0 s))) (all_ff (padded 8 (drop 8 s))) false
 marker_words s long = ap all_ff (sym (padded_take marker_size s long) ∙ sym (padded_add 8 8 s)) ∙ all_ff_append (padded 8 s) (padded 8 (drop 8 s))
 
--- ---- lengths of a type
-
--- no type has a limit under that of RFC 4271
-pub limit_least : (kind : ℕ) → message_limit ≤ crate_limit kind
-unfolding crate_limit
-limit_least kind =
-    let P : ℕ → Type 0 = λ n. message_limit ≤ n in
-    pick_any P (eqb kind open_kind) message_limit _ (omega arith) (pick_any P (eqb kind keepalive_kind) message_limit extended_limit (omega arith) (omega arith))
-
--- the least lengths of the types 0 to 5, one to a byte, the lowest first
-abbrev pub least_lengths : ℕ
-least_lengths = 25370725653779
-
-pub least_shifted : (kind : ℕ) → kind ≤ route_refresh_kind → least_lengths / 2 ^ (8 * kind) % 256 ≡ least_length kind
-unfolding least_length
-least_shifted zero h = refl
-least_shifted (suc zero) h = refl
-least_shifted (suc (suc zero)) h = refl
-least_shifted (suc (suc (suc zero))) h = refl
-least_shifted (suc (suc (suc (suc zero)))) h = refl
-least_shifted (suc (suc (suc (suc (suc zero))))) h = refl
-least_shifted (suc (suc (suc (suc (suc (suc kind)))))) h = absurd (omega arith)
-
-pub least_other : (kind : ℕ) → route_refresh_kind < kind → least_length kind ≡ header_size
-unfolding least_length
-least_other kind h =
-    simp (
-      ne_eqb kind open_kind (λ e. omega arith),
-      ne_eqb kind update_kind (λ e. omega arith),
-      ne_eqb kind notification_kind (λ e. omega arith),
-      ne_eqb kind route_refresh_kind (λ e. omega arith),
-    )
-
--- all types but a KEEPALIVE are held to the crate's limit
-pub most_limit : (kind : ℕ) → eqb kind keepalive_kind ≡ false → most_length kind ≡ crate_limit kind
-unfolding most_length
-most_limit kind e = rw e
-
--- over the lower bound the upper one tells, and under it nothing else does
-pub outside_high : (lo hi n : ℕ) → lo ≤ n → is_outside lo hi n ≡ ltb hi n
-unfolding is_outside
-outside_high lo hi n h = rw (le-ltb n lo h)
-
-pub outside_low : (lo hi n : ℕ) → n < lo → is_outside lo hi n ≡ true
-unfolding is_outside
-outside_low lo hi n h = rw (lt-ltb n lo h)
-
--- ---- the checks
+-- ---- two bounds
 
 -- within two bounds
 inside_both : (lo hi n : ℕ) → is_outside lo hi n ≡ false → (lo ≤ n) × (n ≤ hi)
@@ -140,6 +99,80 @@ pub inside : (lo hi n : ℕ) → lo ≤ n → n ≤ hi → is_outside lo hi n �
 unfolding is_outside
 inside lo hi n low high = rw (le-ltb n lo low) (le-ltb hi n high)
 
+-- a test by its opposite
+pub opposite : (t u : Bool) → t ≡ not u → u ≡ not t
+opposite t true e = sym (ap not e)
+opposite t false e = sym (ap not e)
+
+-- whether a number is within them, as a range of both tells
+pub contained : (range : _) (lo hi n : ℕ) (told : Bool) → (range_inclusive_start range ≡ lo) → range_inclusive_end range ≡ hi → range_inclusive_exhausted range ≡ false
+    → told ≡ range_inclusive_contains (λ x y. Some (nat_cmp x y)) range n → is_outside lo hi n ≡ not told
+unfolding is_outside
+contained range lo hi n told from to live tells = rw (tells, from, to, live) (grind (arith, nat_tests))
+
+-- ---- the types
+
+-- the type that its own number names
+pub number_named : (kind : Kind) → kind_named (kind_number kind) ≡ kind
+unfolding kind_named
+number_named Open = refl
+number_named Update = refl
+number_named Notification = refl
+number_named Keepalive = refl
+number_named RouteRefresh = refl
+
+pub number_known : (kind : Kind) → is_unknown (kind_number kind) ≡ false
+unfolding is_unknown is_outside
+number_known Open = refl
+number_known Update = refl
+number_known Notification = refl
+number_known Keepalive = refl
+number_known RouteRefresh = refl
+
+pub number_small : (kind : Kind) → kind_number kind < 256
+number_small Open = omega arith
+number_small Update = omega arith
+number_small Notification = omega arith
+number_small Keepalive = omega arith
+number_small RouteRefresh = omega arith
+
+-- of a number that names a type, the number of that type
+pub named_number : (number : ℕ) → is_unknown number ≡ false → kind_number (kind_named number) ≡ number
+unfolding kind_named is_unknown
+named_number zero known = absurd (omega (arith, inside_low open_kind route_refresh_kind zero known))
+named_number (suc zero) known = refl
+named_number (suc (suc zero)) known = refl
+named_number (suc (suc (suc zero))) known = refl
+named_number (suc (suc (suc (suc zero)))) known = refl
+named_number (suc (suc (suc (suc (suc zero))))) known = refl
+named_number (suc (suc (suc (suc (suc (suc n)))))) known = absurd (omega (arith, inside_high open_kind route_refresh_kind (suc (suc (suc (suc (suc (suc n)))))) known))
+
+-- a type that is read from a number
+pub record Names (number : ℕ) (kind : Kind) : Type 0 where
+  pub known : is_unknown number ≡ false
+  pub named : kind_named number ≡ kind
+  pub number_of : kind_number kind ≡ number
+
+pub read_names : (number : ℕ) (kind : Kind) → kind_read number ≡ Ok kind → Names number kind
+unfolding kind_read
+read_names number kind =
+    pick_unless (λ (r : Result Kind Refusal). r ≡ Ok kind → Names number kind) (is_unknown number) _ _
+    (λ e. let z : ◌≡◌ {A = ℕ} 0 1 = cc in absurd (omega arith))
+    (λ known e.
+    let named : kind_named number ≡ kind = cc in
+    record { known = known; named = named; number_of = ap kind_number (sym named) ∙ named_number number known })
+
+-- and a number that names none
+pub read_unknown : (number : ℕ) (r : Refusal) → kind_read number ≡ Err r → (is_unknown number ≡ true) × (MessageType ≡ r)
+unfolding kind_read
+read_unknown number r = by_test (is_unknown number) refl
+  where
+    by_test : (t : Bool) → is_unknown number ≡ t → pick t (Err MessageType) (Ok (kind_named number)) ≡ Err r → (is_unknown number ≡ true) × (MessageType ≡ r)
+    by_test true e₁ e₂ = (e₁, cc)
+    by_test false e₁ e₂ = let z : ◌≡◌ {A = ℕ} 0 1 = cc in absurd (omega arith)
+
+-- ---- the checks
+
 -- what the crate's reading has found of a message that it does not refuse
 pub record Accepted (s : List ℕ) : Type 0 where
   pub long : header_size ≤ length s
@@ -158,16 +191,16 @@ pub record Whole (limit : ℕ) (s : List ℕ) : Type 0 where
   pub most : claimed_of s ≤ most_length (kind_of s)
   pub there : claimed_of s ≤ length s
 
-module _ {ℓ} (s : List ℕ) (P : MessageAnswer → Type ℓ) (bad : (n : ℕ) → P (Refused n)) where
+module _ {ℓ} (s : List ℕ) (P : Result Message Refusal → Type ℓ) (bad : (r : Refusal) → P (Err r)) where
   -- what holds of every refusal, and of what is accepted, holds of a reading
-  pub message_cases : (Accepted s → P (accepted s)) → P (message_of s)
+  pub message_cases : (Accepted s → P (Ok (accepted s))) → P (message_of s)
   unfolding message_of
   message_cases good =
-      pick_unless P (ltb (length s) header_size) (Refused truncated) _ (bad truncated) (λ long.
-      pick_unless P (ltb (claimed_of s) header_size) (Refused message_length) _ (bad message_length) (λ claims.
-      pick_unless P (is_unknown (kind_of s)) (Refused message_type) _ (bad message_type) (λ known.
-      pick_unless P (ltb (crate_limit (kind_of s)) (claimed_of s)) (Refused message_length) _ (bad message_length) (λ short.
-      pick_unless P (ltb (length s - header_size) (taken_of s - header_size)) (Refused short_body) _ (bad short_body) (λ _.
+      pick_unless P (ltb (length s) header_size) (Err Truncated) _ (bad Truncated) (λ long.
+      pick_unless P (ltb (claimed_of s) header_size) (Err MessageLength) _ (bad MessageLength) (λ claims.
+      pick_unless P (is_unknown (kind_of s)) (Err MessageType) _ (bad MessageType) (λ known.
+      pick_unless P (ltb (crate_limit (kind_of s)) (claimed_of s)) (Err MessageLength) _ (bad MessageLength) (λ short.
+      pick_unless P (ltb (length s - header_size) (taken_of s - header_size)) (Err ShortBody) _ (bad ShortBody) (λ _.
       good (record {
         long = ltb-false (length s) header_size long;
         claims = ltb-false (claimed_of s) header_size claims;
@@ -175,15 +208,15 @@ module _ {ℓ} (s : List ℕ) (P : MessageAnswer → Type ℓ) (bad : (n : ℕ) 
         short = ltb-false (crate_limit (kind_of s)) (claimed_of s) short;
       }))))))
 
-  pub strict_cases : (limit : ℕ) → (Whole limit s → P (accepted_whole s)) → P (strict_within limit s)
+  pub strict_cases : (limit : ℕ) → (Whole limit s → P (Ok (accepted_whole s))) → P (strict_within limit s)
   unfolding strict_within
   strict_cases limit good =
-      pick_unless P (ltb (length s) header_size) (Refused truncated) _ (bad truncated) (λ long.
-      pick_unless P (not (all_ff (marker_of s))) (Refused bad_marker) _ (bad bad_marker) (λ ones.
-      pick_unless P (is_outside header_size limit (claimed_of s)) (Refused message_length) _ (bad message_length) (λ claims.
-      pick_unless P (is_unknown (kind_of s)) (Refused message_type) _ (bad message_type) (λ known.
-      pick_unless P (is_outside (least_length (kind_of s)) (most_length (kind_of s)) (claimed_of s)) (Refused message_length) _ (bad message_length) (λ own.
-      pick_unless P (ltb (length s) (claimed_of s)) (Refused truncated) _ (bad truncated) (λ there.
+      pick_unless P (ltb (length s) header_size) (Err Truncated) _ (bad Truncated) (λ long.
+      pick_unless P (not (all_ff (marker_of s))) (Err BadMarker) _ (bad BadMarker) (λ ones.
+      pick_unless P (is_outside header_size limit (claimed_of s)) (Err MessageLength) _ (bad MessageLength) (λ claims.
+      pick_unless P (is_unknown (kind_of s)) (Err MessageType) _ (bad MessageType) (λ known.
+      pick_unless P (is_outside (least_length (kind_of s)) (most_length (kind_of s)) (claimed_of s)) (Err MessageLength) _ (bad MessageLength) (λ own.
+      pick_unless P (ltb (length s) (claimed_of s)) (Err Truncated) _ (bad Truncated) (λ there.
       good (record {
         long = ltb-false (length s) header_size long;
         ones = not-false (all_ff (marker_of s)) ones;
@@ -196,13 +229,13 @@ module _ {ℓ} (s : List ℕ) (P : MessageAnswer → Type ℓ) (bad : (n : ℕ) 
       })))))))
 
 -- and a message of which that is so is accepted
-pub accepted_by : (s : List ℕ) → Accepted s → message_of s ≡ accepted s
+pub accepted_by : (s : List ℕ) → Accepted s → message_of s ≡ Ok (accepted s)
 unfolding message_of
 accepted_by s h =
     let body : taken_of s - header_size ≤ length s - header_size = omega (arith, min-le_right (claimed_of s) (length s)) in
     simp (le-ltb (length s) header_size h.long, le-ltb (claimed_of s) header_size h.claims, h.known, le-ltb (crate_limit (kind_of s)) (claimed_of s) h.short, le-ltb (length s - header_size) (taken_of s - header_size) body)
 
-pub whole_by : (limit : ℕ) (s : List ℕ) → Whole limit s → strict_within limit s ≡ accepted_whole s
+pub whole_by : (limit : ℕ) (s : List ℕ) → Whole limit s → strict_within limit s ≡ Ok (accepted_whole s)
 unfolding strict_within
 whole_by limit s h =
     simp (
@@ -214,29 +247,15 @@ whole_by limit s h =
       le-ltb (length s) (claimed_of s) h.there,
     )
 
--- the crate's reading from what the tests before it found: a message over its type's limit, and one that is accepted
-module _ (s : List ℕ) (claimed : ℕ) (claims : claimed ≡ claimed_of s) (long : header_size ≤ length s) (low : header_size ≤ claimed) (known : is_unknown (kind_of s) ≡ false) where
-  pub message_over : ltb (crate_limit (kind_of s)) claimed ≡ true → Refused message_length ≡ message_of s
-  unfolding message_of
-  message_over over = rw (← claims) (simp (le-ltb (length s) header_size long, le-ltb claimed header_size low, known, over))
-
-  pub message_taken : (taken : ℕ) (ones : Bool) → taken ≡ min claimed (length s) → ones ≡ all_ff (marker_of s) → ltb (crate_limit (kind_of s)) claimed ≡ false
-      → taken - header_size ≤ length s - header_size
-      → Message (kind_of s) claimed taken (not ones) (ltb (length s) claimed) (ltb claimed (length s)) ≡ message_of s
-  unfolding message_of
-  message_taken taken ones takes marker under there =
-      rw (← claims, ← takes, ← marker)
-      (simp (le-ltb (length s) header_size long, le-ltb claimed header_size low, known, under, le-ltb (length s - header_size) (taken - header_size) there))
-
 -- what is taken of a message that is not refused is there
 pub message_fits : (s : List ℕ) → Fits (message_of s) (length s)
 message_fits s =
-    message_cases s (λ a. Fits a (length s)) (λ n. omega arith)
+    message_cases s (λ a. Fits a (length s)) (λ _. tt)
     (λ h. (le-min h.claims h.long, min-le_right (claimed_of s) (length s)))
 
 pub strict_fits : (limit : ℕ) (s : List ℕ) → Fits (strict_within limit s) (length s)
-strict_fits limit s = strict_cases s (λ a. Fits a (length s)) (λ n. omega arith) limit (λ h. (h.claims, h.there))
+strict_fits limit s = strict_cases s (λ a. Fits a (length s)) (λ _. tt) limit (λ h. (h.claims, h.there))
 
 -- the body of an answer that a reading gave is the body of that reading
-pub body_by_lem : (reading : MessageAnswer) (found : MessageAnswer) (s r : Bor (List ℕ)) → found ≡ reading → PartOf s (body_at found) r → PartOf s (body_at reading) r
+pub body_by_lem : (reading found : Result Message Refusal) (s r : Bor (List ℕ)) → found ≡ reading → PartOf s (body_at found) r → PartOf s (body_at reading) r
 body_by_lem reading found s r e h = rw (sym e) h

@@ -8,19 +8,19 @@ use native.Mathlib.Omega.{arith}
 use borrow.Author.Tests.{lt-ltb, le-ltb, ltb-false}
 use lib.ListN.{length, take, drop, length-append}
 use lib.Dec.{ltb, eqb}
-use Rattle.wire.specs.Answer.{filled, write_meaning}
+use Rattle.std.specs.Prelude.{Result, Ok, Err}
+use Rattle.wire.specs.Answer.{filled, count_meaning}
 use Rattle.wire.proofs.ChoiceLaws.{pick_any, pick_eqb, pick_unless}
 use Rattle.wire.specs.Number.{to_be, be_at}
 use Rattle.wire.proofs.NumberLaws.{to_be_four}
-use Rattle.wire.specs.Refusal.{message_type, message_length, no_room}
 use Rattle.wire.specs.Store.{laid, placed}
 use Rattle.wire.proofs.StoreLaws.{placed_next, placed_fits}
 use Rattle.wire.proofs.AnswerLaws.{written_front}
 use Rattle.messages.specs.Header.{open_kind, keepalive_kind, route_refresh_kind, header_size, message_limit, extended_limit, crate_limit, least_length, most_length, is_outside, is_unknown, all_ff, marker_of, claimed_of, kind_of}
 use Rattle.messages.proofs.HeaderLaws.{inside, inside_low, inside_high}
 use Rattle.messages.specs.Written.{header, total_of, message_bytes, write_message, message_after}
-use Rattle.wire.specs.declared.WriteAnswer.{WriteAnswer}
-use Rattle.wire.specs.declared.WriteAnswer.TheVariants.{Bytes, Refused}
+use Rattle.wire.specs.declared.refusal.Refusal.{Refusal}
+use Rattle.wire.specs.declared.refusal.Refusal.TheVariants.{MessageType, MessageLength, NoRoom}
 
 -- ---- the header
 
@@ -83,9 +83,9 @@ over_outside lo hi n h = rw (lt-ltb hi n h) (pick_any (λ (t : Bool). t ≡ true
 
 -- ---- the output
 
-pub out_by : (kind : ℕ) (body out : List ℕ) (a : WriteAnswer) → write_message kind body (length out) ≡ a → message_after kind body out ≡ filled (write_meaning a) (message_bytes kind body) out
+pub out_by : (kind : ℕ) (body out : List ℕ) (a : Result ℕ Refusal) → write_message kind body (length out) ≡ a → message_after kind body out ≡ filled (count_meaning a) (message_bytes kind body) out
 unfolding message_after
-out_by kind body out a e = ap (λ (x : WriteAnswer). filled (write_meaning x) (message_bytes kind body) out) e
+out_by kind body out a e = ap (λ (x : Result ℕ Refusal). filled (count_meaning x) (message_bytes kind body) out) e
 
 -- the body after the header
 pub body_put : (kind : ℕ) (body d d₁ d₂ : List ℕ) → total_of body ≤ length d
@@ -105,15 +105,15 @@ pub record Fit (kind : ℕ) (body : List ℕ) (places n : ℕ) : Type 0 where
   pub room : total_of body ≤ places
   pub size : n ≡ total_of body
 
-pub written_fit : (kind : ℕ) (body : List ℕ) (places n : ℕ) → write_message kind body places ≡ Bytes n → Fit kind body places n
+pub written_fit : (kind : ℕ) (body : List ℕ) (places n : ℕ) → write_message kind body places ≡ Ok n → Fit kind body places n
 unfolding write_message
 written_fit kind body places n =
-    let never : (m : ℕ) → Refused m ≡ Bytes n → Fit kind body places n = λ m e. let z : ◌≡◌ {A = ℕ} 0 1 = cc in absurd (omega arith) in
-    let P : WriteAnswer → Type 0 = λ a. a ≡ Bytes n → Fit kind body places n in
+    let never : (r : Refusal) → Err r ≡ Ok n → Fit kind body places n = λ r e. let z : ◌≡◌ {A = ℕ} 0 1 = cc in absurd (omega arith) in
+    let P : Result ℕ Refusal → Type 0 = λ a. a ≡ Ok n → Fit kind body places n in
     let total : ℕ = total_of body in
-    pick_unless P (is_unknown kind) (Refused message_type) _ (never message_type) (λ known.
-    pick_unless P (is_outside (least_length kind) (most_length kind) total) (Refused message_length) _ (never message_length) (λ own.
-    pick_unless P (ltb places total) (Refused no_room) (Bytes total) (never no_room) (λ room e.
+    pick_unless P (is_unknown kind) (Err MessageType) _ (never MessageType) (λ known.
+    pick_unless P (is_outside (least_length kind) (most_length kind) total) (Err MessageLength) _ (never MessageLength) (λ own.
+    pick_unless P (ltb places total) (Err NoRoom) (Ok total) (never NoRoom) (λ room e.
     record {
       known = known;
       least = inside_low (least_length kind) (most_length kind) total own;
@@ -124,38 +124,38 @@ written_fit kind body places n =
 
 -- the answer from what the tests before it found
 module _ (kind : ℕ) (body : List ℕ) (places : ℕ) where
-  pub write_unknown : is_unknown kind ≡ true → write_message kind body places ≡ Refused message_type
+  pub write_unknown : is_unknown kind ≡ true → write_message kind body places ≡ Err MessageType
   unfolding write_message
   write_unknown unknown = rw unknown
 
   module _ (known : is_unknown kind ≡ false) where
-    pub write_misfit : is_outside (least_length kind) (most_length kind) (total_of body) ≡ true → write_message kind body places ≡ Refused message_length
+    pub write_misfit : is_outside (least_length kind) (most_length kind) (total_of body) ≡ true → write_message kind body places ≡ Err MessageLength
     unfolding write_message
     write_misfit misfit = rw (known, misfit)
 
     module _ (own : is_outside (least_length kind) (most_length kind) (total_of body) ≡ false) where
-      pub write_full : places < total_of body → write_message kind body places ≡ Refused no_room
+      pub write_full : places < total_of body → write_message kind body places ≡ Err NoRoom
       unfolding write_message
       write_full full = rw (known, own, lt-ltb places (total_of body) full)
 
-      pub write_fits : total_of body ≤ places → write_message kind body places ≡ Bytes (total_of body)
+      pub write_fits : total_of body ≤ places → write_message kind body places ≡ Ok (total_of body)
       unfolding write_message
       write_fits room = rw (known, own, le-ltb places (total_of body) room)
 
 -- and a message of a known type, whose length its type allows, is written where there is room
 pub fit_written : (kind : ℕ) (body : List ℕ) (places : ℕ) → open_kind ≤ kind → kind ≤ route_refresh_kind → least_length kind ≤ total_of body → total_of body ≤ most_length kind
-    → total_of body ≤ places → write_message kind body places ≡ Bytes (total_of body)
+    → total_of body ≤ places → write_message kind body places ≡ Ok (total_of body)
 unfolding is_unknown
 fit_written kind body places lo hi least most room =
     write_fits kind body places (inside open_kind route_refresh_kind kind lo hi) (inside (least_length kind) (most_length kind) (total_of body) least most) room
 
 -- the bytes that it says are the message
-pub message_length_lem : (kind : ℕ) (body : List ℕ) (places n : ℕ) → write_message kind body places ≡ Bytes n → length (message_bytes kind body) ≡ n
+pub message_length_lem : (kind : ℕ) (body : List ℕ) (places n : ℕ) → write_message kind body places ≡ Ok n → length (message_bytes kind body) ≡ n
 unfolding message_bytes
 message_length_lem kind body places n e = omega (arith, length-append (header (total_of body) kind) body, length_header (total_of body) kind, (written_fit kind body places n e).size)
 
 -- and the front of the output
-pub message_front : (kind : ℕ) (body out : List ℕ) (n : ℕ) → write_message kind body (length out) ≡ Bytes n → take n (message_after kind body out) ≡ message_bytes kind body
+pub message_front : (kind : ℕ) (body out : List ℕ) (n : ℕ) → write_message kind body (length out) ≡ Ok n → take n (message_after kind body out) ≡ message_bytes kind body
 unfolding message_after
 message_front kind body out n e = written_front (write_message kind body (length out)) n (message_bytes kind body) out e (message_length_lem kind body (length out) n e)
 

@@ -29,6 +29,7 @@ impl TryFrom<u8> for Kind {
 
     ghost try_from_gives = { λ number kind. kind ≡ kind_read number };
 
+    #[tactic(auto, unfolding(crate::specs::Header::kind_read, crate::specs::Header::kind_named, crate::specs::Header::is_unknown, crate::specs::Header::is_outside))]
     fn try_from(number: u8) -> Result<Self, Refusal> {
         match number {
             1 => Ok(Kind::Open),
@@ -55,6 +56,7 @@ impl fmt::Display for Kind {
 
 impl Kind {
     // The most bytes that the crate takes of a type: OPEN and KEEPALIVE are never long.
+    #[tactic(auto, unfolding(crate::specs::Header::crate_limit))]
     pub(crate) fn crate_limit(self) -> usize
         ensures { result ≡ crate_limit (kind_number self) }
     {
@@ -65,6 +67,7 @@ impl Kind {
     }
 
     // The fewest bytes of a type: the header and what its body always has. A byte each, so that they become one number to shift, and no jumps.
+    #[tactic(auto, unfolding(crate::specs::Header::least_length))]
     fn least_length(self) -> u8
         ensures { result ≡ least_length (kind_number self) }
     {
@@ -77,6 +80,7 @@ impl Kind {
     }
 
     // The most bytes of a type under any edition: a KEEPALIVE is a header.
+    #[tactic(auto, unfolding(crate::specs::Header::most_length))]
     fn most_length(self) -> usize
         ensures { result ≡ most_length (kind_number self) }
     {

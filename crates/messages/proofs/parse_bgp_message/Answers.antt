@@ -1,8 +1,10 @@
 use borrow.Author.Tests.{lt-ltb, le-ltb}
-use mathlib.Core.Path.{sym, ◌∙◌}
-use Rattle.messages.specs.Header.{message_of}
-use Rattle.messages.proofs.HeaderLaws.{message_over, message_taken}
-use native.Mathlib.Nat.{le-min}
+use native.Mathlib.Omega.{arith}
+use Prim.Native.Nat.{◌<◌}
+use mathlib.Core.Path.{refl, sym, ap, ◌∙◌}
+use Rattle.std.proofs.lemmas.Result.{err_from_is_err_and}
+use Rattle.messages.specs.Header.{kind_of, message_of, crate_limit}
+use Rattle.messages.proofs.HeaderLaws.{Names, read_names, read_unknown, accepted_by}
 use Rattle.messages.proofs.parse_bgp_message.Goals as goal
 
 pub returns-then-s-lt-HEADER_SIZE : goal.returns-then-s-lt-HEADER_SIZE
@@ -13,27 +15,31 @@ pub returns-then-claimed-lt-HEADER_SIZE : goal.returns-then-claimed-lt-HEADER_SI
 unfolding message_of
 returns-then-claimed-lt-HEADER_SIZE c = rw (← c.u16_at-claimed.ensures) (simp (le-ltb _ _ c.if-s-lt-HEADER_SIZE.false, lt-ltb _ _ c.if-claimed-lt-HEADER_SIZE.true))
 
-pub returns-then-unknown : goal.returns-then-unknown
+pub returns-in_err-kind : goal.returns-in_err-kind
 unfolding message_of
-returns-then-unknown c =
-    rw (← c.u16_at-claimed.ensures)
-    (simp (le-ltb _ _ c.if-s-lt-HEADER_SIZE.false, le-ltb _ _ c.if-claimed-lt-HEADER_SIZE.false, sym c.unknown.ensures ∙ c.if-unknown.true))
+returns-in_err-kind c =
+    let s = c.args.s.now in
+    let unknown = read_unknown (kind_of s) c.in_err-kind.field-0.0 (sym c.try_from.ensures ∙ c.in_err-kind.was) in
+    let p = err_from_is_err_and c.from_residual.result c.from_residual.ensures.1 in
+    rw (p.1, p.2, ← unknown.1, ← c.u16_at-claimed.ensures)
+    (simp (le-ltb _ _ c.if-s-lt-HEADER_SIZE.false, le-ltb _ _ c.if-claimed-lt-HEADER_SIZE.false, unknown.0))
 
-pub returns-then-over_limit : goal.returns-then-over_limit
-returns-then-over_limit c =
-    message_over c.args.s.now _ c.u16_at-claimed.ensures c.if-s-lt-HEADER_SIZE.false c.if-claimed-lt-HEADER_SIZE.false
-    (sym c.unknown.ensures ∙ c.if-unknown.false) (sym c.over_limit.ensures ∙ c.if-over_limit.true)
-
-pub overflow_sub-taken : goal.overflow_sub-taken
-overflow_sub-taken c = rw c.least-taken.ensures (le-min c.if-claimed-lt-HEADER_SIZE.false c.if-s-lt-HEADER_SIZE.false)
-
-pub returns-then-s-taken : goal.returns-then-s-taken
+pub returns-then-crate_limit-claimed : goal.returns-then-crate_limit-claimed
 unfolding message_of
-returns-then-s-taken c =
-    rw (← c.u16_at-claimed.ensures, ← c.least-taken.ensures)
-    (simp (le-ltb _ _ c.if-s-lt-HEADER_SIZE.false, le-ltb _ _ c.if-claimed-lt-HEADER_SIZE.false, sym c.unknown.ensures ∙ c.if-unknown.false, sym c.over_limit.ensures ∙ c.if-over_limit.false, lt-ltb _ _ c.if-s-taken.true))
+returns-then-crate_limit-claimed c =
+    let n : Names (kind_of c.args.s.now) c.in_ok-kind.kind = read_names _ _ (sym c.try_from.ensures ∙ c.in_ok-kind.was) in
+    let over : crate_limit (kind_of c.args.s.now) < c.u16_at-claimed.result = omega (arith, c.if-crate_limit-claimed.true, c.crate_limit.ensures, ap crate_limit n.number_of) in
+    rw (← c.u16_at-claimed.ensures) (simp (le-ltb _ _ c.if-s-lt-HEADER_SIZE.false, le-ltb _ _ c.if-claimed-lt-HEADER_SIZE.false, n.known, lt-ltb _ _ over))
 
 pub returns : goal.returns
 returns c =
-    message_taken c.args.s.now _ c.u16_at-claimed.ensures c.if-s-lt-HEADER_SIZE.false c.if-claimed-lt-HEADER_SIZE.false (sym c.unknown.ensures ∙ c.if-unknown.false)
-    _ _ c.least-taken.ensures c.marked.ensures (sym c.over_limit.ensures ∙ c.if-over_limit.false) c.if-s-taken.false
+    let s = c.args.s.now in
+    let n : Names (kind_of s) c.in_ok-kind.kind = read_names _ _ (sym c.try_from.ensures ∙ c.in_ok-kind.was) in
+    let e = c.u16_at-claimed.ensures in
+    let accepted = accepted_by s (record {
+      long = c.if-s-lt-HEADER_SIZE.false;
+      claims = omega (arith, e, c.if-claimed-lt-HEADER_SIZE.false);
+      known = n.known;
+      short = omega (arith, e, c.if-crate_limit-claimed.false, c.crate_limit.ensures, ap crate_limit n.number_of);
+    }) in
+    rw (accepted, n.named, ← e, ← c.min.ensures, ← c.marked.ensures) refl
