@@ -10,25 +10,24 @@ use native.Mathlib.Omega.{arith}
 use borrow.Author.Tests.{lt-ltb, le-ltb, ltb-false}
 use lib.ListN.{length, length-append}
 use lib.Dec.{ltb}
+use Rattle.std.specs.Prelude.{Result, Ok, Err}
 use Rattle.wire.specs.Answer.{limited}
 use Rattle.wire.proofs.AnswerLaws.{limited_long, limited_full, limited_fits}
 use Rattle.wire.specs.Choice.{pick}
 use Rattle.wire.proofs.ChoiceLaws.{pick_any, pick_leb, pick_unless}
 use Rattle.wire.specs.Number.{to_be}
-use Rattle.wire.specs.Refusal.{too_long, no_room, list_limit, body_limit}
+use Rattle.wire.specs.Refusal.{list_limit, body_limit}
 use Rattle.wire.specs.Store.{laid, placed}
 use Rattle.wire.proofs.StoreLaws.{placed_fits, placed_next, length_laid, laid_laid, laid_swap, laid_before}
 use Rattle.families.specs.Family.{max_of}
 use Rattle.families.specs.declared.Afi.TheVariants.{Ipv4}
 use Rattle.families.specs.declared.Form.{Form}
 use Rattle.route_bytes.specs.Promises.{measured}
-use Rattle.wire.specs.declared.WriteAnswer.{WriteAnswer}
-use Rattle.wire.specs.declared.WriteAnswer.TheVariants.{Bytes, Refused}
+use Rattle.wire.specs.declared.refusal.Refusal.{Refusal}
+use Rattle.wire.specs.declared.refusal.Refusal.TheVariants.{TooLong, NoRoom}
 use Rattle.route_writer.specs.Pair.{write_pair_end, write_pair_sized, if_both, write_pair_answer}
-use Rattle.route_writer.proofs.PairLaws.{write_pair_over, write_pair_under}
-use Rattle.route_writer.specs.declared.ListsAnswer.{ListsAnswer}
-use Rattle.route_writer.specs.declared.ListsAnswer.TheVariants.{Lists}
-use Rattle.route_writer.specs.declared.ListsAnswer.TheVariants as L
+use Rattle.route_writer.proofs.PairLaws.{WritePairFits, write_pair_over, write_pair_under, write_pair_fits}
+use Rattle.route_writer.specs.declared.Lists.{Lists}
 use Rattle.updates.specs.Body.{length_size}
 use Rattle.update_writer.specs.Body.{sections, body_size, body_sized, if_writable, body_answer}
 
@@ -40,16 +39,16 @@ pub record Sized (withdrawn attributes announced places : ℕ) : Type 0 where
   pub room : body_size withdrawn attributes announced ≤ places
 
 -- what holds of every refusal, and of sizes that are not refused, holds of any sizes
-pub sized_cases {ℓ} : (withdrawn attributes announced places : ℕ) (P : WriteAnswer → Type ℓ) → ((n : ℕ) → P (Refused n))
-    → (Sized withdrawn attributes announced places → P (Bytes (body_size withdrawn attributes announced))) → P (body_sized withdrawn attributes announced places)
+pub sized_cases {ℓ} : (withdrawn attributes announced places : ℕ) (P : Result ℕ Refusal → Type ℓ) → ((r : Refusal) → P (Err r))
+    → (Sized withdrawn attributes announced places → P (Ok (body_size withdrawn attributes announced))) → P (body_sized withdrawn attributes announced places)
 unfolding body_sized limited
 sized_cases withdrawn attributes announced places P bad good =
     let total : ℕ = body_size withdrawn attributes announced in
-    pick_unless P (ltb list_limit withdrawn) (Refused too_long) _ (bad too_long) (λ low.
-    pick_unless P (ltb list_limit attributes) (Refused too_long) _ (bad too_long) (λ middle.
-    pick_leb P total body_limit _ (Refused too_long)
+    pick_unless P (ltb list_limit withdrawn) (Err TooLong) _ (bad TooLong) (λ low.
+    pick_unless P (ltb list_limit attributes) (Err TooLong) _ (bad TooLong) (λ middle.
+    pick_leb P total body_limit _ (Err TooLong)
     (λ whole.
-    pick_leb P total places (Bytes total) (Refused no_room)
+    pick_leb P total places (Ok total) (Err NoRoom)
     (λ room.
     good (record {
       low = ltb-false list_limit withdrawn low;
@@ -57,12 +56,12 @@ sized_cases withdrawn attributes announced places P bad good =
       whole = whole;
       room = room;
     }))
-    (λ _. bad no_room))
-    (λ _. bad too_long)))
+    (λ _. bad NoRoom))
+    (λ _. bad TooLong)))
 
 -- and such sizes are not refused
 pub sized_by : (withdrawn attributes announced places : ℕ) → Sized withdrawn attributes announced places
-    → body_sized withdrawn attributes announced places ≡ Bytes (body_size withdrawn attributes announced)
+    → body_sized withdrawn attributes announced places ≡ Ok (body_size withdrawn attributes announced)
 unfolding body_sized
 sized_by withdrawn attributes announced places f =
     rw (le-ltb list_limit withdrawn f.low, le-ltb list_limit attributes f.middle)
@@ -70,9 +69,9 @@ sized_by withdrawn attributes announced places f =
 
 -- ---- the answer, by what the call on both lists says
 
-abbrev pub body_by : ℕ → ListsAnswer → WriteAnswer
-body_by attributes (Lists w a) = Bytes (body_size w attributes a)
-body_by attributes (L.Refused n) = Refused n
+abbrev pub body_by : ℕ → Result Lists Refusal → Result ℕ Refusal
+body_by attributes (Ok sizes) = Ok (body_size sizes.first attributes sizes.second)
+body_by attributes (Err r) = Err r
 
 module _ (k places : ℕ) where
   -- a section over the limit of a list makes the body too long
@@ -84,7 +83,7 @@ module _ (k places : ℕ) where
       elim (dec_le total body_limit) [
         | yes le ↦
             let low : w ≤ list_limit = omega arith in
-            let both : (t : Bool) → ltb places total ≡ t → write_pair_sized length_size (length_size + k) body_limit places w a ≡ pick t (L.Refused no_room) (Lists w a) =
+            let both : (t : Bool) → ltb places total ≡ t → write_pair_sized length_size (length_size + k) body_limit places w a ≡ pick t (Err NoRoom) (Ok (record { first = w; second = a })) =
             λ t e. write_pair_under length_size (length_size + k) body_limit places w a t low (omega arith) (omega arith) (ap (ltb places) end ∙ e) in
             rw (le-ltb list_limit w low, le-ltb list_limit k (omega arith))
             (elim (dec_le total places) [
@@ -92,22 +91,28 @@ module _ (k places : ℕ) where
               | no full ↦ limited_full body_limit total places le (lt_of_not-le full) ∙ ap (body_by k) (sym (both true (lt-ltb places total (lt_of_not-le full))))
             ])
         | no gt ↦
-            let P : WriteAnswer → Type 0 = λ x. x ≡ Refused too_long in
+            let P : Result ℕ Refusal → Type 0 = λ x. x ≡ Err TooLong in
             let over : body_limit < total = lt_of_not-le gt in
-            pick_any P (ltb list_limit w) (Refused too_long) _ refl (pick_any P (ltb list_limit k) (Refused too_long) _ refl (limited_long body_limit total places over))
+            pick_any P (ltb list_limit w) (Err TooLong) _ refl (pick_any P (ltb list_limit k) (Err TooLong) _ refl (limited_long body_limit total places over))
             ∙ ap (body_by k) (sym (write_pair_over length_size (length_size + k) body_limit places w a (omega arith)))
       ]
 
-  by_lists : (x y : WriteAnswer) → if_writable x (λ w. if_writable y (λ a. body_sized w k a places)) ≡ body_by k (if_both x y (write_pair_sized length_size (length_size + k) body_limit places))
-  by_lists (Bytes w) (Bytes a) = by_sizes w a
-  by_lists (Bytes w) (Refused n) = refl
-  by_lists (Refused n) y = refl
+  by_lists : (x y : Result ℕ Refusal) → if_writable x (λ w. if_writable y (λ a. body_sized w k a places)) ≡ body_by k (if_both x y (write_pair_sized length_size (length_size + k) body_limit places))
+  by_lists (Ok w) (Ok a) = by_sizes w a
+  by_lists (Ok w) (Err r) = refl
+  by_lists (Err r) y = refl
 
 pub body_by_lem : (withdrawn attributes announced : List ℕ) (form : Form) (places : ℕ)
     → body_answer withdrawn attributes announced form places
     ≡ body_by (length attributes) (write_pair_answer withdrawn announced (max_of Ipv4) form length_size (length_size + length attributes) body_limit places)
 unfolding body_answer write_pair_answer
 body_by_lem withdrawn attributes announced form places = by_lists (length attributes) places (measured withdrawn (max_of Ipv4) form) (measured announced (max_of Ipv4) form)
+
+-- lists that were written keep the limits
+pub lists_fit : (withdrawn attributes announced : List ℕ) (form : Form) (places : ℕ) (sizes : Lists)
+    → write_pair_answer withdrawn announced (max_of Ipv4) form length_size (length_size + length attributes) body_limit places ≡ Ok sizes
+    → WritePairFits (measured withdrawn (max_of Ipv4) form) (measured announced (max_of Ipv4) form) length_size (length_size + length attributes) body_limit places sizes.first sizes.second
+lists_fit withdrawn attributes announced form places sizes e = write_pair_fits length_size (length_size + length attributes) body_limit places sizes withdrawn announced (max_of Ipv4) form e
 
 -- ---- the output
 

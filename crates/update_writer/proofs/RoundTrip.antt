@@ -19,27 +19,25 @@ use Rattle.routes.specs.List.{fixed, hosts_of, section_of}
 use Rattle.routes.specs.Promises.{count_answer, with_hosts}
 use Rattle.routes.proofs.ListLaws.{beside}
 use Rattle.routes.specs.declared.Row.{Row}
-use Rattle.routes.specs.declared.ListAnswer.TheVariants.{Rows}
-use Rattle.routes.specs.declared.RoutesAnswer.{RoutesAnswer}
+use Rattle.routes.specs.declared.Routes.{Routes}
 use Rattle.route_reader.specs.Pair.{read_pair_by, read_pair}
 use Rattle.route_bytes.specs.Encode.{writing, bytes_of}
 use Rattle.route_bytes.specs.Promises.{measured}
 use Rattle.route_bytes.proofs.PromiseLaws.{measured_bytes}
 use Rattle.route_writer.proofs.RouteTheorems.{section_again, words_again, counted_again}
-use Rattle.wire.specs.declared.WriteAnswer.{WriteAnswer}
-use Rattle.wire.specs.declared.WriteAnswer.TheVariants.{Bytes, Refused}
+use Rattle.std.specs.Prelude.{Result, Ok, Err}
+use Rattle.wire.specs.Verdict.{fine}
+use Rattle.wire.specs.declared.refusal.Refusal.{Refusal}
 use Rattle.updates.specs.Body.{length_size, withdrawn_size, attributes_size, attributes_end, parts_of, withdrawn_of, attributes_of, announced_of}
 use Rattle.updates.proofs.BodyLaws.{parts_by}
-use Rattle.updates.specs.Update.{counted, count_update, read_update}
-use Rattle.updates.specs.declared.PartsAnswer.TheVariants.{Parts}
-use Rattle.updates.specs.declared.UpdateAnswer.{UpdateAnswer}
-use Rattle.updates.specs.declared.UpdateAnswer.TheVariants.{Update}
+use Rattle.updates.specs.Update.{update_of, counted, count_update, read_update}
+use Rattle.updates.specs.declared.Update.{Update}
 use Rattle.update_writer.specs.Body.{body_size, sections, body_bytes, body_sized, if_writable, body_answer}
 use Rattle.update_writer.proofs.BodyLaws.{Sized, sized_cases, sized_by}
 
 -- a body that is read as these three sections
 pub record Reads (w b a s : List ℕ) : Type 0 where
-  pub parts : parts_of s ≡ Parts (length w) (length b) (length a)
+  pub parts : parts_of s ≡ Ok (record { withdrawn = length w; attributes = length b; announced = length a })
   pub withdrawn : withdrawn_of s ≡ w
   pub attributes : attributes_of s ≡ b
   pub announced : announced_of s ≡ a
@@ -80,7 +78,7 @@ module _ (w b a : List ℕ) (low : length w ≤ list_limit) (middle : length b �
       let r : List ℕ = to_be length_size (length b) ++ (b ++ a) in
       omega (arith, length-append (to_be length_size (length w)) (w ++ r), length-append w r, length-append (to_be length_size (length b)) (b ++ a), length-append b a)
 
-  parts : parts_of s ≡ Parts (length w) (length b) (length a)
+  parts : parts_of s ≡ Ok (record { withdrawn = length w; attributes = length b; announced = length a })
   parts =
       let end : attributes_end s ≡ length_size + length w + length_size + length b = omega (arith, first, second) in
       let last : length s - attributes_end s ≡ length a = omega (arith, size) in
@@ -111,51 +109,51 @@ module _ (withdrawn attributes announced : List ℕ) (form : Form) (places : ℕ
 
   -- what the writer found of a body that it does not refuse
   pub record BodyFit (n : ℕ) : Type 0 where
-    pub first : measured withdrawn (max_of Ipv4) form ≡ Bytes (length withdrawn_bytes)
-    pub last : measured announced (max_of Ipv4) form ≡ Bytes (length announced_bytes)
+    pub first : measured withdrawn (max_of Ipv4) form ≡ Ok (length withdrawn_bytes)
+    pub last : measured announced (max_of Ipv4) form ≡ Ok (length announced_bytes)
     pub sizes : Sized (length withdrawn_bytes) (length attributes) (length announced_bytes) places
     pub size : n ≡ body_size (length withdrawn_bytes) (length attributes) (length announced_bytes)
 
   -- what holds of every refusal, and of such a body, holds of every answer
-  pub body_cases {ℓ} : (P : WriteAnswer → Type ℓ) → ((n : ℕ) → P (Refused n)) → ((n : ℕ) → BodyFit n → P (Bytes n)) → P (body_answer withdrawn attributes announced form places)
+  pub body_cases {ℓ} : (P : Result ℕ Refusal → Type ℓ) → ((r : Refusal) → P (Err r)) → ((n : ℕ) → BodyFit n → P (Ok n)) → P (body_answer withdrawn attributes announced form places)
   unfolding body_answer
   body_cases P bad good = by_first (measured withdrawn (max_of Ipv4) form) refl
     where
       k : ℕ
       k = length attributes
 
-      by_last : (w : ℕ) → measured withdrawn (max_of Ipv4) form ≡ Bytes w → (y : WriteAnswer) → measured announced (max_of Ipv4) form ≡ y
+      by_last : (w : ℕ) → measured withdrawn (max_of Ipv4) form ≡ Ok w → (y : Result ℕ Refusal) → measured announced (max_of Ipv4) form ≡ y
           → P (if_writable y (λ a. body_sized w k a places))
-      by_last w e (Bytes a) f =
+      by_last w e (Ok a) f =
           let one : length withdrawn_bytes ≡ w = (measured_bytes withdrawn (max_of Ipv4) form w e).1 in
           let two : length announced_bytes ≡ a = (measured_bytes announced (max_of Ipv4) form a f).1 in
           sized_cases w k a places P bad
           (λ fit. good (body_size w k a) (record { first = rw one e; last = rw two f; sizes = rw (one, two) fit; size = rw (one, two) refl }))
-      by_last w e (Refused n) f = bad n
+      by_last w e (Err r) f = bad r
 
-      by_first : (x : WriteAnswer) → measured withdrawn (max_of Ipv4) form ≡ x → P (if_writable x (λ w. if_writable (measured announced (max_of Ipv4) form) (λ a. body_sized w k a places)))
-      by_first (Bytes w) e = by_last w e (measured announced (max_of Ipv4) form) refl
-      by_first (Refused n) e = bad n
+      by_first : (x : Result ℕ Refusal) → measured withdrawn (max_of Ipv4) form ≡ x → P (if_writable x (λ w. if_writable (measured announced (max_of Ipv4) form) (λ a. body_sized w k a places)))
+      by_first (Ok w) e = by_last w e (measured announced (max_of Ipv4) form) refl
+      by_first (Err r) e = bad r
 
-  pub written_fit : (n : ℕ) → body_answer withdrawn attributes announced form places ≡ Bytes n → BodyFit n
+  pub written_fit : (n : ℕ) → body_answer withdrawn attributes announced form places ≡ Ok n → BodyFit n
   written_fit n =
-      body_cases (λ a. a ≡ Bytes n → BodyFit n)
+      body_cases (λ a. a ≡ Ok n → BodyFit n)
       (λ m e. let z : ◌≡◌ {A = ℕ} 0 1 = cc in absurd (omega arith))
       (λ m fit e. let same : m ≡ n = cc in rw (← same) fit)
 
   -- lists that can be written, in sections that keep the limits, are written where there is room
-  pub fit_written : (writing withdrawn (max_of Ipv4) form).verdict ≡ 0 → (writing announced (max_of Ipv4) form).verdict ≡ 0
+  pub fit_written : (writing withdrawn (max_of Ipv4) form).verdict ≡ fine → (writing announced (max_of Ipv4) form).verdict ≡ fine
       → Sized (length withdrawn_bytes) (length attributes) (length announced_bytes) places
-      → body_answer withdrawn attributes announced form places ≡ Bytes (body_size (length withdrawn_bytes) (length attributes) (length announced_bytes))
+      → body_answer withdrawn attributes announced form places ≡ Ok (body_size (length withdrawn_bytes) (length attributes) (length announced_bytes))
   unfolding body_answer measured
   fit_written good good' fit = rw (good, good') (sized_by (length withdrawn_bytes) (length attributes) (length announced_bytes) places fit)
 
   -- a body that is written is read as the bytes of its lists and the attributes
-  pub written_read : (n : ℕ) → body_answer withdrawn attributes announced form places ≡ Bytes n → Reads withdrawn_bytes attributes announced_bytes (body_bytes withdrawn attributes announced form)
+  pub written_read : (n : ℕ) → body_answer withdrawn attributes announced form places ≡ Ok n → Reads withdrawn_bytes attributes announced_bytes (body_bytes withdrawn attributes announced form)
   unfolding body_bytes
   written_read n e = let fit = (written_fit n e).sizes in sections_read withdrawn_bytes attributes announced_bytes fit.low fit.middle fit.whole
 
-  pub written_size : (n : ℕ) → body_answer withdrawn attributes announced form places ≡ Bytes n → length (body_bytes withdrawn attributes announced form) ≡ n
+  pub written_size : (n : ℕ) → body_answer withdrawn attributes announced form places ≡ Ok n → length (body_bytes withdrawn attributes announced form) ≡ n
   unfolding body_bytes
   written_size n e =
       let fit = written_fit n e in
@@ -164,26 +162,26 @@ module _ (withdrawn attributes announced : List ℕ) (form : Form) (places : ℕ
 -- ---- and the rows in it
 
 -- of a store that is written, from its bytes as a section
-module _ (max : ℕ) (small : max ≤ 128) (form : Form) (ws : List ℕ) (wide : Words ws) (good : (writing ws max form).verdict ≡ 0) where
+module _ (max : ℕ) (small : max ≤ 128) (form : Form) (ws : List ℕ) (wide : Words ws) (good : (writing ws max form).verdict ≡ fine) where
   -- its words are read again
   section_words : flat words (section_of (bytes_of ws max form) max (fixed form)).rows ≡ ws
   section_words = ap (λ (r : Reading Row). flat words r.rows) (section_again max small form ws wide good) ∙ words_again max small form ws wide good
 
   -- a sixth of them in number
-  section_counted : length (bytes_of ws max form) ≤ list_limit → count_answer (bytes_of ws max form) (section_of (bytes_of ws max form) max (fixed form)) ≡ Rows (length ws / 6)
+  section_counted : length (bytes_of ws max form) ≤ list_limit → count_answer (bytes_of ws max form) (section_of (bytes_of ws max form) max (fixed form)) ≡ Ok (length ws / 6)
   section_counted short = ap (count_answer (bytes_of ws max form)) (section_again max small form ws wide good) ∙ counted_again max small form ws wide good short
 
-module _ (withdrawn attributes announced : List ℕ) (form : Form) (places n : ℕ) (wrote : body_answer withdrawn attributes announced form places ≡ Bytes n)
+module _ (withdrawn attributes announced : List ℕ) (form : Form) (places n : ℕ) (wrote : body_answer withdrawn attributes announced form places ≡ Ok n)
     (wide : Words withdrawn) (wide' : Words announced) where
   abbrev body : List ℕ
   body = body_bytes withdrawn attributes announced form
 
   -- what is written is counted as so many rows, each a sixth of its store, with the host rows of its bytes
-  abbrev again : List ℕ → RoutesAnswer
-  again ws = with_hosts (Rows (length ws / 6)) (hosts_of (bytes_of ws (max_of Ipv4) form) (max_of Ipv4) (fixed form))
+  abbrev again : List ℕ → Result Routes Refusal
+  again ws = with_hosts (Ok (length ws / 6)) (hosts_of (bytes_of ws (max_of Ipv4) form) (max_of Ipv4) (fixed form))
 
-  abbrev counts : UpdateAnswer
-  counts = Update (again withdrawn) (again announced)
+  abbrev counts : Result Update Refusal
+  counts = update_of (again withdrawn) (again announced)
 
   pub first_again : counted (withdrawn_of body) (fixed form) ≡ again withdrawn
   first_again =
@@ -201,7 +199,7 @@ module _ (withdrawn attributes announced : List ℕ) (form : Form) (places n : �
 
   pub update_counted : count_update body (fixed form) ≡ counts
   unfolding count_update
-  update_counted = rw (written_read withdrawn attributes announced form places n wrote).parts (ap₂ Update first_again last_again)
+  update_counted = rw (written_read withdrawn attributes announced form places n wrote).parts (ap₂ update_of first_again last_again)
 
   -- and read, where each store is as large as the one that was written
   pub update_read : (room room' : ℕ) → length withdrawn ≤ room → length announced ≤ room' → read_update body (fixed form) room room' ≡ counts
