@@ -18,11 +18,11 @@ use Rattle.wire.proofs.NumberLaws.{bytes_take}
 use Rattle.families.specs.Family.{id_size, octets}
 use Rattle.families.specs.declared.Form.{Form}
 use Rattle.routes.specs.Prefix.{prefix_of, host_bits, with_host, route_of}
-use Rattle.routes.specs.declared.Row.{Row}
-use Rattle.routes.specs.declared.PrefixAnswer.{PrefixAnswer}
-use Rattle.routes.specs.declared.PrefixAnswer.TheVariants.{Prefix, Refused}
-use Rattle.routes.specs.declared.RouteAnswer.{RouteAnswer}
-use Rattle.routes.proofs.PrefixLaws.{prefix_took}
+use Rattle.std.specs.Prelude.{Result, Ok, Err}
+use Rattle.wire.specs.declared.refusal.Refusal.{Refusal}
+use Rattle.routes.specs.declared.Prefix.{Prefix}
+use Rattle.routes.specs.declared.Route.{Route}
+use Rattle.routes.proofs.PrefixLaws.{given_not_refused, prefix_took}
 use Rattle.routes.proofs.HostLaws.{host_last}
 
 -- ---- the last bits of a byte
@@ -104,28 +104,26 @@ module _ (form : Form) (item ident o : List ℕ) (len : ℕ) (parts : item ≡ i
 
 -- ---- what the call tells
 
-module _ (s : List ℕ) (max : ℕ) (form : Form) (z : RouteAnswer) (call : z ≡ route_of s max form) where
-  -- all of it, by what it tells of the prefix
-  pub route_prefix : (a : PrefixAnswer) → z.prefix ≡ a → (prefix_of s max form ≡ a) × (z ≡ with_host form s a)
+module _ (s : List ℕ) (max : ℕ) (form : Form) (z : Result Route Refusal) (call : z ≡ route_of s max form) where
+  -- of a route: its prefix, and whether it has a host bit
+  pub route_prefix : (route : Route) → z ≡ Ok route → (prefix_of s max form ≡ Ok route.prefix) × (route.host ≡ host_bits form (take route.prefix.used s))
   unfolding route_of
-  route_prefix a e =
-      let same : prefix_of s max form ≡ a = sym (beside (prefix_of s max form)) ∙ sym (ap (λ (x : RouteAnswer). x.prefix) call) ∙ e in
-      (same, call ∙ ap (with_host form s) same)
+  route_prefix route e = by (prefix_of s max form) (sym call ∙ e)
     where
-      beside : (x : PrefixAnswer) → (with_host form s x).prefix ≡ x
-      beside (Prefix used row) = refl
-      beside (Refused n) = refl
+      by : (a : Result Prefix Refusal) → with_host form s a ≡ Ok route → (a ≡ Ok route.prefix) × (route.host ≡ host_bits form (take route.prefix.used s))
+      by (Ok p) f =
+          let same : record { prefix = p; host = host_bits form (take p.used s) } ≡ route = cc in
+          let here : p ≡ route.prefix = ap (λ (r : Route). r.prefix) same in
+          (ap Ok here, sym (ap (λ (r : Route). r.host) same) ∙ ap (λ (q : Prefix). host_bits form (take q.used s)) here)
+      by (Err r) f = absurd (given_not_refused (sym f))
 
-  pub route_none : (n : ℕ) → z.prefix ≡ Refused n → z.host ≡ false
-  route_none n e = ap (λ (x : RouteAnswer). x.host) (route_prefix (Refused n) e).1
-
-  pub route_bits : (used : ℕ) (row : Row) → z.prefix ≡ Prefix used row → Bytes s → (ident o : List ℕ) (len : ℕ) → take used s ≡ ident ++ (len ∷ o) → length ident ≡ id_size form
-      → (z.host ≡ false → (i : ℕ) → len ≤ i → get_or o (i / 8) 0 / 2 ^ (7 - i % 8) % 2 ≡ 0)
-      × (z.host ≡ true → (i : ℕ) × (len ≤ i) × (get_or o (i / 8) 0 / 2 ^ (7 - i % 8) % 2 ≡ 1))
-  route_bits used row e each ident o len parts size =
-      let it = route_prefix (Prefix used row) e in
-      let t = prefix_took s max form used row it.0 in
-      let host : z.host ≡ host_bits form (take used s) = ap (λ (x : RouteAnswer). x.host) it.1 in
+  pub route_bits : (route : Route) → z ≡ Ok route → Bytes s → (ident o : List ℕ) (len : ℕ) → take route.prefix.used s ≡ ident ++ (len ∷ o) → length ident ≡ id_size form
+      → (route.host ≡ false → (i : ℕ) → len ≤ i → get_or o (i / 8) 0 / 2 ^ (7 - i % 8) % 2 ≡ 0)
+      × (route.host ≡ true → (i : ℕ) × (len ≤ i) × (get_or o (i / 8) 0 / 2 ^ (7 - i % 8) % 2 ≡ 1))
+  route_bits route e each ident o len parts size =
+      let used : ℕ = route.prefix.used in
+      let it = route_prefix route e in
+      let t = prefix_took s max form used route.prefix.row it.0 in
       let long = length-take-le used s t.room in
       let bits : get_or s (id_size form) 0 ≡ len =
       sym (get_or-take used s (id_size form) 0 (omega (arith, t.size)))
@@ -135,4 +133,4 @@ module _ (s : List ℕ) (max : ℕ) (form : Form) (z : RouteAnswer) (call : z �
       let whole : length o ≡ octets len =
       (let n : used ≡ id_size form + 1 + octets len = t.size ∙ ap (λ (l : ℕ). id_size form + 1 + octets l) bits in omega (arith, n, long, ap length parts, length-append ident (len ∷ o), size)) in
       let b = item_bits form (take used s) ident o len parts size whole (bytes_take used s each) in
-      (λ none. b.0 (sym host ∙ none), λ some. b.1 (sym host ∙ some))
+      (λ none. b.0 (sym it.1 ∙ none), λ some. b.1 (sym it.1 ∙ some))

@@ -10,7 +10,9 @@ use native.Mathlib.Omega.{arith}
 use borrow.Author.Tests.{ne_eqb, eq-eqb}
 use lib.ListN.{length, get_or, take, drop, length-append, length-drop}
 use lib.Seq.{length-take-le, take-add, drop-cons, take-append_seam, get_or_at, get_or-take}
+use Rattle.std.specs.Prelude.{Result, Ok, Err}
 use Rattle.wire.specs.Answer.{flag}
+use Rattle.wire.specs.declared.refusal.Refusal.{Refusal}
 use Rattle.wire.specs.Cutting.{Each, none, one, joined, Cutting}
 use Rattle.wire.specs.Walk.{took, stop, more, read_all, notes, pieces, tally}
 use Rattle.wire.proofs.CuttingLaws.{Decides, cut_pieces}
@@ -23,8 +25,7 @@ use Rattle.routes.specs.Prefix.{item_row, host_bits}
 use Rattle.routes.specs.WellFormed.{WellFormed, NoZeroFirst}
 use Rattle.routes.specs.List.{up_to, fixed, as_step, in_form, marked_step, step_by, step_of, hosts_of, strange}
 use Rattle.routes.specs.declared.Row.{Row}
-use Rattle.routes.specs.declared.PrefixAnswer.{PrefixAnswer}
-use Rattle.routes.specs.declared.PrefixAnswer.TheVariants as P
+use Rattle.routes.specs.declared.Prefix.{Prefix}
 use Rattle.routes.proofs.PrefixLaws.{Took, took_prefix}
 use Rattle.routes.proofs.ListLaws.{step_form, fixed_form, fixed_step, hosts_fixed, sound, step_took, guess_plain}
 
@@ -100,15 +101,15 @@ guess_step : (max : ℕ) (st : Form) (s : List ℕ) → (get_or s 0 0 ≡ 0 → 
 unfolding step_by in_form
 guess_step max st s h = ap (λ (f : Form). marked_step Guess (as_step f (up_to max s f))) (guess_plain (up_to max) Plain s (rw (ne_eqb (get_or s 0 0) 0 h))) ∙ no_id (up_to max s Plain)
   where
-    no_id : (a : PrefixAnswer) → marked_step Guess (as_step Plain a) ≡ marked_step Off (as_step Plain a)
-    no_id (P.Prefix used row) = refl
-    no_id (P.Refused n) = refl
+    no_id : (a : Result Prefix Refusal) → marked_step Guess (as_step Plain a) ≡ marked_step Off (as_step Plain a)
+    no_id (Ok p) = refl
+    no_id (Err r) = refl
 
 -- a refused place does not start with 0, since 00 is a whole item
-zero_item : (max : ℕ) (st : Form) (s : List ℕ) (n : ℕ) → 0 < length s → step_of max Off st s ≡ stop n → get_or s 0 0 ≡ 0 → ⊥
+zero_item : (max : ℕ) (st : Form) (s : List ℕ) (r : Refusal) → 0 < length s → step_of max Off st s ≡ stop r → get_or s 0 0 ≡ 0 → ⊥
 unfolding step_by in_form
-zero_item max st [] n pos e z = not-suc-le-zero pos
-zero_item max st (b ∷ s) n pos e z =
+zero_item max st [] r pos e z = not-suc-le-zero pos
+zero_item max st (b ∷ s) r pos e z =
     let item : WellFormed max Plain (0 ∷ []) = record { ident = []; len = 0; prefix = []; parts = refl; ident_size = refl; in_range = omega arith; prefix_size = refl } in
     let f : step_of max Off st (b ∷ s) ≡ took 1 (item_row Plain (0 ∷ [])) Plain = rw z (formed_step max Plain st (0 ∷ []) s item) in
     let bad : ◌≡◌ {A = ℕ} 0 1 = cc in

@@ -1,10 +1,11 @@
--- Laws of host bits: where they stand in an item, and a count in one number of rows and of those that have one.
+-- Laws of host bits: where they stand in an item, and how many items have one.
 -- Assumes nothing.
 use Prim.Native.Nat.{ℕ, ◌+◌, ◌-◌, ◌*◌, ◌^◌, ◌%◌, ◌≤◌, ◌<◌}
 use mathlib.Core.Path.{◌≡◌, refl, sym, ap, ap₂, ◌∙◌}
 use mathlib.Core.List.{List, [], ◌∷◌}
 use mathlib.Core.Bool.{Bool, true, false, not}
 use native.Mathlib.Omega.{arith}
+use mir.Val.{bool_byte}
 use lib.Bits.{bit_and}
 use lib.Dec.{eqb}
 use lib.ListN.{length, get_or, take, drop, length-drop}
@@ -17,8 +18,7 @@ use Rattle.wire.proofs.NumberLaws.{be_last}
 use Rattle.families.specs.Family.{id_size, octets}
 use Rattle.families.specs.declared.Form.{Form}
 use Rattle.routes.specs.Prefix.{host_bits}
-use Rattle.routes.specs.Promises.{host_unit}
-use Rattle.routes.specs.Private.{past_length, past_masks, weight_of}
+use Rattle.routes.specs.Private.{past_length, past_masks}
 
 -- ---- in an item
 
@@ -75,19 +75,19 @@ masked_past bits last past byte e =
     let same : masked k last ≡ last_bits k last = alike_same (masked k last) (last_bits k last) (below_at (λ x. alike (masked k x) (last_bits k x)) 256 last (below_at each_byte 8 k masks_fit few) byte) in
     ap (λ (l : List ℕ). not (eqb (bit_and last (get_or l k 0)) 0)) e ∙ ap not same ∙ ap (λ (q : ℕ). not (eqb (last % 2 ^ q) 0)) left
 
--- ---- a count in one number
+-- ---- a count of them
 
-pub weight_few : (host : Bool) → (1 ≤ weight_of host) × (weight_of host ≤ 1 + host_unit)
-weight_few true = (omega arith, omega arith)
-weight_few false = (omega arith, omega arith)
+-- as `usize::from` counts one
+pub flag_from : (host : Bool) → bool_byte host ≡ flag host
+flag_from true = refl
+flag_from false = refl
+
+pub flag_few : (host : Bool) → flag host ≤ 1
+flag_few true = omega arith
+flag_few false = omega arith
 
 pub tally_flags : (l : List Bool) → tally flag l ≤ length l
 unfolding tally
 tally_flags [] = omega arith
 tally_flags (true ∷ l) = omega (arith, tally_flags l)
 tally_flags (false ∷ l) = omega (arith, tally_flags l)
-
-pub tally_weights : (l : List Bool) → tally weight_of l ≡ length l + host_unit * tally flag l
-unfolding tally
-tally_weights [] = refl
-tally_weights (b ∷ l) = omega (arith, tally_weights l)

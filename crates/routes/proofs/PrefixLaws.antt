@@ -1,26 +1,38 @@
 -- Laws of one item.
 -- Assumes nothing.
 use Prim.Native.Nat.{ℕ, suc, ◌+◌, ◌-◌, ◌≤◌, ◌<◌}
-use mathlib.Core.Path.{◌≡◌, refl, sym, ap, ap₂, ◌∙◌}
+use mathlib.Core.Path.{◌≡◌, refl, sym, ap, ap₂, subst, ◌∙◌}
 use mathlib.Core.List.{List}
 use native.Mathlib.Omega.{arith}
 use borrow.Author.Tests.{le-leb, lt-leb, lt-ltb, le-ltb}
 use lib.ListN.{length, get_or, take, drop}
 use lib.Seq.{get_or-take, take-take}
+use Rattle.std.specs.Prelude.{Result, Ok, Err}
+use Rattle.std.specs.Result.{IsErrAnd}
+use Rattle.std.proofs.lemmas.Result.{err_from_is_err_and}
 use Rattle.wire.proofs.ChoiceLaws.{pick_leb}
 use Rattle.wire.specs.Number.{be, be_at, padded}
 use Rattle.wire.proofs.NumberLaws.{padded_take}
 use Rattle.wire.proofs.Parts.{drop_take}
-use Rattle.wire.specs.Refusal.{truncated, prefix_length, past_all}
+use Rattle.wire.specs.declared.refusal.Refusal.{Refusal}
+use Rattle.wire.specs.declared.refusal.Refusal.TheVariants.{Truncated, PrefixLength}
 use Rattle.families.specs.Family.{id_size, mark_of, octets}
-use Rattle.routes.specs.Prefix.{word_at, item_end, row_of, item_row, prefix_of}
+use Rattle.routes.specs.Prefix.{word_at, item_end, row_of, item_row, prefix_with, prefix_of}
 use Rattle.families.specs.declared.Form.{Form}
 use Rattle.routes.specs.declared.Row.{Row}
-use Rattle.routes.specs.declared.PrefixAnswer.{PrefixAnswer}
-use Rattle.routes.specs.declared.PrefixAnswer.TheVariants.{Prefix, Refused}
+use Rattle.routes.specs.declared.Prefix.{Prefix}
 
-zero_ne_one : ◌≡◌ {A = ℕ} 0 1 → ⊥
-zero_ne_one e = omega arith
+-- what is given is not refused
+pub given_not_refused : {X : Type 0} {x : X} {r : Refusal} → ◌≡◌ {A = Result X Refusal} (Ok x) (Err r) → ⊥
+given_not_refused e = let z : ◌≡◌ {A = ℕ} 0 1 = cc in omega arith
+
+-- what the exit of a `?` returns
+pub passed : {X : Type 0} (e : Refusal) (a : Result X Refusal) → IsErrAnd a (λ r. r ≡ e) → a ≡ Err e
+passed e a h = let r = err_from_is_err_and a h in r.1 ∙ ap Err r.2
+
+-- what is given is one value
+pub same_prefix : (p q : Prefix) → ◌≡◌ {A = Result Prefix Refusal} (Ok p) (Ok q) → p ≡ q
+same_prefix p q e = cc
 
 -- what an item that is taken is
 pub record Took (s : List ℕ) (max : ℕ) (form : Form) (used : ℕ) (row : Row) : Type 0 where
@@ -31,40 +43,33 @@ pub record Took (s : List ℕ) (max : ℕ) (form : Form) (used : ℕ) (row : Row
   pub is : row ≡ item_row form (take used s)
 
 -- what holds of each answer where it is given holds of the answer
-pub prefix_cases {ℓ} : (s : List ℕ) (max : ℕ) (form : Form) (P : PrefixAnswer → Type ℓ)
-    → P (Refused truncated)
-    → P (Refused prefix_length)
-    → ((used : ℕ) (row : Row) → Took s max form used row → P (Prefix used row))
+pub prefix_cases {ℓ} : (s : List ℕ) (max : ℕ) (form : Form) (P : Result Prefix Refusal → Type ℓ)
+    → P (Err Truncated)
+    → P (Err PrefixLength)
+    → ((used : ℕ) (row : Row) → Took s max form used row → P (Ok (prefix_with used row)))
     → P (prefix_of s max form)
 unfolding prefix_of
-prefix_cases s max form P two seven good =
+prefix_cases s max form P short long good =
     let k : ℕ = id_size form in
     let l : ℕ = get_or s k 0 in
     pick_leb P (suc k) (length s) _ _
     (λ there. pick_leb P l max _ _
     (λ fits. pick_leb P (k + 1 + octets l) (length s) _ _
     (λ room. good _ _ (record { there = there; fits = fits; size = refl; room = room; is = refl }))
-    (λ _. two))
-    (λ _. seven))
-    (λ _. two)
+    (λ _. short))
+    (λ _. long))
+    (λ _. short)
 
 -- an item that is taken, from the answer
-pub prefix_took : (s : List ℕ) (max : ℕ) (form : Form) (used : ℕ) (row : Row) → prefix_of s max form ≡ Prefix used row → Took s max form used row
+pub prefix_took : (s : List ℕ) (max : ℕ) (form : Form) (used : ℕ) (row : Row) → prefix_of s max form ≡ Ok (prefix_with used row) → Took s max form used row
 prefix_took s max form used row =
-    prefix_cases s max form (λ a. a ≡ Prefix used row → Took s max form used row)
-    (λ e. let z : ◌≡◌ {A = ℕ} 0 1 = cc in absurd (zero_ne_one z))
-    (λ e. let z : ◌≡◌ {A = ℕ} 0 1 = cc in absurd (zero_ne_one z))
-    (λ u r t e. let same : u ≡ used = cc in
-    record {
-      there = t.there;
-      fits = t.fits;
-      size = sym same ∙ t.size;
-      room = omega (arith, t.room);
-      is = (let row_is : r ≡ row = cc in sym row_is ∙ t.is ∙ ap (λ (n : ℕ). item_row form (take n s)) same);
-    })
+    prefix_cases s max form (λ a. a ≡ Ok (prefix_with used row) → Took s max form used row)
+    (λ e. absurd (given_not_refused (sym e)))
+    (λ e. absurd (given_not_refused (sym e)))
+    (λ u r t e. subst (λ (p : Prefix). Took s max form p.used p.row) (same_prefix _ _ e) t)
 
 -- and the answer from what stands there
-pub took_prefix : (s : List ℕ) (max : ℕ) (form : Form) (used : ℕ) (row : Row) → Took s max form used row → prefix_of s max form ≡ Prefix used row
+pub took_prefix : (s : List ℕ) (max : ℕ) (form : Form) (used : ℕ) (row : Row) → Took s max form used row → prefix_of s max form ≡ Ok (prefix_with used row)
 unfolding prefix_of
 took_prefix s max form used row t =
     let k : ℕ = id_size form in
@@ -72,32 +77,24 @@ took_prefix s max form used row t =
     let size : used ≡ k + 1 + octets l = t.size in
     let room : k + 1 + octets l ≤ length s = omega (arith, t.room) in
     simp (lt-ltb k (length s) t.there, le-leb l max t.fits, le-leb (k + 1 + octets l) (length s) room)
-    (sym (ap₂ Prefix size (t.is ∙ ap (λ (n : ℕ). item_row form (take n s)) size)))
+    (sym (ap₂ (λ (n : ℕ) (row : Row). Ok (prefix_with n row)) size (t.is ∙ ap (λ (n : ℕ). item_row form (take n s)) size)))
 
 -- each refusal, from what fails
-pub prefix_none : (s : List ℕ) (max : ℕ) (form : Form) → length s ≤ id_size form → prefix_of s max form ≡ Refused truncated
+pub prefix_none : (s : List ℕ) (max : ℕ) (form : Form) → length s ≤ id_size form → prefix_of s max form ≡ Err Truncated
 unfolding prefix_of
 prefix_none s max form h = simp (le-ltb (id_size form) (length s) h)
 
-pub prefix_long : (s : List ℕ) (max : ℕ) (form : Form) → id_size form < length s → max < get_or s (id_size form) 0 → prefix_of s max form ≡ Refused prefix_length
+pub prefix_long : (s : List ℕ) (max : ℕ) (form : Form) → id_size form < length s → max < get_or s (id_size form) 0 → prefix_of s max form ≡ Err PrefixLength
 unfolding prefix_of
 prefix_long s max form there h = simp (lt-ltb (id_size form) (length s) there, lt-leb (get_or s (id_size form) 0) max h)
 
 pub prefix_short : (s : List ℕ) (max : ℕ) (form : Form) → id_size form < length s → get_or s (id_size form) 0 ≤ max
-    → length s < id_size form + 1 + octets (get_or s (id_size form) 0) → prefix_of s max form ≡ Refused truncated
+    → length s < id_size form + 1 + octets (get_or s (id_size form) 0) → prefix_of s max form ≡ Err Truncated
 unfolding prefix_of
 prefix_short s max form there fits h =
     let k : ℕ = id_size form in
     let l : ℕ = get_or s k 0 in
     simp (lt-ltb k (length s) there, le-leb l max fits, lt-leb (k + 1 + octets l) (length s) h)
-
--- a refusal has a number, and one that is told from a count
-pub prefix_names : (s : List ℕ) (max : ℕ) (form : Form) (n : ℕ) → prefix_of s max form ≡ Refused n → (0 < n) × (n < past_all)
-prefix_names s max form n =
-    prefix_cases s max form (λ a. a ≡ Refused n → (0 < n) × (n < past_all))
-    (λ e. let same : truncated ≡ n = cc in (omega arith, omega arith))
-    (λ e. let same : prefix_length ≡ n = cc in (omega arith, omega arith))
-    (λ u r t e. let z : ◌≡◌ {A = ℕ} 0 1 = cc in absurd (zero_ne_one z))
 
 -- ---- the row of an item, from where its parts stand
 

@@ -11,7 +11,9 @@ use lib.ListN.{length, get_or, take}
 use lib.Dec.{eqb}
 use mathlib.Core.Bool.{false}
 use Rattle.wire.proofs.ChoiceLaws.{pick_leb, pick_eqb}
-use Rattle.wire.specs.Refusal.{truncated, prefix_length, past_all}
+use Rattle.std.specs.Prelude.{Result, Ok, Err}
+use Rattle.wire.specs.declared.refusal.Refusal.{Refusal}
+use Rattle.wire.specs.declared.refusal.Refusal.TheVariants.{Truncated, PrefixLength}
 use Rattle.wire.specs.Walk.{stop}
 use Rattle.families.specs.Family.{max_of, id_size, octets}
 use Rattle.families.specs.Octets.{refused_length, table_of, entry}
@@ -20,80 +22,72 @@ use Rattle.families.specs.declared.Form.{Form}
 use Rattle.families.specs.declared.AddPath.{AddPath}
 use Rattle.families.proofs.FamilyLaws.{max_small}
 use Rattle.families.proofs.OctetLaws.{entry_in, entry_out, octets_few}
-use Rattle.routes.specs.Prefix.{item_end, item_row, prefix_of}
+use Rattle.routes.specs.Prefix.{item_end, item_row, prefix_with, prefix_of}
 use Rattle.routes.specs.List.{Reader, up_to, as_step, in_form, marked_step, form_by, step_by, step_of, list_by, list_of, section_by, section_of}
 use Rattle.routes.specs.Promises.{count_list, count_section}
 use Rattle.routes.specs.ByTable.{end_by, by_table}
 use Rattle.routes.specs.declared.Row.{Row}
-use Rattle.routes.specs.declared.PrefixAnswer.{PrefixAnswer}
-use Rattle.routes.specs.declared.PrefixAnswer.TheVariants.{Prefix, Refused}
+use Rattle.routes.specs.declared.Prefix.{Prefix}
+use Rattle.routes.proofs.PrefixLaws.{given_not_refused, same_prefix}
 use Rattle.routes.proofs.ListLaws.{Fair}
-
-zero_ne_one : ◌≡◌ {A = ℕ} 0 1 → ⊥
-zero_ne_one e = omega arith
 
 -- ---- whichever the table
 
 module _ (counts s : List ℕ) (form : Form) where
   -- each answer, from what stands there
-  pub table_none : length s ≤ id_size form → by_table counts s form ≡ Refused truncated
+  pub table_none : length s ≤ id_size form → by_table counts s form ≡ Err Truncated
   unfolding by_table
   table_none h = simp (le-ltb (id_size form) (length s) h)
 
   module _ (there : id_size form < length s) where
-    pub table_long : entry counts (get_or s (id_size form) 0) ≡ refused_length → by_table counts s form ≡ Refused prefix_length
+    pub table_long : entry counts (get_or s (id_size form) 0) ≡ refused_length → by_table counts s form ≡ Err PrefixLength
     unfolding by_table
     table_long e = simp (lt-ltb (id_size form) (length s) there, eq-eqb _ _ e)
 
     module _ (known : entry counts (get_or s (id_size form) 0) ≡ refused_length → ⊥) where
-      pub table_short : length s < end_by counts form s → by_table counts s form ≡ Refused truncated
+      pub table_short : length s < end_by counts form s → by_table counts s form ≡ Err Truncated
       unfolding by_table
       table_short h = simp (lt-ltb (id_size form) (length s) there, ne_eqb _ _ known, lt-leb (end_by counts form s) (length s) h)
 
-      pub table_took : end_by counts form s ≤ length s → by_table counts s form ≡ Prefix (end_by counts form s) (item_row form (take (end_by counts form s) s))
+      pub table_took : end_by counts form s ≤ length s → by_table counts s form ≡ Ok (prefix_with (end_by counts form s) (item_row form (take (end_by counts form s) s)))
       unfolding by_table
       table_took h = simp (lt-ltb (id_size form) (length s) there, ne_eqb _ _ known, le-leb (end_by counts form s) (length s) h)
 
   -- what holds of each answer where it is given holds of the answer
-  table_cases {ℓ} : (P : PrefixAnswer → Type ℓ) → P (Refused truncated) → P (Refused prefix_length)
-      → (end_by counts form s ≤ length s → P (Prefix (end_by counts form s) (item_row form (take (end_by counts form s) s))))
+  table_cases {ℓ} : (P : Result Prefix Refusal → Type ℓ) → P (Err Truncated) → P (Err PrefixLength)
+      → (end_by counts form s ≤ length s → P (Ok (prefix_with (end_by counts form s) (item_row form (take (end_by counts form s) s)))))
       → P (by_table counts s form)
   unfolding by_table
-  table_cases P two seven good =
+  table_cases P short long good =
       pick_leb P (suc (id_size form)) (length s) _ _
       (λ _. pick_eqb P (entry counts (get_or s (id_size form) 0)) refused_length _ _
-      (λ _. seven)
-      (λ _. pick_leb P (end_by counts form s) (length s) _ _ good (λ _. two)))
-      (λ _. two)
+      (λ _. long)
+      (λ _. pick_leb P (end_by counts form s) (length s) _ _ good (λ _. short)))
+      (λ _. short)
 
 -- no step takes anything where nothing is left
-pub step_none : (counts : List ℕ) (mode : AddPath) (st : Form) (s : List ℕ) → length s ≤ 0 → step_by (by_table counts) mode st s ≡ stop truncated
+pub step_none : (counts : List ℕ) (mode : AddPath) (st : Form) (s : List ℕ) → length s ≤ 0 → step_by (by_table counts) mode st s ≡ stop Truncated
 unfolding step_by in_form
-step_none counts mode st s none = let form : Form = form_by (by_table counts) mode st s in ap (λ (a : PrefixAnswer). marked_step mode (as_step form a)) (table_none counts s form (omega (arith, none)))
+step_none counts mode st s none = let form : Form = form_by (by_table counts) mode st s in ap (λ (a : Result Prefix Refusal). marked_step mode (as_step form a)) (table_none counts s form (omega (arith, none)))
 
 -- an item that is taken ends where the table says
-pub table_size : (counts s : List ℕ) (form : Form) (used : ℕ) (row : Row) → by_table counts s form ≡ Prefix used row → used ≡ end_by counts form s
+pub table_size : (counts s : List ℕ) (form : Form) (used : ℕ) (row : Row) → by_table counts s form ≡ Ok (prefix_with used row) → used ≡ end_by counts form s
 table_size counts s form used row =
-    table_cases counts s form (λ a. a ≡ Prefix used row → used ≡ end_by counts form s)
-    (λ e. let z : ◌≡◌ {A = ℕ} 0 1 = cc in absurd (zero_ne_one z))
-    (λ e. let z : ◌≡◌ {A = ℕ} 0 1 = cc in absurd (zero_ne_one z))
-    (λ room e. cc)
+    table_cases counts s form (λ a. a ≡ Ok (prefix_with used row) → used ≡ end_by counts form s)
+    (λ e. absurd (given_not_refused (sym e)))
+    (λ e. absurd (given_not_refused (sym e)))
+    (λ room e. sym (ap (λ (p : Prefix). p.used) (same_prefix _ _ e)))
 
 pub fair_table : (counts : List ℕ) → Fair (by_table counts)
 fair_table counts = record {
   takes = λ s form used row.
-      table_cases counts s form (λ a. a ≡ Prefix used row → (0 < used) × (used ≤ length s) × (row ≡ item_row form (take used s)))
-      (λ e. let z : ◌≡◌ {A = ℕ} 0 1 = cc in absurd (zero_ne_one z))
-      (λ e. let z : ◌≡◌ {A = ℕ} 0 1 = cc in absurd (zero_ne_one z))
+      table_cases counts s form (λ a. a ≡ Ok (prefix_with used row) → (0 < used) × (used ≤ length s) × (row ≡ item_row form (take used s)))
+      (λ e. absurd (given_not_refused (sym e)))
+      (λ e. absurd (given_not_refused (sym e)))
       (λ room e.
-      let size : end_by counts form s ≡ used = cc in
-      let same : item_row form (take (end_by counts form s) s) ≡ row = cc in
+      let size : end_by counts form s ≡ used = ap (λ (p : Prefix). p.used) (same_prefix _ _ e) in
+      let same : item_row form (take (end_by counts form s) s) ≡ row = ap (λ (p : Prefix). p.row) (same_prefix _ _ e) in
       (omega arith, omega arith, sym same ∙ ap (λ (n : ℕ). item_row form (take n s)) size));
-  names = λ s form n.
-      table_cases counts s form (λ a. a ≡ Refused n → (0 < n) × (n < past_all))
-      (λ e. let same : truncated ≡ n = cc in (omega arith, omega arith))
-      (λ e. let same : prefix_length ≡ n = cc in (omega arith, omega arith))
-      (λ room e. let z : ◌≡◌ {A = ℕ} 0 1 = cc in absurd (zero_ne_one z));
 }
 
 -- ---- a family's table

@@ -1,6 +1,5 @@
 -- Two results that the promise of a call allows are equal, and so is what it leaves: of the ensures clauses themselves.
 use mathlib.Core.Path.{◌≡◌, sym, ◌∙◌}
-use Rattle.routes.proofs.ListLaws.{one_number}
 use Rattle.routes.proofs.try_parse_prefix.Reads as try_parse_prefix
 use Rattle.routes.proofs.form_size.Reads as form_size
 use Rattle.routes.proofs.item_step.Reads as item_step
@@ -11,7 +10,6 @@ use Rattle.routes.proofs.verdict_in.Reads as verdict_in
 use Rattle.routes.proofs.count_nlri.Reads as count_nlri
 use Rattle.routes.proofs.count_list_by.Reads as count_list_by
 use Rattle.routes.proofs.count_section_by.Reads as count_section_by
-use Rattle.routes.proofs.counted.Reads as counted
 
 pub tight_try_parse_prefix : (κs : _) (a : _) (z z' : _) (e e' : _) → try_parse_prefix.Learnt κs a z e → try_parse_prefix.Learnt κs a z' e' → z ≡ z'
 tight_try_parse_prefix κs a z z' e e' p q = p ∙ sym q
@@ -37,11 +35,8 @@ tight_verdict_in κs a z z' e e' p q = p ∙ sym q
 pub tight_count_nlri : (κs : _) (a : _) (z z' : _) (e e' : _) → count_nlri.Learnt κs a z e → count_nlri.Learnt κs a z' e' → z ≡ z'
 tight_count_nlri κs a z z' e e' p q = p ∙ sym q
 
-pub tight_counted : (κs : _) (a : _) (z z' : _) (e e' : _) → counted.Learnt κs a z e → counted.Learnt κs a z' e' → z ≡ z'
-tight_counted κs a z z' e e' p q = p ∙ sym q
-
 pub tight_count_list_by : (κs : _) (a : _) (z z' : _) (e e' : _) → count_list_by.Learnt κs a z e → count_list_by.Learnt κs a z' e' → z ≡ z'
-tight_count_list_by κs a z z' e e' p q = one_number z z' (p ∙ sym q)
+tight_count_list_by κs a z z' e e' p q = p ∙ sym q
 
 pub tight_count_section_by : (κs : _) (a : _) (z z' : _) (e e' : _) → count_section_by.Learnt κs a z e → count_section_by.Learnt κs a z' e' → z ≡ z'
-tight_count_section_by κs a z z' e e' p q = one_number z z' (p ∙ sym q)
+tight_count_section_by κs a z z' e e' p q = p ∙ sym q

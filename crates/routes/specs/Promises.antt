@@ -53,6 +53,11 @@ abbrev pub with_hosts : Result ℕ Refusal → ℕ → Result Routes Refusal
 with_hosts (Ok n) hosts = Ok (record { rows = n; hosts = hosts })
 with_hosts (Err r) hosts = Err r
 
+-- such an answer without the latter
+abbrev pub rows_alone : Result Routes Refusal → Result ℕ Refusal
+rows_alone (Ok a) = Ok a.rows
+rows_alone (Err r) = Err r
+
 -- what counting and reading answer, of a list and of a section of an UPDATE
 abbrev pub count_list : Reader → List ℕ → AddPath → Result Routes Refusal
 count_list read s mode = with_hosts (count_answer s (list_by read s mode)) (hosts_by read s mode)

@@ -1,11 +1,10 @@
-use Prim.Native.Nat.{◌+◌, ◌*◌, ◌≤◌}
+use Prim.Native.Nat.{◌≤◌}
 use lib.ListN.{length}
-use Rattle.routes.specs.Promises.{host_unit}
 use Rattle.routes.proofs.Pending.{Pending}
 use Rattle.routes.proofs.count_form.Given as goal
 
 abbrev pub invariant-loop-n : goal.invariant-loop-n
-invariant-loop-n l = Pending l.counts l.s l.k l.item l.n (l.count + host_unit * l.hosts) × (l.n ≤ 255)
+invariant-loop-n l = record { pending : Pending l.counts l.s l.k l.item l.n l.rows l.hosts; octets : l.n ≤ 255 }
 
 abbrev pub decreases-loop-n : goal.decreases-loop-n
 decreases-loop-n l = length l.item

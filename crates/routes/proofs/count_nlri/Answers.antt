@@ -6,7 +6,6 @@ pub returns : goal.returns
 returns c =
     let a = c.args in
     record {
-      answer = c.counted.ensures.answer
-          ∙ c.count_section_by.ensures.answer
+      answer = c.count_section_by.ensures.answer
           ∙ count_section_family _ a.afi (c.put_counts.ensures refl) a.s.now a.mode;
     }

@@ -6,7 +6,6 @@ pub returns : goal.returns
 returns c =
     let a = c.args in
     record {
-      answer = c.counted.ensures.answer
-          ∙ c.count_list_by.ensures.answer
+      answer = c.count_list_by.ensures.answer
           ∙ count_list_family _ a.afi (c.put_counts.ensures refl) a.s.now a.mode;
     }
