@@ -1,6 +1,6 @@
 -- Segments that can be written, and what is lent as pairs and numbers: one gives the other.
 -- Assumes nothing.
-use Prim.Native.Nat.{ℕ, ◌+◌, ◌-◌, ◌≤◌, ◌<◌}
+use Prim.Native.Nat.{ℕ, ◌+◌, ◌-◌, ◌≤◌}
 use mathlib.Core.Path.{◌≡◌, refl, sym, ap, ap₂, ◌∙◌}
 use mathlib.Core.List.{List, [], ◌∷◌, ◌++◌}
 use mathlib.Core.Bool.{true}
@@ -9,21 +9,23 @@ use borrow.Author.Tests.{leb-true, le-leb, eqb-true}
 use lib.ListN.{length, get_or, take, drop, length-append, length-drop, take-append-drop}
 use lib.Seq.{length-take-le, take_at, drop_at}
 use lib.Dec.{leb}
+use Rattle.wire.specs.Verdict.{Verdict, fine}
 use Rattle.wire.specs.Walk.{took, Reading, more, read_all, flat}
 use Rattle.wire.proofs.WalkLaws.{all_nil, all_took, all_ind}
 use Rattle.wire.specs.Cutting.{Each, none, one}
 use Rattle.wire.proofs.Parts.{two_more}
+use Rattle.wire.proofs.AnswerLaws.{refused_not_fine}
 use Rattle.wire.proofs.CuttingLaws.{each_map}
 use Rattle.paths.specs.Segment.{Segment, Rule, known_type, rule_of, pair_of, asns_of}
 use Rattle.paths.specs.declared.PathRule.{PathRule}
 use Rattle.paths.proofs.FormedLaws.{rule_known}
 use Rattle.path_writer.specs.Write.{adds_up, all_fit, most_numbers, lent_of, lent_path}
-use Rattle.path_writer.proofs.WriteLaws.{fit_append, holds, adds_pair, fault_none, none_fault, lent_took, took_lent, lent_names, lent_sound}
+use Rattle.path_writer.proofs.WriteLaws.{fit_append, holds, adds_pair, fault_none, none_fault, lent_took, took_lent, lent_sound}
 
 -- ---- segments that can be written
 
 pub record WritableSegment (rule : Rule) (w : ℕ) (g : Segment) : Type 0 where
-  pub fine : rule g.kind (length g.asns) ≡ 0
+  pub fine : rule g.kind (length g.asns) ≡ fine
   pub short : length g.asns ≤ most_numbers
   pub fit : all_fit w g.asns ≡ true
 
@@ -37,7 +39,7 @@ module _ (rule : Rule) (w : ℕ) where
   -- what a good reading of pairs and numbers says
   abbrev Back : List ℕ → List ℕ → Reading Segment → Type 0
   Back numbers pairs r =
-      adds_up pairs (length numbers) ≡ true → r.verdict ≡ 0 → Each (WritableSegment rule w) r.rows × (flat pair_of r.rows ≡ pairs) × (flat asns_of r.rows ≡ numbers)
+      adds_up pairs (length numbers) ≡ true → r.verdict ≡ fine → Each (WritableSegment rule w) r.rows × (flat pair_of r.rows ≡ pairs) × (flat asns_of r.rows ≡ numbers)
 
   back_took : (st st' s : List ℕ) (used : ℕ) (g : Segment) → lent_of rule w st s ≡ took used g st'
       → Back st' (drop used s) (read_all (lent_of rule w) st' (drop used s)) → Back st s (more g (read_all (lent_of rule w) st' (drop used s)))
@@ -52,7 +54,7 @@ module _ (rule : Rule) (w : ℕ) where
       let len : length (asns_of g) ≡ c = ap length asns_is ∙ n in
       let left : length st' ≡ length st - c = ap length t.after ∙ length-drop c st in
       let rest = ih (ap₂ (λ (u k : ℕ). adds_up (drop u s) k) t.size left ∙ sums.1) v in
-      let f = fault_none rule w (get_or s 0 0) c (take c st) t.fine in
+      let f = fault_none rule w (get_or s 0 0) c (take c st) t.good in
       let kind_is : g.kind ≡ get_or s 0 0 = ap (λ (h : Segment). h.kind) t.is in
       let good : WritableSegment rule w g = record {
         fine = ap₂ rule kind_is len ∙ f.0;
@@ -65,7 +67,7 @@ module _ (rule : Rule) (w : ℕ) where
         ap₂ ◌++◌ asns_is (rest.2 ∙ t.after) ∙ take-append-drop c st,
       )
 
-  pub lent_back : (pairs numbers : List ℕ) → adds_up pairs (length numbers) ≡ true → (lent_path rule w pairs numbers).verdict ≡ 0
+  pub lent_back : (pairs numbers : List ℕ) → adds_up pairs (length numbers) ≡ true → (lent_path rule w pairs numbers).verdict ≡ fine
       → Each (WritableSegment rule w) (lent_path rule w pairs numbers).rows
       × (flat pair_of (lent_path rule w pairs numbers).rows ≡ pairs)
       × (flat asns_of (lent_path rule w pairs numbers).rows ≡ numbers)
@@ -73,7 +75,7 @@ module _ (rule : Rule) (w : ℕ) where
   lent_back pairs numbers =
       all_ind (lent_of rule w) (lent_sound rule w) Back
       (λ st adds _. (none, refl, empty st (eqb-true (length st) 0 adds)))
-      (λ st s n pos e _ v. absurd (let lt : 0 < n = lent_names rule w st s n e in omega (arith, lt, v)))
+      (λ st s r pos e _ v. absurd (refused_not_fine r v))
       (λ st st' s used g pos e ih. back_took st st' s used g e ih)
       numbers pairs
 
@@ -83,7 +85,7 @@ module _ (rule : Rule) (w : ℕ) where
   rows_fit [] none = refl
   rows_fit (g ∷ rows) (one r rs) = fit_append w g.asns (flat asns_of rows) r.fit (rows_fit rows rs)
 
-  pub lent_fit : (pairs numbers : List ℕ) → adds_up pairs (length numbers) ≡ true → (lent_path rule w pairs numbers).verdict ≡ 0 → all_fit w numbers ≡ true
+  pub lent_fit : (pairs numbers : List ℕ) → adds_up pairs (length numbers) ≡ true → (lent_path rule w pairs numbers).verdict ≡ fine → all_fit w numbers ≡ true
   lent_fit pairs numbers adds good =
       let b = lent_back pairs numbers adds good in
       sym (ap (all_fit w) b.2) ∙ rows_fit (lent_path rule w pairs numbers).rows b.0
@@ -100,11 +102,11 @@ module _ (rule : Rule) (w : ℕ) where
     pub lend_one : WritableSegment rule w g → lent_of rule w (asns_of g ++ ns) (pair_of g ++ ps) ≡ took 2 g ns
     lend_one h =
         let fault = none_fault rule w g.kind (length (asns_of g)) (asns_of g) h.fine h.short h.fit in
-        took_lent rule w (asns_of g ++ ns) (pair_of g ++ ps) (omega arith) (sym (rw head_is fault))
+        took_lent rule w (asns_of g ++ ns) (pair_of g ++ ps) (omega arith) (rw head_is fault)
         ∙ ap₂ (λ (a l : List ℕ). took 2 (record { kind = g.kind; asns = a }) l) head_is tail_is
 
   pub lend : (rows : List Segment) → Each (WritableSegment rule w) rows
-      → (lent_path rule w (flat pair_of rows) (flat asns_of rows) ≡ record { rows = rows; verdict = 0 }) × (adds_up (flat pair_of rows) (length (flat asns_of rows)) ≡ true)
+      → (lent_path rule w (flat pair_of rows) (flat asns_of rows) ≡ record { rows = rows; verdict = fine }) × (adds_up (flat pair_of rows) (length (flat asns_of rows)) ≡ true)
   unfolding lent_path flat adds_up
   lend [] none = (all_nil (lent_of rule w) [], refl)
   lend (g ∷ rows) (one h hs) =
@@ -119,11 +121,11 @@ module _ (rule : Rule) (w : ℕ) where
 
 -- ---- what a rule lets be written, the crate's lets be written, as the same segments
 
-pub lent_alike : (rule : PathRule) (w : ℕ) (pairs numbers : List ℕ) → adds_up pairs (length numbers) ≡ true → (lent_path (rule_of rule) w pairs numbers).verdict ≡ 0
+pub lent_alike : (rule : PathRule) (w : ℕ) (pairs numbers : List ℕ) → adds_up pairs (length numbers) ≡ true → (lent_path (rule_of rule) w pairs numbers).verdict ≡ fine
     → lent_path known_type w pairs numbers ≡ lent_path (rule_of rule) w pairs numbers
 lent_alike rule w pairs numbers adds good =
     let rows : List Segment = (lent_path (rule_of rule) w pairs numbers).rows in
     let back = lent_back (rule_of rule) w pairs numbers adds good in
     let each : Each (WritableSegment known_type w) rows =
     each_map (λ g h. record { fine = rule_known rule g.kind (length g.asns) h.fine; short = h.short; fit = h.fit }) rows back.0 in
-    ap₂ (lent_path known_type w) (sym back.1) (sym back.2) ∙ (lend known_type w rows each).0 ∙ ap (λ (n : ℕ). record { rows = rows; verdict = n }) (sym good)
+    ap₂ (lent_path known_type w) (sym back.1) (sym back.2) ∙ (lend known_type w rows each).0 ∙ ap (λ (v : Verdict). record { rows = rows; verdict = v }) (sym good)

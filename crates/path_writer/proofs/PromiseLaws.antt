@@ -1,47 +1,36 @@
 -- Laws of what writing a path answers and leaves.
 -- Assumes nothing.
-use Prim.Native.Nat.{ℕ, zero, suc, ◌+◌, ◌≤◌, ◌<◌}
+use Prim.Native.Nat.{ℕ, ◌+◌, ◌≤◌}
 use mathlib.Core.Path.{◌≡◌, refl, sym, ap, ap₂, ◌∙◌}
 use mathlib.Core.List.{List}
 use mathlib.Core.Bool.{Bool, true, false}
-use native.Mathlib.Nat.{not-suc-le-zero}
-use native.Mathlib.Omega.{arith}
 use lib.ListN.{length}
-use Rattle.wire.specs.Refusal.{too_long, no_room, not_writable, list_limit}
+use Rattle.std.specs.Prelude.{Result, Ok, Err}
+use Rattle.wire.specs.Refusal.{list_limit}
+use Rattle.wire.specs.Verdict.{Verdict, fine, answer_by}
+use Rattle.wire.specs.declared.refusal.Refusal.{Refusal}
+use Rattle.wire.specs.declared.refusal.Refusal.TheVariants.{NotWritable}
 use Rattle.wire.specs.Choice.{pick}
 use Rattle.wire.specs.Store.{laid}
-use Rattle.wire.specs.Answer.{filled, answer_by, write_meaning, limited}
-use Rattle.wire.proofs.AnswerLaws.{limited_long, limited_full, limited_fits, limited_bytes}
+use Rattle.wire.specs.Answer.{filled, count_meaning, limited}
+use Rattle.wire.proofs.AnswerLaws.{limited_fits, limited_bytes}
 use Rattle.asns.specs.Asn.{span}
 use Rattle.wire.specs.Walk.{Reading}
 use Rattle.paths.specs.Segment.{Segment, Rule, known_type, rule_of}
 use Rattle.paths.specs.declared.PathRule.{PathRule}
-use Rattle.wire.specs.declared.WriteAnswer.{WriteAnswer}
-use Rattle.wire.specs.declared.WriteAnswer.TheVariants as W
 use Rattle.path_writer.specs.Write.{adds_up, lent_path, path_bytes}
 use Rattle.path_writer.proofs.WriteLaws.{path_length}
 use Rattle.path_writer.proofs.Lent.{lent_back, lent_alike}
 use Rattle.path_writer.specs.Promises.{lent_bytes, encode_answer, encode_left}
 
 module _ (rule : Rule) (w : ℕ) (pairs numbers : List ℕ) where
-  -- an answer, and the output that goes with it
-  pub leave : (out : List ℕ) (x : WriteAnswer) → encode_answer rule w pairs numbers (length out) ≡ x
-      → (x ≡ encode_answer rule w pairs numbers (length out)) × (filled (write_meaning x) (lent_bytes rule w pairs numbers) out ≡ encode_left rule w pairs numbers out)
-  unfolding encode_left
-  leave out x e = (sym e, ap (λ (y : WriteAnswer). filled (write_meaning y) (lent_bytes rule w pairs numbers) out) (sym e))
-
   module _ (places : ℕ) where
-    pub not_whole : adds_up pairs (length numbers) ≡ false → encode_answer rule w pairs numbers places ≡ W.Refused not_writable
-    unfolding encode_answer
-    not_whole e = rw e
-
     module _ (adds : adds_up pairs (length numbers) ≡ true) where
-      pub bad_segment : (n : ℕ) → n ≡ (lent_path rule w pairs numbers).verdict → 0 < n → encode_answer rule w pairs numbers places ≡ W.Refused n
+      pub bad_segment : (r : Refusal) → (lent_path rule w pairs numbers).verdict ≡ Err r → encode_answer rule w pairs numbers places ≡ Err r
       unfolding encode_answer
-      bad_segment zero e pos = absurd (not-suc-le-zero pos)
-      bad_segment (suc n) e pos = rw (adds, ← e)
+      bad_segment r e = rw (adds, e)
 
-      module _ (good : 0 ≡ (lent_path rule w pairs numbers).verdict) where
+      module _ (good : fine ≡ (lent_path rule w pairs numbers).verdict) where
         -- the size, from the stores' lengths alone
         pub size_is : length (lent_bytes rule w pairs numbers) ≡ length pairs + span w (length numbers)
         unfolding lent_bytes
@@ -49,53 +38,47 @@ module _ (rule : Rule) (w : ℕ) (pairs numbers : List ℕ) where
             let back = lent_back rule w pairs numbers adds (sym good) in
             path_length w (lent_path rule w pairs numbers).rows ∙ ap₂ (λ (p n : List ℕ). length p + span w (length n)) back.1 back.2
 
-        by_size : (x : WriteAnswer) → limited list_limit (length pairs + span w (length numbers)) places ≡ x → encode_answer rule w pairs numbers places ≡ x
+        pub by_size : encode_answer rule w pairs numbers places ≡ limited list_limit (length pairs + span w (length numbers)) places
         unfolding encode_answer
-        by_size x e = rw (adds, ← good, size_is) e
-
-        pub too_long_lem : list_limit < length pairs + span w (length numbers) → encode_answer rule w pairs numbers places ≡ W.Refused too_long
-        too_long_lem h = by_size _ (limited_long list_limit _ places h)
-
-        pub no_place : length pairs + span w (length numbers) ≤ list_limit → places < length pairs + span w (length numbers) → encode_answer rule w pairs numbers places ≡ W.Refused no_room
-        no_place h k = by_size _ (limited_full list_limit _ places h k)
+        by_size = rw (adds, ← good, size_is)
 
         pub all_written : length pairs + span w (length numbers) ≤ list_limit → length pairs + span w (length numbers) ≤ places
-            → encode_answer rule w pairs numbers places ≡ W.Bytes (length pairs + span w (length numbers))
-        all_written h k = by_size _ (limited_fits list_limit _ places h k)
+            → encode_answer rule w pairs numbers places ≡ Ok (length pairs + span w (length numbers))
+        all_written h k = by_size ∙ limited_fits list_limit _ places h k
 
     -- what an accepted writing says
-    pub encode_written : (n : ℕ) → encode_answer rule w pairs numbers places ≡ W.Bytes n
-        → (adds_up pairs (length numbers) ≡ true) × ((lent_path rule w pairs numbers).verdict ≡ 0) × (length (lent_bytes rule w pairs numbers) ≡ n) × (n ≤ list_limit) × (n ≤ places)
+    pub encode_written : (n : ℕ) → encode_answer rule w pairs numbers places ≡ Ok n
+        → (adds_up pairs (length numbers) ≡ true) × ((lent_path rule w pairs numbers).verdict ≡ fine) × (length (lent_bytes rule w pairs numbers) ≡ n) × (n ≤ list_limit) × (n ≤ places)
     unfolding encode_answer
     encode_written n = by_adds (adds_up pairs (length numbers))
       where
-        by_verdict : (v size : ℕ) → answer_by v (limited list_limit size places) W.Refused ≡ W.Bytes n → (v ≡ 0) × (size ≡ n) × (n ≤ list_limit) × (n ≤ places)
-        by_verdict zero size e = let b = limited_bytes list_limit size places n e in (refl, b.2, rw b.2 at b.0, rw b.2 at b.1)
-        by_verdict (suc v) size e = let z : ◌≡◌ {A = ℕ} 0 1 = cc in absurd (omega (arith, z))
+        by_verdict : (v : Verdict) (size : ℕ) → answer_by v (limited list_limit size places) Err ≡ Ok n → (v ≡ fine) × (size ≡ n) × (n ≤ list_limit) × (n ≤ places)
+        by_verdict (Ok tt) size e = let b = limited_bytes list_limit size places n e in (refl, b.2, rw b.2 at b.0, rw b.2 at b.1)
+        by_verdict (Err r) size e = cc
 
-        by_adds : (t : Bool) → pick t (answer_by (lent_path rule w pairs numbers).verdict (limited list_limit (length (lent_bytes rule w pairs numbers)) places) W.Refused) (W.Refused not_writable) ≡ W.Bytes n
-            → (t ≡ true) × ((lent_path rule w pairs numbers).verdict ≡ 0) × (length (lent_bytes rule w pairs numbers) ≡ n) × (n ≤ list_limit) × (n ≤ places)
+        by_adds : (t : Bool) → pick t (answer_by (lent_path rule w pairs numbers).verdict (limited list_limit (length (lent_bytes rule w pairs numbers)) places) Err) (Err NotWritable) ≡ Ok n
+            → (t ≡ true) × ((lent_path rule w pairs numbers).verdict ≡ fine) × (length (lent_bytes rule w pairs numbers) ≡ n) × (n ≤ list_limit) × (n ≤ places)
         by_adds true e = let h = by_verdict (lent_path rule w pairs numbers).verdict (length (lent_bytes rule w pairs numbers)) e in (refl, h.0, h.1, h.2, h.3)
-        by_adds false e = let z : ◌≡◌ {A = ℕ} 0 1 = cc in absurd (omega (arith, z))
+        by_adds false e = cc
 
   -- the output of an accepted writing
-  pub written_out : (out : List ℕ) (n : ℕ) → encode_answer rule w pairs numbers (length out) ≡ W.Bytes n → encode_left rule w pairs numbers out ≡ laid out 0 (lent_bytes rule w pairs numbers)
+  pub written_out : (out : List ℕ) (n : ℕ) → encode_answer rule w pairs numbers (length out) ≡ Ok n → encode_left rule w pairs numbers out ≡ laid out 0 (lent_bytes rule w pairs numbers)
   unfolding encode_left
-  written_out out n e = ap (λ (y : WriteAnswer). filled (write_meaning y) (lent_bytes rule w pairs numbers) out) e
+  written_out out n e = ap (λ (y : Result ℕ Refusal). filled (count_meaning y) (lent_bytes rule w pairs numbers) out) e
 
 -- the same segments are written the same
 module _ (rule rule' : Rule) (w : ℕ) (pairs numbers : List ℕ) (same : lent_path rule w pairs numbers ≡ lent_path rule' w pairs numbers) where
   pub same_answer : (places : ℕ) → encode_answer rule w pairs numbers places ≡ encode_answer rule' w pairs numbers places
   unfolding encode_answer lent_bytes
   same_answer places =
-      ap (λ (r : Reading Segment). pick (adds_up pairs (length numbers)) (answer_by r.verdict (limited list_limit (length (path_bytes w r.rows)) places) W.Refused) (W.Refused not_writable)) same
+      ap (λ (r : Reading Segment). pick (adds_up pairs (length numbers)) (answer_by r.verdict (limited list_limit (length (path_bytes w r.rows)) places) Err) (Err NotWritable)) same
 
   pub same_left : (out : List ℕ) → encode_left rule w pairs numbers out ≡ encode_left rule' w pairs numbers out
   unfolding encode_left lent_bytes
-  same_left out = ap₂ (λ (a : WriteAnswer) (r : Reading Segment). filled (write_meaning a) (path_bytes w r.rows) out) (same_answer (length out)) same
+  same_left out = ap₂ (λ (a : Result ℕ Refusal) (r : Reading Segment). filled (count_meaning a) (path_bytes w r.rows) out) (same_answer (length out)) same
 
 -- so what is written by a rule is written the same by the crate's
-pub encode_alike : (rule : PathRule) (w : ℕ) (pairs numbers out : List ℕ) (n : ℕ) → encode_answer (rule_of rule) w pairs numbers (length out) ≡ W.Bytes n
+pub encode_alike : (rule : PathRule) (w : ℕ) (pairs numbers out : List ℕ) (n : ℕ) → encode_answer (rule_of rule) w pairs numbers (length out) ≡ Ok n
     → (encode_answer known_type w pairs numbers (length out) ≡ encode_answer (rule_of rule) w pairs numbers (length out))
     × (encode_left known_type w pairs numbers out ≡ encode_left (rule_of rule) w pairs numbers out)
 encode_alike rule w pairs numbers out n e =

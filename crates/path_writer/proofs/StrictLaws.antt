@@ -7,11 +7,13 @@ use mathlib.Core.Logic.{◌⊎◌, inl, inr, ⊎_elim}
 use native.Mathlib.Omega.{arith}
 use lib.ListN.{length}
 use Rattle.wire.specs.Cutting.{Each, none, one, Some, here, later}
-use Rattle.wire.specs.Refusal.{empty_segment}
+use Rattle.std.specs.Prelude.{Result, Ok, Err}
+use Rattle.wire.specs.Verdict.{Verdict}
+use Rattle.wire.specs.declared.refusal.Refusal.{Refusal}
+use Rattle.wire.specs.declared.refusal.Refusal.TheVariants.{EmptySegment}
 use Rattle.wire.specs.Walk.{Reading, read_all, flat}
 use Rattle.wire.proofs.AnswerLaws.{either_second}
 use Rattle.wire.proofs.WalkLaws.{all_stop, all_took}
-use Rattle.wire.specs.declared.WriteAnswer.TheVariants as W
 use Rattle.paths.specs.Segment.{Segment, NoNumbers, known_type, non_empty, type_fault, pair_of, asns_of}
 use Rattle.paths.specs.declared.PathRule.TheVariants.{Crate, Strict}
 use Rattle.paths.proofs.FormedLaws.{ruled}
@@ -32,14 +34,14 @@ module _ (w : ℕ) where
 
   -- one without is 16
   empty_one : (g : Segment) (ps ns : List ℕ) → WritableSegment known_type w g → NoNumbers g
-      → (read_all (lent_of non_empty w) (asns_of g ++ ns) (pair_of g ++ ps)).verdict ≡ empty_segment
+      → (read_all (lent_of non_empty w) (asns_of g ++ ns) (pair_of g ++ ps)).verdict ≡ Err EmptySegment
   empty_one g ps ns h e =
-      let sixteen : empty_segment ≡ non_empty g.kind (length (asns_of g)) = either_second (type_fault g.kind) _ empty_segment (sym h.fine) refl ∙ ap (non_empty g.kind) (sym e) in
-      let step = stop_lent non_empty w (asns_of g ++ ns) (pair_of g ++ ps) empty_segment (omega arith) (fault_rule non_empty w g.kind (length (asns_of g)) _ empty_segment sixteen (omega arith)) (omega arith) in
-      ap (λ (r : Reading Segment). r.verdict) (all_stop (lent_of non_empty w) (asns_of g ++ ns) (pair_of g ++ ps) empty_segment (omega arith) step)
+      let sixteen : non_empty g.kind (length (asns_of g)) ≡ Err EmptySegment = ap (non_empty g.kind) e ∙ either_second (type_fault g.kind) _ h.fine in
+      let step = stop_lent non_empty w (asns_of g ++ ns) (pair_of g ++ ps) EmptySegment (omega arith) (fault_rule non_empty w g.kind (length (asns_of g)) _ EmptySegment sixteen) in
+      ap (λ (r : Reading Segment). r.verdict) (all_stop (lent_of non_empty w) (asns_of g ++ ns) (pair_of g ++ ps) EmptySegment (omega arith) step)
 
   full_or_empty : (rows : List Segment) → Each (WritableSegment known_type w) rows
-      → Each (WritableSegment non_empty w) rows ⊎ (Some NoNumbers rows × ((lent_path non_empty w (flat pair_of rows) (flat asns_of rows)).verdict ≡ empty_segment))
+      → Each (WritableSegment non_empty w) rows ⊎ (Some NoNumbers rows × ((lent_path non_empty w (flat pair_of rows) (flat asns_of rows)).verdict ≡ Err EmptySegment))
   unfolding lent_path flat
   full_or_empty [] none = inl none
   full_or_empty (g ∷ rows) (one h hs) = by (length (asns_of g)) refl (full_or_empty rows hs)
@@ -51,8 +53,8 @@ module _ (w : ℕ) where
           (all_took (lent_of non_empty w) (asns_of g ++ flat asns_of rows) (flat asns_of rows) (pair_of g ++ flat pair_of rows) 2 g (omega arith) (omega arith) (lend_one non_empty w g (flat pair_of rows) (flat asns_of rows) s))
 
       by : (n : ℕ) → length (asns_of g) ≡ n
-          → Each (WritableSegment non_empty w) rows ⊎ (Some NoNumbers rows × ((read_all (lent_of non_empty w) (flat asns_of rows) (flat pair_of rows)).verdict ≡ empty_segment))
-          → Each (WritableSegment non_empty w) (g ∷ rows) ⊎ (Some NoNumbers (g ∷ rows) × ((read_all (lent_of non_empty w) (asns_of g ++ flat asns_of rows) (pair_of g ++ flat pair_of rows)).verdict ≡ empty_segment))
+          → Each (WritableSegment non_empty w) rows ⊎ (Some NoNumbers rows × ((read_all (lent_of non_empty w) (flat asns_of rows) (flat pair_of rows)).verdict ≡ Err EmptySegment))
+          → Each (WritableSegment non_empty w) (g ∷ rows) ⊎ (Some NoNumbers (g ∷ rows) × ((read_all (lent_of non_empty w) (asns_of g ++ flat asns_of rows) (pair_of g ++ flat pair_of rows)).verdict ≡ Err EmptySegment))
       by zero e again = inr (here e, empty_one g (flat pair_of rows) (flat asns_of rows) h e)
       by (suc n) e again =
           let s = strict_one g h (omega (arith, e)) in
@@ -64,13 +66,13 @@ module _ (w : ℕ) where
   never_empty (g ∷ rows) (one h hs) (here e) = let some = ((ruled Strict).sound g.kind (length (asns_of g)) h.fine).1 in omega (arith, e, some)
   never_empty (g ∷ rows) (one h hs) (later e) = never_empty rows hs e
 
-  module _ (pairs numbers : List ℕ) (places n : ℕ) (written : encode_answer known_type w pairs numbers places ≡ W.Bytes n) where
+  module _ (pairs numbers : List ℕ) (places n : ℕ) (written : encode_answer known_type w pairs numbers places ≡ Ok n) where
     abbrev lent_rows : List Segment
     lent_rows = (lent_path known_type w pairs numbers).rows
 
     -- by the strict rule: the same, or 16
-    strict_or_empty : (Each (WritableSegment non_empty w) lent_rows × (encode_answer non_empty w pairs numbers places ≡ W.Bytes n))
-        ⊎ (Some NoNumbers lent_rows × (encode_answer non_empty w pairs numbers places ≡ W.Refused empty_segment))
+    strict_or_empty : (Each (WritableSegment non_empty w) lent_rows × (encode_answer non_empty w pairs numbers places ≡ Ok n))
+        ⊎ (Some NoNumbers lent_rows × (encode_answer non_empty w pairs numbers places ≡ Err EmptySegment))
     strict_or_empty =
         let h = encode_written known_type w pairs numbers places n written in
         let back = lent_back known_type w pairs numbers h.0 h.1 in
@@ -78,17 +80,17 @@ module _ (w : ℕ) where
         ⊎_elim
         (λ (full : Each (WritableSegment non_empty w) lent_rows).
         let same : lent_path non_empty w pairs numbers ≡ lent_path known_type w pairs numbers =
-        here_is ∙ (lend non_empty w lent_rows full).0 ∙ ap (λ (v : ℕ). record { rows = lent_rows; verdict = v }) (sym h.1) in
+        here_is ∙ (lend non_empty w lent_rows full).0 ∙ ap (λ (v : Verdict). record { rows = lent_rows; verdict = v }) (sym h.1) in
         inl (full, same_answer non_empty known_type w pairs numbers same places ∙ written))
-        (λ o. inr (o.0, bad_segment non_empty w pairs numbers places h.0 empty_segment (sym (ap (λ (r : Reading Segment). r.verdict) here_is ∙ o.1)) (omega arith)))
+        (λ o. inr (o.0, bad_segment non_empty w pairs numbers places h.0 EmptySegment (ap (λ (r : Reading Segment). r.verdict) here_is ∙ o.1)))
         (full_or_empty lent_rows back.0)
 
-    pub empty_written : Some NoNumbers lent_rows → encode_answer non_empty w pairs numbers places ≡ W.Refused empty_segment
+    pub empty_written : Some NoNumbers lent_rows → encode_answer non_empty w pairs numbers places ≡ Err EmptySegment
     empty_written e = ⊎_elim (λ f. absurd (never_empty lent_rows f.0 e)) (λ o. o.1) strict_or_empty
 
-    pub written_empty : (k : ℕ) → encode_answer non_empty w pairs numbers places ≡ W.Refused k → Some NoNumbers lent_rows × (k ≡ empty_segment)
-    written_empty k e =
+    pub written_empty : (r : Refusal) → encode_answer non_empty w pairs numbers places ≡ Err r → Some NoNumbers lent_rows × (r ≡ EmptySegment)
+    written_empty r e =
         ⊎_elim
-        (λ f. let both : W.Bytes n ≡ W.Refused k = sym f.1 ∙ e in let z : ◌≡◌ {A = ℕ} 0 1 = cc in absurd (omega (arith, z)))
-        (λ o. let both : W.Refused k ≡ W.Refused empty_segment = sym e ∙ o.1 in (o.0, cc))
+        (λ f. let both : Ok n ≡ Err r = sym f.1 ∙ e in cc)
+        (λ o. let both : ◌≡◌ {A = Result ℕ Refusal} (Err r) (Err EmptySegment) = sym e ∙ o.1 in (o.0, cc))
         strict_or_empty

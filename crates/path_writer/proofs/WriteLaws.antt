@@ -16,11 +16,14 @@ use Rattle.wire.specs.Choice.{pick}
 use Rattle.wire.proofs.ChoiceLaws.{pick_leb}
 use Rattle.wire.specs.Number.{to_be}
 use Rattle.wire.proofs.NumberLaws.{length_to_be}
-use Rattle.wire.specs.Refusal.{long_segment, wide_number}
+use Rattle.std.proofs.lemmas.Grind.{common_steps}
+use Rattle.std.specs.Prelude.{Ok, Err}
+use Rattle.wire.specs.Verdict.{Verdict, fine, answer_by}
+use Rattle.wire.specs.declared.refusal.Refusal.{Refusal}
+use Rattle.wire.specs.declared.refusal.Refusal.TheVariants.{LongSegment, WideNumber}
 use Rattle.wire.specs.Walk.{Step, took, stop, flat}
 use Rattle.wire.proofs.WalkLaws.{Sound}
 use Rattle.asns.specs.Asn.{span}
-use Rattle.wire.specs.Answer.{answer_by}
 use Rattle.wire.proofs.AnswerLaws.{either_none, either_first}
 use Rattle.paths.specs.Segment.{Segment, Rule, pair_of, asns_of}
 use Rattle.asns.proofs.AsnLaws.{span_add}
@@ -30,7 +33,7 @@ use Rattle.path_writer.specs.Write.{segment_bytes, adds_up, all_fit, most_number
 
 pub holds : (t : Bool) (x : Bool) → pick t x false ≡ true → (t ≡ true) × (x ≡ true)
 holds true x e = (refl, e)
-holds false x e = let z : ◌≡◌ {A = ℕ} 0 1 = cc in absurd (omega (arith, z))
+holds false x e = cc
 
 -- ---- the pairs use up the numbers
 
@@ -151,87 +154,65 @@ path_length w (g ∷ rows) =
 
 -- ---- what stands against a segment
 
-pub fault_none : (rule : Rule) (w k c : ℕ) (ns : List ℕ) → write_fault rule w k c ns ≡ 0 → (rule k c ≡ 0) × (c ≤ most_numbers) × (all_fit w ns ≡ true)
-unfolding write_fault
-fault_none rule w k c ns e = let f = either_none (rule k c) _ e in let b = numbers_fine f.1 in (f.0, b.0, b.1)
-  where
-    inner : (t : Bool) → pick t 0 wide_number ≡ 0 → t ≡ true
-    inner true f = refl
-    inner false f = absurd (omega (arith, f))
-
-    numbers_fine : pick (leb c most_numbers) (pick (all_fit w ns) 0 wide_number) long_segment ≡ 0 → (c ≤ most_numbers) × (all_fit w ns ≡ true)
-    numbers_fine =
-        pick_leb (λ (x : ℕ). x ≡ 0 → (c ≤ most_numbers) × (all_fit w ns ≡ true)) c most_numbers _ _ (λ h f. (h, inner (all_fit w ns) f)) (λ _ f. absurd (omega (arith, f)))
-
-pub none_fault : (rule : Rule) (w k c : ℕ) (ns : List ℕ) → rule k c ≡ 0 → c ≤ most_numbers → all_fit w ns ≡ true → write_fault rule w k c ns ≡ 0
-unfolding write_fault
-none_fault rule w k c ns r h e = rw (r, le-leb c most_numbers h, e)
-
--- the first thing that stands against it gives the number
 module _ (rule : Rule) (w k c : ℕ) (ns : List ℕ) where
-  pub fault_rule : (n : ℕ) → n ≡ rule k c → 0 < n → n ≡ write_fault rule w k c ns
+  pub fault_none : write_fault rule w k c ns ≡ fine → (rule k c ≡ fine) × (c ≤ most_numbers) × (all_fit w ns ≡ true)
   unfolding write_fault
-  fault_rule n e pos = either_first (rule k c) _ n e pos
+  fault_none e = let f = either_none (rule k c) _ e in let b = numbers_fine f.1 in (f.0, b.0, b.1)
+    where
+      numbers_fine : pick (leb c most_numbers) (pick (all_fit w ns) fine (Err WideNumber)) (Err LongSegment) ≡ fine → (c ≤ most_numbers) × (all_fit w ns ≡ true)
+      numbers_fine f = grind (arith, common_steps)
 
-  pub fault_long : 0 ≡ rule k c → most_numbers < c → long_segment ≡ write_fault rule w k c ns
+  pub none_fault : rule k c ≡ fine → c ≤ most_numbers → all_fit w ns ≡ true → write_fault rule w k c ns ≡ fine
   unfolding write_fault
-  fault_long e h = rw (← e, lt-leb c most_numbers h)
+  none_fault r h e = rw (r, le-leb c most_numbers h, e)
 
-  pub fault_wide : 0 ≡ rule k c → c ≤ most_numbers → all_fit w ns ≡ false → wide_number ≡ write_fault rule w k c ns
+  -- what the rule has against it comes first
+  pub fault_rule : (r : Refusal) → rule k c ≡ Err r → write_fault rule w k c ns ≡ Err r
   unfolding write_fault
-  fault_wide e h f = rw (← e, le-leb c most_numbers h, f)
+  fault_rule r e = either_first (rule k c) _ r e
 
 -- ---- the step over pairs
 
 pub record Lent (rule : Rule) (w : ℕ) (numbers pairs : List ℕ) (used : ℕ) (g : Segment) (left : List ℕ) : Type 0 where
   pub there : 2 ≤ length pairs
   pub size : used ≡ 2
-  pub fine : write_fault rule w (get_or pairs 0 0) (get_or pairs 1 0) (take (get_or pairs 1 0) numbers) ≡ 0
+  pub good : write_fault rule w (get_or pairs 0 0) (get_or pairs 1 0) (take (get_or pairs 1 0) numbers) ≡ fine
   pub is : g ≡ lent_segment numbers pairs
   pub after : left ≡ drop (get_or pairs 1 0) numbers
 
 module _ (rule : Rule) (w : ℕ) where
   Said : List ℕ → List ℕ → Step (List ℕ) Segment → Type 0
   Said numbers pairs (took used g left) = Lent rule w numbers pairs used g left
-  Said numbers pairs (stop n) = 0 < n
+  Said numbers pairs (stop r) = Unit
 
   module _ (numbers pairs : List ℕ) where
-    fault : ℕ
+    fault : Verdict
     fault = write_fault rule w (get_or pairs 0 0) (get_or pairs 1 0) (take (get_or pairs 1 0) numbers)
 
-    said_judged : (n : ℕ) → 2 ≤ length pairs → fault ≡ n → Said numbers pairs (answer_by n (took 2 (lent_segment numbers pairs) (drop (get_or pairs 1 0) numbers)) stop)
+    said_judged : (v : Verdict) → 2 ≤ length pairs → fault ≡ v → Said numbers pairs (answer_by v (took 2 (lent_segment numbers pairs) (drop (get_or pairs 1 0) numbers)) stop)
     unfolding Said fault
-    said_judged zero h e = record { there = h; size = refl; fine = e; is = refl; after = refl }
-    said_judged (suc n) h e = omega arith
+    said_judged (Ok tt) h e = record { there = h; size = refl; good = e; is = refl; after = refl }
+    said_judged (Err r) h e = tt
 
     said : Said numbers pairs (lent_of rule w numbers pairs)
     unfolding lent_of Said fault
-    said = pick_leb (Said numbers pairs) 2 (length pairs) _ _ (λ h. said_judged _ h refl) (λ _. omega arith)
+    said = pick_leb (Said numbers pairs) 2 (length pairs) _ _ (λ h. said_judged _ h refl) (λ _. tt)
 
     pub lent_took : (left : List ℕ) (used : ℕ) (g : Segment) → lent_of rule w numbers pairs ≡ took used g left → Lent rule w numbers pairs used g left
     unfolding Said
     lent_took left used g e = rw e at said
 
-    pub lent_names : (n : ℕ) → lent_of rule w numbers pairs ≡ stop n → 0 < n
-    unfolding Said
-    lent_names n e = rw e at said
-
-    pub took_lent : 2 ≤ length pairs → 0 ≡ write_fault rule w (get_or pairs 0 0) (get_or pairs 1 0) (take (get_or pairs 1 0) numbers)
+    pub took_lent : 2 ≤ length pairs → write_fault rule w (get_or pairs 0 0) (get_or pairs 1 0) (take (get_or pairs 1 0) numbers) ≡ fine
         → lent_of rule w numbers pairs ≡ took 2 (lent_segment numbers pairs) (drop (get_or pairs 1 0) numbers)
     unfolding lent_of
-    took_lent h e = rw (le-leb 2 (length pairs) h, ← e)
+    took_lent h e = rw (le-leb 2 (length pairs) h, e)
 
-    pub stop_lent : (n : ℕ) → 2 ≤ length pairs → n ≡ write_fault rule w (get_or pairs 0 0) (get_or pairs 1 0) (take (get_or pairs 1 0) numbers) → 0 < n
-        → lent_of rule w numbers pairs ≡ stop n
+    pub stop_lent : (r : Refusal) → 2 ≤ length pairs → write_fault rule w (get_or pairs 0 0) (get_or pairs 1 0) (take (get_or pairs 1 0) numbers) ≡ Err r → lent_of rule w numbers pairs ≡ stop r
     unfolding lent_of
-    stop_lent zero h e pos = absurd (not-suc-le-zero pos)
-    stop_lent (suc n) h e pos = rw (le-leb 2 (length pairs) h, ← e)
+    stop_lent r h e = rw (le-leb 2 (length pairs) h, e)
 
   pub lent_sound : Sound (lent_of rule w)
-  lent_sound = record {
-    takes = λ st st' s used g e. let t = lent_took st s st' used g e in (omega (arith, t.size), omega (arith, t.size, t.there));
-    names = λ st s n e. lent_names st s n e;
-  }
+  lent_sound = record { takes = λ st st' s used g e. let t = lent_took st s st' used g e in (omega (arith, t.size), omega (arith, t.size, t.there)) }
 
 -- ---- the bytes of some numbers begin those of more
 

@@ -71,6 +71,7 @@ fn all_fit(numbers: &[u32], from: usize, n: usize, width: AsnLength) -> bool
 }
 
 // What stands against writing a segment whose numbers start at a place. Where all numbers are known to fit, its own do.
+#[tactic(auto, unfolding(crate::specs::Write::write_fault), using(crate::proofs::WriteLaws::fit_part))]
 fn segment_fault(
     kind: u32,
     count: u32,
@@ -98,6 +99,7 @@ fn segment_fault(
 }
 
 // The refusal of the first segment that cannot be written.
+#[tactic(auto, using(crate::proofs::WriteTurn::judged_fits))]
 fn first_fault(
     pairs: &[u32],
     numbers: &[u32],
@@ -237,8 +239,9 @@ fn put_ahead(
 
 // The bytes of a lent path that can be written and has room, `total` in all. Both rules have the same: what the strict one lets be written, the
 // crate's does.
+#[tactic(auto, using(crate::proofs::WriteTurn::ahead_fits, crate::proofs::WriteTurn::ahead_long))]
 fn write_segments(pairs: &[u32], numbers: &[u32], width: AsnLength, out: &mut [u8], total: usize)
-    requires numbers_value { adds_up pairs.now (length numbers.now) ≡ true }
+    requires adds { adds_up pairs.now (length numbers.now) ≡ true }
     requires path_good { (lent_path known_type (width_of width) pairs.now numbers.now).verdict ≡ fine }
     requires total_value { (total ≡ length (lent_bytes known_type (width_of width) pairs.now numbers.now)) × (total ≤ length out.old) }
     ensures { out.new ≡ laid out.old 0 (lent_bytes known_type (width_of width) pairs.now numbers.now) }
@@ -250,13 +253,14 @@ fn write_segments(pairs: &[u32], numbers: &[u32], width: AsnLength, out: &mut [u
         let count = pairs[at + 1];
         put_head(out, to, pairs[at], count);
         put_ahead(numbers, from, count as usize, width, out, to + 2, total);
-        to = to + (2 + asns::numbers_size(count as u16, width));
-        from = from + count as usize;
-        at = at + 2;
+        to += paths::segment_size(count as u8, width);
+        from += count as usize;
+        at += 2;
     }
 }
 
 // A path lent as pairs of type and count, and as numbers back to back. The counts are compared with the numbers left, so no sum can wrap.
+#[tactic(auto, unfolding(crate::specs::Promises::encode_answer, crate::specs::Promises::encode_left, crate::specs::Promises::lent_bytes, wire::specs::Answer::limited), using(crate::proofs::PromiseLaws::by_size, crate::proofs::PromiseLaws::size_is, crate::proofs::Lent::lent_alike, asns::proofs::AsnLaws::span_many, asns::proofs::AsnLaws::span_most, asns::proofs::AsnLaws::width_pos))]
 pub fn encode_as_path(
     pairs: &[u32],
     numbers: &[u32],
@@ -271,13 +275,10 @@ pub fn encode_as_path(
         return Err(Refusal::NotWritable);
     }
     path_fault(pairs, numbers, width, rule)?;
-    if wire::LIST_LIMIT < pairs.len() {
+    let Ok(n) = u16::try_from(numbers.len()) else {
         return Err(Refusal::TooLong);
-    }
-    if wire::LIST_LIMIT < numbers.len() {
-        return Err(Refusal::TooLong);
-    }
-    let size = pairs.len() + asns::numbers_size(numbers.len() as u16, width);
+    };
+    let size = pairs.len() + asns::numbers_size(n, width);
     if wire::LIST_LIMIT < size {
         return Err(Refusal::TooLong);
     }
