@@ -1,101 +1,78 @@
-// What an answer's line is made of: text, numbers, and the places of a store. Each function answers where the next byte goes.
-use crate::numbers::Numbers;
+// An answer's line, put at a place of the output that waits: text, numbers, and the places of a store.
 use crate::store;
+use wire::refusal::Refusal;
 
 // How many places of a store are shown.
 const SHOWN: usize = 12;
 
-// Text at a place; nothing where there is no room for it.
-pub fn put(out: &mut [u8], at: usize, text: &[u8]) -> usize {
-    if out.len() < at {
-        return at;
+// The output that waits, and where the next byte goes.
+#[derive(Drop)]
+pub struct Line<'a> {
+    out: &'a mut [u8],
+    at: usize,
+}
+
+impl<'a> Line<'a> {
+    pub fn new(out: &'a mut [u8], at: usize) -> Line<'a> {
+        Line { out, at }
     }
-    if out.len() - at < text.len() {
-        return at;
+
+    // Where the next byte goes.
+    pub fn end(self) -> usize {
+        self.at
     }
-    copies::copy_at(out, at, text);
-    at + text.len()
-}
 
-// A number in decimal.
-fn decimal(out: &mut [u8], at: usize, n: usize) -> usize {
-    let mut text = [0u8; 20];
-    let k = io::decimal(n as u64, &mut text);
-    put(out, at, &text[..k])
-}
-
-// A space and a number.
-pub fn number(out: &mut [u8], at: usize, n: usize) -> usize {
-    let next = put(out, at, b" ");
-    decimal(out, next, n)
-}
-
-// The start of a line.
-pub fn record_and_op(out: &mut [u8], at: usize, record: usize, op: u8) -> usize {
-    let next = decimal(out, at, record);
-    number(out, next, op as usize)
-}
-
-// The numbers of an answer.
-pub fn numbers(out: &mut [u8], at: usize, n: Numbers) -> usize {
-    let values = n.values;
-    let mut next = at;
-    let mut i: usize = 0;
-    while i < 9 {
-        if n.count <= i {
-            return next;
+    // Text; nothing where there is no room for it.
+    pub fn text(&mut self, text: &[u8]) {
+        if self.out.len().saturating_sub(self.at) < text.len() {
+            return;
         }
-        next = number(out, next, values[i]);
-        i = i + 1;
+        copies::copy_at(self.out, self.at, text);
+        self.at = self.at.saturating_add(text.len());
     }
-    next
-}
 
-// A word as a wider number.
-fn wider(x: u32) -> usize {
-    x as usize
-}
+    // A number in decimal.
+    fn decimal(&mut self, n: usize) {
+        let mut text = [0u8; 20];
+        let k = io::decimal(n as u64, &mut text);
+        self.text(&text[..k]);
+    }
 
-// The first places of a store, and of an output.
-fn first_words(out: &mut [u8], at: usize, s: &[u32]) -> usize {
-    let mut next = at;
-    let mut i: usize = 0;
-    while i < s.len() {
-        if SHOWN <= i {
-            return next;
+    // A space and a number.
+    pub fn number(&mut self, n: usize) {
+        self.text(b" ");
+        self.decimal(n);
+    }
+
+    pub fn numbers(&mut self, values: &[usize]) {
+        for value in values {
+            self.number(*value);
         }
-        next = number(out, next, wider(s[i]));
-        i = i + 1;
     }
-    next
-}
 
-fn first_bytes(out: &mut [u8], at: usize, s: &[u8]) -> usize {
-    let mut next = at;
-    let mut i: usize = 0;
-    while i < s.len() {
-        if SHOWN <= i {
-            return next;
+    // The start of a line.
+    pub fn record_and_op(&mut self, record: usize, op: u8) {
+        self.decimal(record);
+        self.number(usize::from(op));
+    }
+
+    // What a call answered: its refusal number, 0 for none, and then its own numbers, which are 0 where it refused.
+    pub fn tell<const N: usize>(&mut self, answer: Result<[usize; N], Refusal>) {
+        let (number, values) = match answer {
+            Ok(values) => (0, values),
+            Err(refusal) => (u8::from(refusal), [0; N]),
+        };
+        self.number(usize::from(number));
+        self.numbers(&values);
+    }
+
+    // The places of a store or an output that were lent: their sum and the first of them.
+    pub fn places<T: Copy + Into<u32>>(&mut self, lent: &[T]) {
+        self.text(b" |");
+        self.number(store::sum(lent));
+        for place in lent.iter().take(SHOWN) {
+            let shown: u32 = (*place).into();
+            self.number(shown as usize);
         }
-        next = number(out, next, wider(wire::wide(s[i])));
-        i = i + 1;
     }
-    next
-}
-
-// The places of a store that were lent: their sum and the first of them.
-pub fn words(out: &mut [u8], at: usize, s: &[u32], room: usize) -> usize {
-    let m = wire::least(room, s.len());
-    let lent = &s[..m];
-    let bar = put(out, at, b" |");
-    let sum = number(out, bar, store::sum_of_words(lent));
-    first_words(out, sum, lent)
-}
-
-// The places of an output that were lent, in the same way.
-pub fn bytes(out: &mut [u8], at: usize, s: &[u8], room: usize) -> usize {
-    let lent = wire::part(s, 0, room);
-    let bar = put(out, at, b" |");
-    let sum = number(out, bar, store::sum_of_bytes(lent));
-    first_bytes(out, sum, lent)
 }

@@ -3,13 +3,14 @@
 
 ghost use Rattle.std.specs.Prelude.{◌≡◌, length};
 
-use crate::numbers::Numbers;
-use crate::request::{Head, Judged};
+use crate::calls::Places;
+use crate::line::Line;
+use crate::request::{Judged, Record};
 use std::io::{Read, Result, Write};
 
+mod calls;
 mod index;
 mod line;
-mod numbers;
 mod reads;
 mod request;
 mod store;
@@ -26,52 +27,6 @@ struct State {
     record: usize,
     at: usize,
     ended: bool,
-    over: bool,
-}
-
-// The call that a record names: what it answered, and in the stores and the output what it left.
-fn call(h: Head, s: &[u8], a: &mut [u32], b: &mut [u32], w: &mut [u8]) -> Numbers {
-    if writes::is_writer(h.op) {
-        return writes::answer(h, s, a, b, w);
-    }
-    let op = h.op;
-    match op {
-        29 | 30 => index::answer(h, s, a),
-        _ => reads::answer(h, s, a, b),
-    }
-}
-
-// The stores or the output that an op lends.
-fn show_lent(h: Head, a: &[u32], b: &[u32], w: &[u8], out: &mut [u8], at: usize) -> usize {
-    if writes::is_writer(h.op) {
-        return line::bytes(out, at, w, h.room_a);
-    }
-    let stores = reads::stores_lent(h.op);
-    if stores == 0 {
-        return at;
-    }
-    let first = line::words(out, at, a, request::first_room(h));
-    if stores == 1 {
-        return first;
-    }
-    line::words(out, first, b, h.room_b)
-}
-
-// The line of a whole record.
-fn answer(
-    s: &[u8],
-    record: usize,
-    a: &mut [u32],
-    b: &mut [u32],
-    w: &mut [u8],
-    out: &mut [u8],
-    at: usize,
-) -> usize {
-    let h = request::read_head(s);
-    let named = line::record_and_op(out, at, record, h.op);
-    let told = line::numbers(out, named, call(h, s, a, b, w));
-    let shown = show_lent(h, a, b, w, out, told);
-    line::put(out, shown, b"\n")
 }
 
 // Writes the output that waits.
@@ -79,50 +34,39 @@ fn flush<W: Write>(to: &mut W, out: &[u8], at: usize) -> Result<()> {
     to.write_all(wire::part(out, 0, at))
 }
 
-// After a record that was answered.
-fn after<W: Write>(to: &mut W, state: State, size: usize, at: usize, out: &[u8]) -> Result<State> {
-    let mut waiting = at;
-    if WAITING_LIMIT < at {
-        flush(to, out, at)?;
-        waiting = 0;
+// A whole record is answered, and the output written where much of it waits.
+fn answer<W: Write>(
+    to: &mut W,
+    state: State,
+    record: Record,
+    places: &mut Places,
+    out: &mut [u8],
+) -> Result<State> {
+    let mut line = Line::new(out, state.at);
+    line.record_and_op(state.record, record.op as u8);
+    calls::call(record, places, &mut line);
+    line.text(b"\n");
+    let end = line.end();
+    let waits = end <= WAITING_LIMIT;
+    if !waits {
+        flush(to, out, end)?;
     }
     Ok(State {
-        start: request::plus(state.start, size),
-        have: state.have,
-        record: request::plus(state.record, 1),
-        at: waiting,
-        ended: state.ended,
-        over: false,
-    })
-}
-
-// The end of the run.
-fn finish<W: Write>(to: &mut W, state: State, at: usize, out: &[u8]) -> Result<State> {
-    flush(to, out, at)?;
-    Ok(State {
-        start: state.start,
-        have: state.have,
-        record: state.record,
-        at: 0,
-        ended: true,
-        over: true,
+        start: state.start.saturating_add(record.size),
+        record: state.record.saturating_add(1),
+        at: if waits { end } else { 0 },
+        ..state
     })
 }
 
 // A record that is short or not given ends the run.
-fn stop<W: Write>(to: &mut W, state: State, out: &mut [u8]) -> Result<State> {
-    let word = line::put(out, state.at, b"stop");
-    let record = line::number(out, word, state.record);
-    let end = line::put(out, record, b"\n");
-    finish(to, state, end, out)
-}
-
-// One read behind the bytes in hand: how many came.
-fn read_from<R: Read>(from: &mut R, input: &mut [u8], at: usize) -> Result<usize> {
-    if input.len() < at {
-        return Ok(0);
-    }
-    from.read(&mut input[at..])
+fn stop<W: Write>(to: &mut W, state: State, out: &mut [u8]) -> Result<()> {
+    let mut line = Line::new(out, state.at);
+    line.text(b"stop");
+    line.number(state.record);
+    line.text(b"\n");
+    let end = line.end();
+    flush(to, out, end)
 }
 
 // Writes the output that waits, and reads more behind the bytes in hand.
@@ -135,32 +79,18 @@ fn refill<R: Read, W: Write>(
 ) -> Result<State> {
     flush(to, out, state.at)?;
     copies::to_front(input, state.start, state.have);
-    let kept = request::minus(state.have, state.start);
-    let came = read_from(from, input, kept)?;
+    let kept = state.have.saturating_sub(state.start);
+    let came = match input.get_mut(kept..) {
+        Some(room) => from.read(room)?,
+        None => 0,
+    };
     Ok(State {
         start: 0,
-        have: request::plus(kept, came),
+        have: kept.saturating_add(came),
         record: state.record,
         at: 0,
         ended: came == 0,
-        over: false,
     })
-}
-
-// A whole record of so many bytes is answered.
-fn answered<W: Write>(
-    to: &mut W,
-    state: State,
-    size: usize,
-    input: &[u8],
-    a: &mut [u32],
-    b: &mut [u32],
-    w: &mut [u8],
-    out: &mut [u8],
-) -> Result<State> {
-    let s = wire::part(input, state.start, size);
-    let at = answer(s, state.record, a, b, w, out, state.at);
-    after(to, state, size, at, out)
 }
 
 // One turn: a record is answered, or more is read, or the run ends.
@@ -169,17 +99,21 @@ fn turn<R: Read, W: Write>(
     to: &mut W,
     state: State,
     input: &mut [u8],
-    a: &mut [u32],
-    b: &mut [u32],
-    w: &mut [u8],
+    places: &mut Places,
     out: &mut [u8],
-) -> Result<State> {
-    let left = request::minus(state.have, state.start);
+) -> Result<Option<State>> {
+    let left = state.have.saturating_sub(state.start);
     match request::judge(wire::part(input, state.start, left), state.ended) {
-        Judged::Whole(size) => answered(to, state, size, input, a, b, w, out),
-        Judged::More => refill(from, to, state, input, out),
-        Judged::Wrong => stop(to, state, out),
-        Judged::End => finish(to, state, state.at, out),
+        Judged::Whole(record) => answer(to, state, record, places, out).map(Some),
+        Judged::More => refill(from, to, state, input, out).map(Some),
+        Judged::Wrong => {
+            stop(to, state, out)?;
+            Ok(None)
+        }
+        Judged::End => {
+            flush(to, out, state.at)?;
+            Ok(None)
+        }
     }
 }
 
@@ -188,9 +122,7 @@ fn run<R: Read, W: Write>(
     from: &mut R,
     to: &mut W,
     input: &mut [u8],
-    a: &mut [u32],
-    b: &mut [u32],
-    w: &mut [u8],
+    places: &mut Places,
     out: &mut [u8],
 ) -> Result<()> {
     let mut state = State {
@@ -199,15 +131,12 @@ fn run<R: Read, W: Write>(
         record: 1,
         at: 0,
         ended: false,
-        over: false,
     };
-    let mut budget = u64::MAX;
-    while 0 < budget {
-        if state.over {
-            return Ok(());
+    for _ in 0..u64::MAX {
+        match turn(from, to, state, input, places, out)? {
+            Some(next) => state = next,
+            None => return Ok(()),
         }
-        state = turn(from, to, state, input, a, b, w, out)?;
-        budget = budget - 1;
     }
     Ok(())
 }
@@ -235,7 +164,12 @@ fn run_with_places<R: Read, W: Write>(
     let mut a = word_places();
     let mut b = word_places();
     let mut w = byte_places();
-    run(from, to, input, &mut a, &mut b, &mut w, out)
+    let mut places = Places {
+        a: &mut a,
+        b: &mut b,
+        out: &mut w,
+    };
+    run(from, to, input, &mut places, out)
 }
 
 fn main(rt: HostRuntime) -> Result<()> {

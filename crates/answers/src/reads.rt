@@ -1,175 +1,202 @@
-// Ops 1 to 12 and 18 to 25, the readers, and 28, which takes the marks off a store of rows.
-use crate::numbers::Numbers;
-use crate::request::Head;
-use crate::{numbers, request, store};
-use families::{AddPath, Afi};
+// The calls that read, each with the line of its answer. What a call of no store answers, of any part, are its own numbers.
+use crate::line::Line;
+use crate::request::Record;
+use crate::store;
+use as4::Standing;
+use attributes::Attribute;
+use mp_nlri::Reach;
+use paths::Path;
+use routes::{Route, Routes};
+use updates::Update;
+use wire::refusal::Refusal;
 
-// Op 23.
-fn counted_reach(value: &[u8], mode: AddPath) -> Numbers {
-    numbers::of_reach(
-        mp_nlri::count_mp_reach_nlri(value, mode),
-        mp_nlri::next_hop_part(value),
-    )
+// One route: the bytes that it takes, its row, and whether a bit past its length is set.
+pub fn tell_route(line: &mut Line, answer: Result<Route, Refusal>) {
+    line.tell(answer.map(|route| {
+        let row = route.prefix.row;
+        [
+            route.prefix.used,
+            row.first as usize,
+            row.id as usize,
+            row.w0 as usize,
+            row.w1 as usize,
+            row.w2 as usize,
+            row.w3 as usize,
+            usize::from(route.host),
+        ]
+    }));
 }
 
-// Op 22.
-fn stored_reach(value: &[u8], mode: AddPath, store: &mut [u32]) -> Numbers {
-    numbers::of_reach(
-        mp_nlri::parse_mp_reach_nlri(value, mode, store),
-        mp_nlri::next_hop_part(value),
-    )
+// A list: its rows, and those with a bit set past their length.
+pub fn tell_routes(line: &mut Line, answer: Result<Routes, Refusal>) {
+    line.tell(answer.map(|routes| [routes.rows, routes.hosts]));
 }
 
-// Ops 3, 5, 7, 11, 23 and 25.
-fn counted(op: u8, settings: u8, s: &[u8]) -> Numbers {
-    let mode = families::mode_of(settings);
-    match op {
-        3 => numbers::of_list(routes::count_nlri_list(s, request::afi(settings), mode)),
-        5 => numbers::of_list(routes::count_nlri(s, Afi::Ipv4, mode)),
-        7 => numbers::of_path(paths::count_as_path(
-            s,
-            request::width(settings),
-            request::rule(settings),
-        )),
-        23 => counted_reach(s, mode),
-        25 => numbers::of_list(mp_nlri::count_mp_unreach_nlri(s, mode)),
-        _ => numbers::of_update(updates::count_bgp_update_message(s, mode)),
+// Rows, places or bytes.
+pub fn tell_count(line: &mut Line, answer: Result<usize, Refusal>) {
+    line.tell(answer.map(|count| [count]));
+}
+
+pub fn tell_path(line: &mut Line, answer: Result<Path, Refusal>) {
+    line.tell(answer.map(|path| [path.segments, path.numbers]));
+}
+
+// MP_REACH_NLRI: the length and the sum of its next hop, whether the reserved byte is not 0, its rows, and those with a bit set past their length.
+pub fn tell_reach(line: &mut Line, answer: Result<Reach, Refusal>, value: &[u8]) {
+    let sum = store::sum(mp_nlri::next_hop_part(value));
+    line.tell(answer.map(|reach| {
+        [
+            reach.next_hop,
+            sum,
+            usize::from(reach.reserved),
+            reach.rows,
+            reach.hosts,
+        ]
+    }));
+}
+
+// The rows and the verdict of each section, then the rows of each with a bit set past their length.
+pub fn tell_update(line: &mut Line, answer: Result<Update, Refusal>) {
+    line.tell(answer.map(|update| {
+        [
+            routes::rows_in(update.withdrawn),
+            usize::from(routes::verdict_in(update.withdrawn)),
+            routes::rows_in(update.announced),
+            usize::from(routes::verdict_in(update.announced)),
+            routes::hosts_in(update.withdrawn),
+            routes::hosts_in(update.announced),
+        ]
+    }));
+}
+
+pub fn aggregator(record: Record, line: &mut Line) {
+    let answer = asns::parse_aggregator(record.one, record.settings.width());
+    line.tell(answer.map(|it| {
+        [
+            it.asn as usize,
+            it.identifier as usize,
+            usize::from(it.differs),
+        ]
+    }));
+}
+
+// A message, with the length and the sum of its body.
+pub fn message(record: Record, line: &mut Line) {
+    let s = record.one;
+    let edition = record.settings.edition();
+    let strict = record.settings.is_strict();
+    let answer = if strict {
+        messages::parse_bgp_message_strict(s, edition)
+    } else {
+        messages::parse_bgp_message(s)
+    };
+    let body = if strict {
+        messages::message_body_strict(s, edition)
+    } else {
+        messages::message_body(s)
+    };
+    let sum = store::sum(body);
+    line.tell(answer.map(|it| {
+        [
+            usize::from(u8::from(it.kind)),
+            it.claimed,
+            it.taken,
+            usize::from(it.marker),
+            usize::from(it.cut),
+            usize::from(it.trailing),
+            body.len(),
+            sum,
+        ]
+    }));
+}
+
+// The length and the sum of each part of an UPDATE.
+pub fn parts(record: Record, line: &mut Line) {
+    let body = record.one;
+    let withdrawn = updates::withdrawn_part(body);
+    let attributes = updates::attribute_part(body);
+    let announced = updates::announced_part(body);
+    line.tell(updates::update_parts(body).map(|_| {
+        [
+            withdrawn.len(),
+            store::sum(withdrawn),
+            attributes.len(),
+            store::sum(attributes),
+            announced.len(),
+            store::sum(announced),
+        ]
+    }));
+}
+
+// Whether there is an attribute, its flags and type, where its value starts, the length and the sum of the value, and where the next one stands.
+fn attribute_numbers(found: Option<Attribute>, value: &[u8]) -> [usize; 7] {
+    match found {
+        Some(it) => [
+            1,
+            usize::from(it.flags),
+            usize::from(it.kind),
+            it.start,
+            value.len(),
+            store::sum(value),
+            it.next,
+        ],
+        None => [0; 7],
     }
 }
 
-// Op 9.
-fn message(settings: u8, s: &[u8]) -> Numbers {
-    if request::is_strict(settings) {
-        let edition = request::edition(settings);
-        return numbers::of_message(
-            messages::parse_bgp_message_strict(s, edition),
-            messages::message_body_strict(s, edition),
-        );
-    }
-    numbers::of_message(messages::parse_bgp_message(s), messages::message_body(s))
+// The attribute at a place, which is a number of four bytes.
+pub fn attribute(record: Record, line: &mut Line) {
+    let section = record.one;
+    let place = wire::u32_at(record.two, 0) as usize;
+    let value = attributes::value_at(section, place);
+    let answer = attributes::attribute_at(section, place);
+    line.tell(answer.map(|found| attribute_numbers(found, value)));
 }
 
-// Op 12.
-fn parts(s: &[u8]) -> Numbers {
-    numbers::of_parts(
-        updates::update_parts(s),
-        updates::withdrawn_part(s),
-        updates::attribute_part(s),
-        updates::announced_part(s),
-    )
+// The first attribute of a type: the same without the type, which was asked for, and the next place.
+pub fn found(record: Record, line: &mut Line) {
+    let section = record.one;
+    let value = attributes::find_value(section, record.argument);
+    let answer = attributes::find_attribute(section, record.argument);
+    line.tell(answer.map(|found| {
+        let [there, flags, _, start, size, sum, _] = attribute_numbers(found, value);
+        [there, flags, start, size, sum]
+    }));
 }
 
-// Op 18: place is a number of four bytes.
-fn attribute(section: &[u8], place: &[u8]) -> Numbers {
-    let at = wire::u32_at(place, 0) as usize;
-    numbers::of_attribute(
-        attributes::attribute_at(section, at),
-        attributes::value_at(section, at),
-    )
-}
-
-// Op 19.
-fn found(section: &[u8], kind: u8) -> Numbers {
-    numbers::of_found(
-        attributes::find_attribute(section, kind),
-        attributes::find_value(section, kind),
-    )
-}
-
-// Op 20, on parts of one lifetime: either may be handed back.
-fn standing<'a>(aggregator: &'a [u8], as4_aggregator: &'a [u8]) -> Numbers {
-    numbers::of_standing(
-        as4::which_aggregator(aggregator, as4_aggregator),
-        as4::standing_aggregator(aggregator, as4_aggregator),
-    )
-}
-
-// The ops that lend no store, on part one; ops 18 and 20 have a second.
-fn plain<'a>(h: Head, s: &'a [u8], two: &'a [u8]) -> Numbers {
-    let op = h.op;
-    let settings = h.settings;
-    match op {
-        1 => numbers::of_route(routes::try_parse_prefix(
-            s,
-            request::afi(settings),
-            request::form(settings),
-        )),
-        8 => numbers::of_aggregator(asns::parse_aggregator(s, request::width(settings))),
-        9 => message(settings, s),
-        12 => parts(s),
-        18 => attribute(s, two),
-        19 => found(s, h.argument),
-        20 => standing(s, two),
-        _ => counted(op, settings, s),
+// 1 or 2: which of two AGGREGATORs stands.
+fn standing_number(standing: Standing) -> usize {
+    match standing {
+        Standing::Aggregator => 1,
+        Standing::As4Aggregator => 2,
     }
 }
 
-// Op 28, on a store with a place for each number of the part, which it holds before the call.
-fn cleared(part: &[u8], words: &mut [u32]) -> Numbers {
-    store::decode(part, words);
-    numbers::of_cleared(route_marks::clear_guessed(words))
+// The AGGREGATOR that stands, with the length and the sum of its value.
+pub fn standing(record: Record, line: &mut Line) {
+    let value = as4::standing_aggregator(record.one, record.two);
+    let answer = as4::which_aggregator(record.one, record.two);
+    line.tell(answer.map(|it| { [standing_number(it), value.len(), store::sum(value)] }));
 }
 
-// Ops 2, 4, 22, 24 and 28, which lend one store, and ops 6 and 10, which lend two, on part one.
-fn stored(op: u8, settings: u8, s: &[u8], a: &mut [u32], b: &mut [u32]) -> Numbers {
-    let mode = families::mode_of(settings);
-    match op {
-        2 => numbers::of_list(route_reader::parse_nlri_list(s, request::afi(settings), mode, a)),
-        4 => numbers::of_list(route_reader::read_nlri(s, Afi::Ipv4, mode, a)),
-        6 => numbers::of_path(paths::parse_as_path(
-            s,
-            request::width(settings),
-            request::rule(settings),
-            a,
-            b,
-        )),
-        22 => stored_reach(s, mode, a),
-        24 => numbers::of_list(mp_nlri::parse_mp_unreach_nlri(s, mode, a)),
-        28 => cleared(s, a),
-        _ => numbers::of_update(updates::parse_bgp_update_message(s, mode, a, b)),
-    }
-}
-
-// Op 21, which lends two stores, on a whole record.
-fn merged(h: Head, s: &[u8], a: &mut [u32], b: &mut [u32]) -> Numbers {
-    let aggregator = request::aggregator(s, h);
-    let as4_aggregator = request::as4_aggregator(s, h);
+// The path of an AS_PATH and an AS4_PATH, after which AGGREGATOR stands. The third part is an AGGREGATOR as long as the argument says, and then an
+// AS4_AGGREGATOR.
+pub fn merged(record: Record, pairs: &mut [u32], numbers: &mut [u32], line: &mut Line) {
+    let size = usize::from(record.argument);
+    let aggregator = wire::part(record.three, 0, size);
+    let left = record.three.len().saturating_sub(size);
+    let as4_aggregator = wire::part(record.three, size, left);
     let path = as4::merge_as_path(
-        request::part_one(s, h),
-        request::part_two(s, h),
+        record.one,
+        record.two,
         aggregator,
         as4_aggregator,
-        a,
-        b,
+        pairs,
+        numbers,
     );
-    numbers::of_merged(as4::which_aggregator(aggregator, as4_aggregator), path)
-}
-
-// How many stores an op lends.
-pub fn stores_lent(op: u8) -> u8 {
-    match op {
-        2 | 4 | 22 | 24 | 28 | 29 => 1,
-        6 | 10 | 21 => 2,
-        _ => 0,
-    }
-}
-
-// The call, on the places of each store that are lent.
-fn into_stores(h: Head, s: &[u8], a: &mut [u32], b: &mut [u32]) -> Numbers {
-    store::fill_words(a);
-    store::fill_words(b);
-    if h.op == 21 {
-        return merged(h, s, a, b);
-    }
-    stored(h.op, h.settings, request::part_one(s, h), a, b)
-}
-
-// The refusal and the numbers of a reader; what it left stands in the stores.
-pub fn answer(h: Head, s: &[u8], a: &mut [u32], b: &mut [u32]) -> Numbers {
-    if stores_lent(h.op) == 0 {
-        return plain(h, request::part_one(s, h), request::part_two(s, h));
-    }
-    let m = wire::least(request::first_room(h), a.len());
-    let n = wire::least(h.room_b, b.len());
-    into_stores(h, s, &mut a[..m], &mut b[..n])
+    let stands = match as4::which_aggregator(aggregator, as4_aggregator) {
+        Ok(standing) => standing_number(standing),
+        Err(_) => 0,
+    };
+    line.tell(path.map(|path| [stands, path.segments, path.numbers]));
 }

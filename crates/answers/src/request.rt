@@ -1,56 +1,193 @@
-// A request record: its head, whether it is one that is given, and its settings.
+// A request record: the call that it names, its settings, the places that are lent, and its three parts; and whether it is one that is given.
 use asns::AsnLength;
-use families::{Afi, Form};
+use families::{AddPath, Afi, Form};
 use messages::Edition;
 use paths::PathRule;
 
-// The bytes of a head.
-pub const HEAD_SIZE: usize = 18;
+// The bytes before the parts.
+const HEAD_SIZE: usize = 18;
 
 // The most places of a store and the most bytes of a part.
 pub const ROOM_LIMIT: usize = 400000;
 
-// The last op; the first is 1.
-const LAST_OP: u8 = 30;
-
-// The largest settings byte.
-const SETTINGS_LIMIT: u8 = 63;
-
-// What stands before the three parts: op, settings, the places lent in two stores, the lengths of the parts, an argument.
-#[derive(Clone, Copy)]
-pub struct Head {
-    pub op: u8,
-    pub settings: u8,
-    pub room_a: usize,
-    pub room_b: usize,
-    pub one: usize,
-    pub two: usize,
-    pub three: usize,
-    pub argument: u8,
+// The calls, by the numbers of their records.
+#[derive(Clone, Copy, Debug, PartialEq, Eq)]
+pub enum Op {
+    TryParsePrefix = 1,
+    ParseNlriList = 2,
+    CountNlriList = 3,
+    ReadNlri = 4,
+    CountNlri = 5,
+    ParseAsPath = 6,
+    CountAsPath = 7,
+    ParseAggregator = 8,
+    ParseBgpMessage = 9,
+    ParseBgpUpdateMessage = 10,
+    CountBgpUpdateMessage = 11,
+    UpdateParts = 12,
+    EncodeNlriPrefixes = 13,
+    EncodeAsPath = 14,
+    EncodeAggregator = 15,
+    EncodeBgpMessage = 16,
+    EncodeBgpUpdateMessage = 17,
+    AttributeAt = 18,
+    FindAttribute = 19,
+    WhichAggregator = 20,
+    MergeAsPath = 21,
+    ParseMpReachNlri = 22,
+    CountMpReachNlri = 23,
+    ParseMpUnreachNlri = 24,
+    CountMpUnreachNlri = 25,
+    EncodeMpReachNlri = 26,
+    EncodeMpUnreachNlri = 27,
+    ClearGuessed = 28,
+    BuildIndex = 29,
+    RouteAt = 30,
 }
 
-// The bytes in hand: a whole record of so many bytes, too few to say, a record that is not given, or the end.
+// A number that names no call, or settings that are none.
+#[derive(Clone, Copy, Debug, PartialEq, Eq)]
+pub struct NotGiven;
+
+impl TryFrom<u8> for Op {
+    type Error = NotGiven;
+
+    fn try_from(number: u8) -> Result<Self, NotGiven> {
+        Ok(match number {
+            1 => Op::TryParsePrefix,
+            2 => Op::ParseNlriList,
+            3 => Op::CountNlriList,
+            4 => Op::ReadNlri,
+            5 => Op::CountNlri,
+            6 => Op::ParseAsPath,
+            7 => Op::CountAsPath,
+            8 => Op::ParseAggregator,
+            9 => Op::ParseBgpMessage,
+            10 => Op::ParseBgpUpdateMessage,
+            11 => Op::CountBgpUpdateMessage,
+            12 => Op::UpdateParts,
+            13 => Op::EncodeNlriPrefixes,
+            14 => Op::EncodeAsPath,
+            15 => Op::EncodeAggregator,
+            16 => Op::EncodeBgpMessage,
+            17 => Op::EncodeBgpUpdateMessage,
+            18 => Op::AttributeAt,
+            19 => Op::FindAttribute,
+            20 => Op::WhichAggregator,
+            21 => Op::MergeAsPath,
+            22 => Op::ParseMpReachNlri,
+            23 => Op::CountMpReachNlri,
+            24 => Op::ParseMpUnreachNlri,
+            25 => Op::CountMpUnreachNlri,
+            26 => Op::EncodeMpReachNlri,
+            27 => Op::EncodeMpUnreachNlri,
+            28 => Op::ClearGuessed,
+            29 => Op::BuildIndex,
+            30 => Op::RouteAt,
+            _ => return Err(NotGiven),
+        })
+    }
+}
+
+// A sum: 1 Add-Path and 2 guess, as a slot has them; 4 IPv6, 8 AS numbers of four bytes, 16 strict, 32 RFC 8654.
+#[derive(Clone, Copy, Debug, PartialEq, Eq)]
+pub struct Settings(u8);
+
+impl TryFrom<u8> for Settings {
+    type Error = NotGiven;
+
+    fn try_from(sum: u8) -> Result<Self, NotGiven> {
+        if 63 < sum {
+            return Err(NotGiven);
+        }
+        Ok(Settings(sum))
+    }
+}
+
+impl Settings {
+    fn has(self, one: u8) -> bool {
+        self.0 & one != 0
+    }
+
+    pub fn mode(self) -> AddPath {
+        AddPath::from(self.0)
+    }
+
+    pub fn form(self) -> Form {
+        if self.has(1) {
+            Form::Tagged
+        } else {
+            Form::Plain
+        }
+    }
+
+    pub fn afi(self) -> Afi {
+        if self.has(4) { Afi::Ipv6 } else { Afi::Ipv4 }
+    }
+
+    pub fn width(self) -> AsnLength {
+        if self.has(8) {
+            AsnLength::Bits32
+        } else {
+            AsnLength::Bits16
+        }
+    }
+
+    pub fn is_strict(self) -> bool {
+        self.has(16)
+    }
+
+    pub fn rule(self) -> PathRule {
+        if self.is_strict() {
+            PathRule::Strict
+        } else {
+            PathRule::Crate
+        }
+    }
+
+    pub fn edition(self) -> Edition {
+        if self.has(32) {
+            Edition::Rfc8654
+        } else {
+            Edition::Rfc4271
+        }
+    }
+}
+
+// A record that is given: what it lends in two stores, its parts, and its bytes in all.
 #[derive(Clone, Copy)]
-pub enum Judged {
-    Whole(usize),
+pub struct Record<'a> {
+    pub op: Op,
+    pub settings: Settings,
+    pub room_a: usize,
+    pub room_b: usize,
+    pub one: &'a [u8],
+    pub two: &'a [u8],
+    pub three: &'a [u8],
+    pub argument: u8,
+    pub size: usize,
+}
+
+// The bytes in hand: a whole record, too few to say, a record that is not given, or the end.
+#[derive(Clone, Copy)]
+pub enum Judged<'a> {
+    Whole(Record<'a>),
     More,
     Wrong,
     End,
 }
 
-// A sum that stays at the largest number, and a difference that stays at 0.
-pub fn plus(a: usize, b: usize) -> usize {
-    if usize::MAX - a < b {
-        return usize::MAX;
-    }
-    a + b
-}
-
-pub fn minus(a: usize, b: usize) -> usize {
-    if a < b {
-        return 0;
-    }
-    a - b
+// What stands before the parts, whose lengths it has.
+#[derive(Clone, Copy)]
+struct Head {
+    op: Op,
+    settings: Settings,
+    room_a: usize,
+    room_b: usize,
+    one: usize,
+    two: usize,
+    three: usize,
+    argument: u8,
 }
 
 // The number of the three bytes at a place that is not the last.
@@ -58,165 +195,93 @@ fn u24_at(s: &[u8], at: usize) -> usize {
     (wire::u32_at(s, at) / 256) as usize
 }
 
-pub fn read_head(s: &[u8]) -> Head {
-    Head {
-        op: wire::octet(s, 0),
-        settings: wire::octet(s, 1),
-        room_a: u24_at(s, 2),
-        room_b: u24_at(s, 5),
-        one: u24_at(s, 8),
-        two: u24_at(s, 11),
-        three: u24_at(s, 14),
-        argument: wire::octet(s, 17),
-    }
-}
-
-// The places lent in the first store: those asked for; in op 28 one for each number of part one, and in op 30 one for each place of part two.
-pub fn first_room(h: Head) -> usize {
-    let op = h.op;
-    match op {
-        28 => h.one / 4,
-        30 => h.two / 2,
-        _ => h.room_a,
-    }
-}
-
 // Whether a part is whole numbers of four bytes.
 fn whole(size: usize) -> bool {
     size % 4 == 0
 }
 
-// Whether the parts that hold numbers are whole numbers, and as many as an op takes, and the third of op 21 is no shorter than its argument says.
-fn parts_given(h: Head) -> bool {
-    let op = h.op;
-    match op {
-        13 | 27 | 28 => whole(h.one),
-        14 => whole(wire::most(h.one % 4, h.two % 4)),
-        15 => h.one == 8,
-        17 => whole(wire::most(h.one % 4, h.three % 4)),
-        18 => h.two == 4,
-        21 => h.argument as usize <= h.three,
-        26 => whole(h.two),
-        30 => (h.two % 2 == 0) & (h.three == 4),
-        _ => true,
+impl Head {
+    // The head at the front of bytes, if it is one that is given.
+    fn read(s: &[u8]) -> Result<Head, NotGiven> {
+        let head = Head {
+            op: Op::try_from(wire::octet(s, 0))?,
+            settings: Settings::try_from(wire::octet(s, 1))?,
+            room_a: u24_at(s, 2),
+            room_b: u24_at(s, 5),
+            one: u24_at(s, 8),
+            two: u24_at(s, 11),
+            three: u24_at(s, 14),
+            argument: wire::octet(s, 17),
+        };
+        if ROOM_LIMIT < head.largest() {
+            return Err(NotGiven);
+        }
+        if !head.parts_given() {
+            return Err(NotGiven);
+        }
+        Ok(head)
     }
-}
 
-// The largest of the rooms and the parts.
-fn largest(h: Head) -> usize {
-    let rooms = wire::most(h.room_a, h.room_b);
-    wire::most(rooms, wire::most(h.one, wire::most(h.two, h.three)))
-}
+    // The largest of the rooms and the parts.
+    fn largest(&self) -> usize {
+        self.room_a
+            .max(self.room_b)
+            .max(self.one)
+            .max(self.two)
+            .max(self.three)
+    }
 
-// Whether a record with this head is given.
-fn is_given(h: Head) -> bool {
-    if h.op < 1 {
-        return false;
+    // Whether the parts that hold numbers are whole numbers, and as many as the call takes, and the third of a merge is no shorter than its argument says.
+    fn parts_given(&self) -> bool {
+        match self.op {
+            Op::EncodeNlriPrefixes | Op::EncodeMpUnreachNlri | Op::ClearGuessed => whole(self.one),
+            Op::EncodeAsPath => whole(self.one) & whole(self.two),
+            Op::EncodeAggregator => self.one == 8,
+            Op::EncodeBgpUpdateMessage => whole(self.one) & whole(self.three),
+            Op::AttributeAt => self.two == 4,
+            Op::MergeAsPath => usize::from(self.argument) <= self.three,
+            Op::EncodeMpReachNlri => whole(self.two),
+            Op::RouteAt => (self.two % 2 == 0) & (self.three == 4),
+            _ => true,
+        }
     }
-    if LAST_OP < h.op {
-        return false;
+
+    // The record with this head at the front of bytes, if it is all there.
+    fn record<'a>(&self, s: &'a [u8]) -> Option<Record<'a>> {
+        let two = HEAD_SIZE.saturating_add(self.one);
+        let three = two.saturating_add(self.two);
+        let size = three.saturating_add(self.three);
+        if s.len() < size {
+            return None;
+        }
+        Some(Record {
+            op: self.op,
+            settings: self.settings,
+            room_a: self.room_a,
+            room_b: self.room_b,
+            one: wire::part(s, HEAD_SIZE, self.one),
+            two: wire::part(s, two, self.two),
+            three: wire::part(s, three, self.three),
+            argument: self.argument,
+            size,
+        })
     }
-    if SETTINGS_LIMIT < h.settings {
-        return false;
-    }
-    if ROOM_LIMIT < largest(h) {
-        return false;
-    }
-    parts_given(h)
 }
 
 // The record at the front of s; ended says that no byte follows s.
-pub fn judge(s: &[u8], ended: bool) -> Judged {
+pub fn judge(s: &[u8], ended: bool) -> Judged<'_> {
+    let short = if ended { Judged::Wrong } else { Judged::More };
     if s.len() < HEAD_SIZE {
-        if !ended {
-            return Judged::More;
-        }
-        if s.len() == 0 {
+        if ended & (s.len() == 0) {
             return Judged::End;
         }
+        return short;
+    }
+    let Ok(head) = Head::read(s) else {
         return Judged::Wrong;
+    };
+    match head.record(s) {
+        Some(record) => Judged::Whole(record),
+        None => short,
     }
-    let h = read_head(s);
-    if !is_given(h) {
-        return Judged::Wrong;
-    }
-    let size = plus(plus(HEAD_SIZE, h.one), plus(h.two, h.three));
-    if size <= s.len() {
-        return Judged::Whole(size);
-    }
-    if ended {
-        return Judged::Wrong;
-    }
-    Judged::More
-}
-
-// The parts of a record.
-pub fn part_one(s: &[u8], h: Head) -> &[u8] {
-    wire::part(s, HEAD_SIZE, h.one)
-}
-
-pub fn part_two(s: &[u8], h: Head) -> &[u8] {
-    wire::part(s, plus(HEAD_SIZE, h.one), h.two)
-}
-
-pub fn part_three(s: &[u8], h: Head) -> &[u8] {
-    wire::part(s, plus(plus(HEAD_SIZE, h.one), h.two), h.three)
-}
-
-// The second part that holds numbers, where an op has two such: the third of op 17, and else the second.
-pub fn last_part(s: &[u8], h: Head) -> &[u8] {
-    if h.op == 17 {
-        return part_three(s, h);
-    }
-    part_two(s, h)
-}
-
-// The third part of op 21: an AGGREGATOR as long as the argument says, and then an AS4_AGGREGATOR.
-pub fn aggregator(s: &[u8], h: Head) -> &[u8] {
-    wire::part(part_three(s, h), 0, h.argument as usize)
-}
-
-pub fn as4_aggregator(s: &[u8], h: Head) -> &[u8] {
-    let start = h.argument as usize;
-    wire::part(part_three(s, h), start, minus(h.three, start))
-}
-
-// Settings, a sum: 1 Add-Path and 2 guess, which `families::mode_of` reads; 4 IPv6, 8 AS numbers of four bytes, 16 strict, 32 RFC 8654.
-pub fn form(settings: u8) -> Form {
-    if settings % 2 == 1 {
-        return Form::Tagged;
-    }
-    Form::Plain
-}
-
-pub fn afi(settings: u8) -> Afi {
-    if settings / 4 % 2 == 1 {
-        return Afi::Ipv6;
-    }
-    Afi::Ipv4
-}
-
-pub fn width(settings: u8) -> AsnLength {
-    if settings / 8 % 2 == 1 {
-        return AsnLength::Bits32;
-    }
-    AsnLength::Bits16
-}
-
-pub fn is_strict(settings: u8) -> bool {
-    settings / 16 % 2 == 1
-}
-
-pub fn rule(settings: u8) -> PathRule {
-    if is_strict(settings) {
-        return PathRule::Strict;
-    }
-    PathRule::Crate
-}
-
-pub fn edition(settings: u8) -> Edition {
-    if settings / 32 % 2 == 1 {
-        return Edition::Rfc8654;
-    }
-    Edition::Rfc4271
 }

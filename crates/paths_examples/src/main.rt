@@ -2,30 +2,19 @@
 // file stdout.
 #![tactic(auto)]
 
-use asns::{AggregatorAnswer, AsnLength};
-use paths::{PathAnswer, PathRule};
+use asns::AsnLength;
+use paths::PathRule;
 use std::io;
-use wire::WriteAnswer;
+use wire::refusal::Refusal;
 
-// A word before a number, and then the number.
-fn say(rt: &impl Print, word: &[u8], n: u64) -> io::Result<()> {
-    rt.write_all(word)?;
-    rt.print(n)
-}
-
-fn say_number(rt: &impl Print, n: u32) -> io::Result<()> {
-    say(rt, b" ", n as u64)
+fn refused(rt: &impl Print, refusal: Refusal) -> io::Result<()> {
+    println!(rt; "refused {}", u8::from(refusal))
 }
 
 // The first n numbers of a store.
-fn say_numbers(rt: &impl Print, store: &[u32], n: usize) -> io::Result<()> {
-    let mut i: usize = 0;
-    while i < store.len() {
-        if n <= i {
-            return Ok(());
-        }
-        say_number(rt, store[i])?;
-        i = i + 1;
+fn show_numbers(rt: &impl Print, store: &[u32], n: usize) -> io::Result<()> {
+    for number in store.iter().take(n) {
+        print!(rt; " {}", *number)?;
     }
     Ok(())
 }
@@ -35,42 +24,31 @@ fn show_path(rt: &impl Print, value: &[u8], width: AsnLength, rule: PathRule) ->
     let mut pairs = [0u32; 4];
     let mut numbers = [0u32; 4];
     match paths::parse_as_path(value, width, rule, &mut pairs, &mut numbers) {
-        PathAnswer::Path {
-            segments,
-            numbers: n,
-        } => {
-            say(rt, b"segments ", segments as u64)?;
-            rt.write_all(b" pairs")?;
-            if segments < 3 {
-                say_numbers(rt, &pairs, segments * 2)?;
-            }
-            rt.write_all(b" numbers")?;
-            say_numbers(rt, &numbers, n)?;
+        Ok(path) => {
+            print!(rt; "segments {} pairs", path.segments)?;
+            show_numbers(rt, &pairs, path.segments.saturating_mul(2))?;
+            print!(rt; " numbers")?;
+            show_numbers(rt, &numbers, path.numbers)?;
+            println!(rt;)
         }
-        PathAnswer::Refused(n) => say(rt, b"refused ", n as u64)?,
+        Err(refusal) => refused(rt, refusal),
     }
-    rt.write_all(b"\n")
 }
 
 // The counts of a path that is only counted.
 fn show_count(rt: &impl Print, value: &[u8], width: AsnLength, rule: PathRule) -> io::Result<()> {
     match paths::count_as_path(value, width, rule) {
-        PathAnswer::Path { segments, numbers } => {
-            say(rt, b"counted ", segments as u64)?;
-            say(rt, b" ", numbers as u64)?;
-        }
-        PathAnswer::Refused(n) => say(rt, b"refused ", n as u64)?,
+        Ok(path) => println!(rt; "counted {} {}", path.segments, path.numbers),
+        Err(refusal) => refused(rt, refusal),
     }
-    rt.write_all(b"\n")
 }
 
 // What a writer answered.
-fn show_written(rt: &impl Print, answer: WriteAnswer) -> io::Result<()> {
+fn show_written(rt: &impl Print, answer: Result<usize, Refusal>) -> io::Result<()> {
     match answer {
-        WriteAnswer::Bytes(n) => say(rt, b"written ", n as u64)?,
-        WriteAnswer::Refused(n) => say(rt, b"refused ", n as u64)?,
+        Ok(n) => println!(rt; "written {n}"),
+        Err(refusal) => refused(rt, refusal),
     }
-    rt.write_all(b"\n")
 }
 
 // A sequence of that count with the numbers lent, written.
@@ -92,20 +70,12 @@ fn show_sequence(
 // An AGGREGATOR that is read: its number, its identifier's four bytes as one number, and whether the width differs.
 fn show_aggregator(rt: &impl Print, value: &[u8], width: AsnLength) -> io::Result<()> {
     match asns::parse_aggregator(value, width) {
-        AggregatorAnswer::Aggregator {
-            asn,
-            identifier,
-            differs,
-        } => {
-            say(rt, b"aggregator ", asn as u64)?;
-            say(rt, b" ", identifier as u64)?;
-            if differs {
-                rt.write_all(b" differs")?;
-            }
+        Ok(it) => {
+            let differs = if it.differs { " differs" } else { "" };
+            println!(rt; "aggregator {} {}{differs}", it.asn, it.identifier)
         }
-        AggregatorAnswer::Refused(n) => say(rt, b"refused ", n as u64)?,
+        Err(refusal) => refused(rt, refusal),
     }
-    rt.write_all(b"\n")
 }
 
 // An AGGREGATOR that is written into an output of its size, and read again from there.

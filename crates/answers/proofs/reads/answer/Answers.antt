@@ -1,8 +1,0 @@
-use Rattle.answers.proofs.Lent.{lent}
-use Rattle.answers.proofs.reads.answer.Goals as goal
-
-pub slice_bounds-into_stores-end-2 : goal.slice_bounds-into_stores-end-2
-slice_bounds-into_stores-end-2 c = lent _ _ _ c.least-m.ensures
-
-pub slice_bounds-into_stores-end-4 : goal.slice_bounds-into_stores-end-4
-slice_bounds-into_stores-end-4 c = lent _ _ _ c.least-n.ensures
