@@ -11,7 +11,7 @@ use Rattle.wire.specs.Walk.{took}
 use Rattle.wire.proofs.CuttingLaws.{Decides}
 use Rattle.wire.proofs.NumberLaws.{padded_take}
 use Rattle.wire.proofs.Parts.{take_two_more}
-use Rattle.attributes.specs.Attribute.{length_size, head_size, Attribute, size_of, attribute_front, NoState, attribute_of}
+use Rattle.attributes.specs.Attribute.{length_size, head_size, Head, size_of, attribute_front, NoState, attribute_of}
 use Rattle.attributes.specs.WellFormed.{WellFormed}
 use Rattle.attributes.proofs.AttributeLaws.{Taken, attribute_taken, taken_attribute, attribute_sound}
 
@@ -37,7 +37,7 @@ module _ (flags kind : ℕ) (count value : List ℕ) (wide : length count ≡ le
       let same : attribute_front (item ++ rest) ≡ attribute_front item =
       ap (λ (l : List ℕ). attribute_front (flags ∷ kind ∷ l)) (append_assoc count value rest) ∙ front_is flags kind count (value ++ rest) wide ∙ sym (front_is flags kind count value wide) in
       let size : size_of (attribute_front (item ++ rest)) ≡ length item = ap size_of same ∙ all_of in
-      taken_attribute (item ++ rest) (omega (arith, size, length-append item rest)) ∙ ap₂ (λ (u : ℕ) (a : Attribute). took u a tt) size same
+      taken_attribute (item ++ rest) (omega (arith, size, length-append item rest)) ∙ ap₂ (λ (u : ℕ) (a : Head). took u a tt) size same
 
 item_taken : (st : NoState) (item rest : List ℕ) → WellFormed item → (st' : NoState) × (attribute_of st (item ++ rest) ≡ took (length item) (attribute_front item) st')
 item_taken tt item rest f = (
@@ -50,7 +50,7 @@ pub formed_size : (item : List ℕ) → WellFormed item → size_of (attribute_f
 formed_size item f = subst (λ (l : List ℕ). size_of (attribute_front l) ≡ length l) (sym f.parts) (all_of f.flags f.kind f.count f.value f.wide f.long)
 
 -- and what is taken is well formed
-taken_formed : (s : List ℕ) (used : ℕ) (a : Attribute) → Taken s used a → WellFormed (take used s)
+taken_formed : (s : List ℕ) (used : ℕ) (a : Head) → Taken s used a → WellFormed (take used s)
 unfolding attribute_front head_size be_at
 taken_formed s used a t =
     let f : ℕ = get_or s 0 0 in

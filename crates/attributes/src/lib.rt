@@ -110,7 +110,8 @@ fn value_of(section: &[u8], found: Result<Option<Attribute>, Refusal>) -> &[u8]
 {
     match found {
         Ok(Some(attribute)) => wire::part(section, attribute.start, attribute.length),
-        _ => wire::part(section, 0, 0),
+        Ok(None) => wire::part(section, 0, 0),
+        Err(_) => wire::part(section, 0, 0),
     }
 }
 

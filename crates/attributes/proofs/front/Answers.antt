@@ -22,11 +22,10 @@ returns-then-is_extended c =
     ∙ ap (λ (n : ℕ). whole_if (get_or s 0 0) (get_or s 1 0) (a.place + 4) n (length s - 4)) (c.u16_at.ensures ∙ be_between s 2 4 2 refl)
     ∙ long_front s a.place (sym c.is_extended.ensures ∙ c.if-is_extended.true) c.if-s-lt-LONG_HEAD.false
 
-pub overflow_cast-s : goal.overflow_cast-s
-overflow_cast-s c = omega (arith, c.type_inv.s 2)
-
 pub returns : goal.returns
 returns c =
     let a = c.args in
+    let s : List ℕ = a.s.now in
     c.whole-2.ensures
-    ∙ short_front a.s.now a.place (sym c.is_extended.ensures ∙ c.if-is_extended.false) c.if-s-lt-SHORT_HEAD.false
+    ∙ ap (λ (n : ℕ). whole_if (get_or s 0 0) (get_or s 1 0) (a.place + 3) n (length s - 3)) c.from.ensures
+    ∙ short_front s a.place (sym c.is_extended.ensures ∙ c.if-is_extended.false) c.if-s-lt-SHORT_HEAD.false
