@@ -266,9 +266,10 @@ fn count_form(s: &[u8], counts: &[u8; 256], form: Form) -> Result<Routes, Refusa
     if item.len() != n + 1 {
         return Err(Refusal::Truncated);
     }
-    hosts += usize::from(host_of(item, n, &past));
-    rows += 1;
-    Ok(Routes { rows, hosts })
+    Ok(Routes {
+        rows: rows + 1,
+        hosts: hosts + usize::from(host_of(item, n, &past)),
+    })
 }
 
 // How many rows a list has by the guess. It carries the bytes from the octets of the item before on and how many these are, for the same reason.
@@ -334,38 +335,26 @@ pub fn count_nlri_list(s: &[u8], afi: Afi, mode: AddPath) -> Result<Routes, Refu
 pub fn is_strange(s: &[u8]) -> bool
     ensures { result ≡ strange s.now }
 {
-    if s.len() != 1 {
-        return false;
-    }
-    s[0] != 0
+    s.len() == 1 && s[0] != 0
 }
 
 // The rows of an answer, those with a bit set past their length, and its refusal number: 0 where there is none.
 pub fn rows_in(a: Result<Routes, Refusal>) -> usize
     ensures { result ≡ rows_in a }
 {
-    match a {
-        Ok(routes) => routes.rows,
-        Err(_) => 0,
-    }
+    a.map_or(0, |routes| routes.rows)
 }
 
 pub fn hosts_in(a: Result<Routes, Refusal>) -> usize
     ensures { result ≡ hosts_in a }
 {
-    match a {
-        Ok(routes) => routes.hosts,
-        Err(_) => 0,
-    }
+    a.map_or(0, |routes| routes.hosts)
 }
 
 pub fn verdict_in(a: Result<Routes, Refusal>) -> u8
     ensures { result ≡ verdict_in a }
 {
-    match a {
-        Ok(_) => 0,
-        Err(refusal) => u8::from(refusal),
-    }
+    a.err().map_or(0, u8::from)
 }
 
 // How many rows a section of an UPDATE has by a table that the caller lends, as count_list_by.

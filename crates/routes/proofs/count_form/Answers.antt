@@ -40,4 +40,4 @@ returns-then-item-n c =
 pub returns : goal.returns
 returns c =
     pending_done c.loop-n.invariant.pending c.requires c.args.form c.id_size-k.ensures (omega (arith, c.if-item-n.false)) _
-    (c.from-hosts-2.ensures ∙ flag_from _ ∙ ap flag c.host_of-2.ensures)
+    (c.from.ensures ∙ flag_from _ ∙ ap flag c.host_of-2.ensures)
