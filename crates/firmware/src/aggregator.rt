@@ -32,6 +32,7 @@ pub fn doorbramble_parse_aggregator(value: &[u8], four_bytes: u8, words: &mut [u
 }
 
 // An AS number and an identifier as an AGGREGATOR.
+#[tactic(auto, using(crate::proofs::AggregatorBounds::write_aggregator_narrow))]
 pub fn doorbramble_encode_aggregator(
     asn: u32,
     identifier: u32,

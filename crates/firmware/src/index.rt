@@ -20,6 +20,7 @@ use words::{family_of, form_of, word};
 const ROW_WORDS: usize = 6;
 
 // How many places the index of a list has.
+#[tactic(auto, using(crate::proofs::IndexBounds::count_index_narrow))]
 pub fn doorbramble_count_index(s: &[u8], ipv6: u8, add_path: u8) -> u64
     ensures { result ≡ word_of (in_fields (count_meaning (count_index (up_to (max_of (family_of ipv6))) s.now (form_of add_path)))) }
 {
@@ -27,6 +28,7 @@ pub fn doorbramble_count_index(s: &[u8], ipv6: u8, add_path: u8) -> u64
 }
 
 // The index of a list, into a lent store.
+#[tactic(auto, using(crate::proofs::IndexBounds::build_index_narrow))]
 pub fn doorbramble_build_index(s: &[u8], ipv6: u8, add_path: u8, places: &mut [u16]) -> u64
     ensures answer { result ≡ word_of (in_fields (count_meaning (build_index (up_to (max_of (family_of ipv6))) s.now (form_of add_path) (length places.old)))) }
     ensures places { places.new ≡ index_after (up_to (max_of (family_of ipv6))) s.now (form_of add_path) places.old }

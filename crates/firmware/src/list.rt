@@ -52,6 +52,7 @@ pub fn doorbramble_parse_nlri_list(s: &[u8], ipv6: u8, settings: u8, store: &mut
 }
 
 // Rows as a list of routes.
+#[tactic(auto, using(crate::proofs::ListBounds::write_list_narrow))]
 pub fn doorbramble_encode_nlri_prefixes(rows: &[u32], ipv6: u8, add_path: u8, out: &mut [u8]) -> u64
     ensures answer { result ≡ word_of (in_fields (count_meaning (RouteWriter.write_answer rows.now (max_of (family_of ipv6)) (form_of add_path) (length out.old)))) }
     ensures out { out.new ≡ RouteWriter.out_after rows.now (max_of (family_of ipv6)) (form_of add_path) out.old }

@@ -61,6 +61,7 @@ pub fn doorbramble_parse_bgp_message_by_edition(s: &[u8], edition: u8) -> u64
 }
 
 // A type and a body as a message.
+#[tactic(auto, using(crate::proofs::MessageBounds::write_message_narrow))]
 pub fn doorbramble_encode_bgp_message(kind: u8, body: &[u8], out: &mut [u8]) -> u64
     ensures answer { result ≡ word_of (in_fields (count_meaning (Messages.write_message kind body.now (length out.old)))) }
     ensures out { out.new ≡ Messages.message_after kind body.now out.old }

@@ -49,6 +49,7 @@ pub fn doorbramble_parse_mp_reach_nlri(value: &[u8], settings: u8, store: &mut [
 }
 
 // A next hop and rows as MP_REACH_NLRI.
+#[tactic(auto, using(crate::proofs::MpBounds::write_reach_narrow))]
 pub fn doorbramble_encode_mp_reach_nlri(
     next_hop: &[u8],
     rows: &[u32],
@@ -77,6 +78,7 @@ pub fn doorbramble_parse_mp_unreach_nlri(value: &[u8], settings: u8, store: &mut
 }
 
 // Rows as MP_UNREACH_NLRI.
+#[tactic(auto, using(crate::proofs::MpBounds::write_unreach_narrow))]
 pub fn doorbramble_encode_mp_unreach_nlri(rows: &[u32], add_path: u8, out: &mut [u8]) -> u64
     ensures answer { result ≡ word_of (in_fields (count_meaning (write_unreach rows.now (form_of add_path) (length out.old)))) }
     ensures out { out.new ≡ filled (count_meaning (write_unreach rows.now (form_of add_path) (length out.old))) (unreach_bytes (route_bytes rows.now (form_of add_path))) out.old }

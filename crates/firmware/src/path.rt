@@ -106,6 +106,7 @@ pub fn doorbramble_parse_as_path_strict(
 }
 
 // Pairs of type and count, and numbers back to back, as an AS_PATH.
+#[tactic(auto, using(crate::proofs::PathBounds::write_path_narrow))]
 fn encode_by(pairs: &[u32], numbers: &[u32], how: u16, out: &mut [u8]) -> u64
     ensures answer { result ≡ word_of (in_fields (count_meaning (PathWriter.encode_answer (rule_of (rule_in how)) (width_of (asn_length_of (how % 256))) pairs.now numbers.now (length out.old)))) }
     ensures out { out.new ≡ PathWriter.encode_left (rule_of (rule_in how)) (width_of (asn_length_of (how % 256))) pairs.now numbers.now out.old }

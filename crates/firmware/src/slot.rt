@@ -33,6 +33,7 @@ fn slot_word(a: SlotAnswer) -> u64
 }
 
 // What stands at the front of the input. `last` says that no bytes follow those in hand.
+#[tactic(auto, using(crate::proofs::SlotBounds::slot_narrow))]
 pub fn doorbramble_next_slot(s: &[u8], last: u8) -> u64
     ensures { result ≡ word_of (slot_fields (slot_of s.now (is_yes last))) }
 {

@@ -114,6 +114,7 @@ pub fn doorbramble_parse_bgp_update_message(
 }
 
 // Rows to withdraw, attribute bytes and rows to announce as an UPDATE body.
+#[tactic(auto, using(crate::proofs::UpdateBounds::write_update_narrow))]
 pub fn doorbramble_encode_bgp_update_message(
     withdrawn: &[u32],
     attributes: &[u8],
