@@ -3,26 +3,26 @@
 use Prim.Native.Nat.{ℕ, zero, suc, ◌+◌, ◌/◌, ◌%◌, ◌≤◌, ◌<◌}
 use mathlib.Core.Path.{◌≡◌, refl, sym, ap, ◌∙◌}
 use mathlib.Core.List.{List, [], ◌∷◌}
-use mathlib.Core.Bool.{Bool, true, false, ◌&&◌, not}
+use mathlib.Core.Bool.{Bool, true, false, ◌&&◌}
 use native.Mathlib.Nat.{not-suc-le-zero, lt_of_not-le}
 use native.Mathlib.Decide.{dec_le}
 use native.Mathlib.Omega.{arith}
-use borrow.Author.Tests.{leb-true, le-leb, lt-leb, lt-ltb, le-ltb}
+use borrow.Author.Tests.{le-leb, lt-leb, lt-ltb, le-ltb}
 use lib.ListN.{length, get_or, drop, length-drop, drop_of_length-le}
 use lib.Seq.{drop-drop}
-use lib.Dec.{leb, ltb, eqb}
-use Rattle.wire.specs.Refusal.{too_long, not_an_index, no_such_route, list_limit}
+use lib.Dec.{ltb, eqb}
+use Rattle.std.specs.Prelude.{Result, Ok, Err}
+use Rattle.wire.specs.Refusal.{list_limit}
+use Rattle.wire.specs.declared.refusal.Refusal.{Refusal}
+use Rattle.wire.specs.declared.refusal.Refusal.TheVariants.{TooLong, NotAnIndex, NoSuchRoute}
 use Rattle.wire.proofs.ChoiceLaws.{pick_leb}
 use Rattle.families.specs.declared.Form.{Form}
 use Rattle.routes.specs.Prefix.{with_host}
 use Rattle.routes.specs.List.{Reader}
-use Rattle.routes.specs.declared.PrefixAnswer.{PrefixAnswer}
-use Rattle.routes.specs.declared.PrefixAnswer.TheVariants as P
-use Rattle.routes.specs.declared.RouteAnswer.{RouteAnswer}
-use Rattle.route_index.specs.Index.{rising, is_index, refused_route, past_item, unless_none, route_from, route_by}
-use Rattle.route_index.specs.Private.{onward, skipped, index_fault}
-use Rattle.route_index.specs.declared.PlaceAnswer.{PlaceAnswer}
-use Rattle.route_index.specs.declared.PlaceAnswer.TheVariants.{At, Refused}
+use Rattle.routes.specs.declared.Prefix.{Prefix}
+use Rattle.routes.specs.declared.Route.{Route}
+use Rattle.route_index.specs.Index.{rising, is_index, past_item, unless_none, route_from, route_by}
+use Rattle.route_index.specs.Private.{skipped}
 
 -- ---- an index, judged place by place
 
@@ -103,33 +103,27 @@ module _ (end : ℕ) (index : List ℕ) (rises : Bool) (i : ℕ) (h : Judging en
 
 -- ---- the route at a place
 
-pub unless_some : (t : List ℕ) (a : RouteAnswer) → 0 < length t → unless_none t a ≡ a
+pub unless_some : (t : List ℕ) (a : Result Route Refusal) → 0 < length t → unless_none t a ≡ a
 unless_some [] a some = absurd (not-suc-le-zero some)
 unless_some (b ∷ t) a some = refl
 
--- a fault of an index is one of the two, and none where neither holds
-pub fault_none : (other lacking : Bool) → index_fault other lacking ≡ 0 → (other ≡ false) × (lacking ≡ false)
-fault_none true lacking e = absurd (omega (arith, e))
-fault_none false true e = absurd (omega (arith, e))
-fault_none false false e = (refl, refl)
-
 module _ (read : Reader) (form : Form) (s : List ℕ) where
   -- what is answered of a place that was reached
-  abbrev pub found : PlaceAnswer → RouteAnswer
-  found (At at) = unless_none (drop at s) (with_host form (drop at s) (read (drop at s) form))
-  found (Refused why) = refused_route why
+  abbrev pub found : Result ℕ Refusal → Result Route Refusal
+  found (Ok at) = unless_none (drop at s) (with_host form (drop at s) (read (drop at s) form))
+  found (Err why) = Err why
 
   past_found : (n at : ℕ) → ((used : ℕ) → route_from read form n (drop (at + used) s) ≡ found (skipped read form s n (at + used)))
-      → (a : PrefixAnswer) → past_item a (λ used. route_from read form n (drop used (drop at s))) ≡ found (onward a (λ used. skipped read form s n (at + used)))
-  past_found n at again (P.Prefix used row) = ap (route_from read form n) (drop-drop used at s) ∙ again used
-  past_found n at again (P.Refused why) = refl
+      → (a : Result Prefix Refusal) → past_item a (λ used. route_from read form n (drop used (drop at s))) ≡ found (past_item a (λ used. skipped read form s n (at + used)))
+  past_found n at again (Ok item) = ap (route_from read form n) (drop-drop item.used at s) ∙ again item.used
+  past_found n at again (Err why) = refl
 
   -- the n-th route from a place on is what passing over n items leads to
   pub route_found : (n at : ℕ) → route_from read form n (drop at s) ≡ found (skipped read form s n at)
   unfolding route_from skipped
   route_found zero at = refl
   route_found (suc n) at =
-      pick_leb (λ (a : PlaceAnswer). route_from read form (suc n) (drop at s) ≡ found a) (length s) at _ _
+      pick_leb (λ (a : Result ℕ Refusal). route_from read form (suc n) (drop at s) ≡ found a) (length s) at _ _
       (λ le. let none : drop at s ≡ [] = drop_of_length-le s le in
       ap (λ (t : List ℕ). unless_none t (past_item (read t form) (λ used. route_from read form n (drop used t)))) none
       ∙ ap (λ (t : List ℕ). unless_none t (with_host form t (read t form))) (sym none))
@@ -137,36 +131,32 @@ module _ (read : Reader) (form : Form) (s : List ℕ) where
       ∙ past_found n at (λ used. route_found n (at + used)) (read (drop at s) form))
 
   -- where the place lies before the end, or not
-  pub found_none : (at : ℕ) → length s ≤ at → refused_route no_such_route ≡ found (At at)
+  pub found_none : (at : ℕ) → length s ≤ at → Err NoSuchRoute ≡ found (Ok at)
   found_none at le = ap (λ (t : List ℕ). unless_none t (with_host form t (read t form))) (sym (drop_of_length-le s le))
 
-  pub found_some : (at : ℕ) → at < length s → with_host form (drop at s) (read (drop at s) form) ≡ found (At at)
+  pub found_some : (at : ℕ) → at < length s → with_host form (drop at s) (read (drop at s) form) ≡ found (Ok at)
   found_some at lt = sym (unless_some (drop at s) (with_host form (drop at s) (read (drop at s) form)) (omega (arith, length-drop at s)))
 
   -- ---- by an index
 
   module _ (index : List ℕ) (n : ℕ) where
-    pub ask_long : list_limit < length s → refused_route too_long ≡ route_by read form s index n
+    pub ask_long : list_limit < length s → Err TooLong ≡ route_by read form s index n
     unfolding route_by
     ask_long lt = rw (lt-leb (length s) list_limit lt)
 
     module _ (short : length s ≤ list_limit) where
-      pub ask_other : is_index (length s) index ≡ false → refused_route not_an_index ≡ route_by read form s index n
+      pub ask_other : is_index (length s) index ≡ false → Err NotAnIndex ≡ route_by read form s index n
       unfolding route_by
       ask_other other = rw (le-leb (length s) list_limit short, other)
 
       module _ (good : is_index (length s) index ≡ true) where
-        pub ask_lacking : length index ≤ n / 16 → refused_route no_such_route ≡ route_by read form s index n
+        pub ask_lacking : length index ≤ n / 16 → Err NoSuchRoute ≡ route_by read form s index n
         unfolding route_by
         ask_lacking le = rw (le-leb (length s) list_limit short, good, le-ltb (n / 16) (length index) le)
 
-        pub ask_found : n / 16 < length index → (a : PlaceAnswer) → skipped read form s (n % 16) (get_or index (n / 16) 0) ≡ a → found a ≡ route_by read form s index n
+        -- what passing over the rest from that start leads to
+        pub ask_found : (start : ℕ) → n / 16 < length index → start ≡ get_or index (n / 16) 0 → (a : Result ℕ Refusal) → a ≡ skipped read form s (n % 16) start → found a ≡ route_by read form s index n
         unfolding route_by
-        ask_found lt a e = rw (le-leb (length s) list_limit short, good, lt-ltb (n / 16) (length index) lt) (ap found (sym e) ∙ sym (route_found (n % 16) (get_or index (n / 16) 0)))
-
-      -- the first fault, where there is one
-      pub ask_fault : (taken lacking : Bool) → taken ≡ is_index (length s) index → lacking ≡ leb (length index) (n / 16) → (why : ℕ) → why ≡ index_fault (not taken) lacking → (why ≡ 0 → ⊥)
-          → refused_route why ≡ route_by read form s index n
-      ask_fault false lacking o l why e some = ap refused_route e ∙ ask_other (sym o)
-      ask_fault true true o l why e some = ap refused_route e ∙ ask_lacking (sym o) (leb-true (length index) (n / 16) (sym l))
-      ask_fault true false o l why e some = absurd (some e)
+        ask_found start lt is a e =
+            rw (le-leb (length s) list_limit short, good, lt-ltb (n / 16) (length index) lt)
+            (ap found (e ∙ ap (skipped read form s (n % 16)) is) ∙ sym (route_found (n % 16) (get_or index (n / 16) 0)))

@@ -1,32 +1,33 @@
 -- Laws of passing over items that are known to be there: from a list that was counted, sixteen for each place but the last.
 -- Assumes nothing.
 use Prim.Native.Nat.{ℕ, suc, ◌+◌, ◌-◌, ◌*◌, ◌≤◌, ◌<◌}
-use mathlib.Core.Path.{◌≡◌, refl, sym, ap, ◌∙◌}
-use mathlib.Core.List.{List, [], ◌∷◌}
+use mathlib.Core.Path.{◌≡◌, refl, sym, ap, ap₂, ◌∙◌}
+use mathlib.Core.List.{List, [], ◌∷◌, ◌++◌, append_assoc, append-nil}
 use native.Mathlib.Nat.{lt_of_not-le}
 use native.Mathlib.Decide.{dec_le}
 use native.Mathlib.Omega.{arith}
-use lib.ListN.{length, get_or, set, drop, length-drop, drop_of_length-le, length-set}
-use lib.Seq.{get_or-drop}
-use Rattle.wire.specs.Store.{laid}
-use Rattle.wire.proofs.StoreLaws.{Laying, laying_room, laying_set, laying_done}
+use lib.ListN.{length, get_or, set, take, drop, length-append, drop_of_length-le, length-set}
+use lib.Seq.{get_or-drop, take_all, length-take-le}
+use Rattle.std.proofs.lemmas.List.{take_more_set}
+use Rattle.std.specs.Prelude.{Result, Ok, Err}
+use Rattle.wire.specs.Verdict.{fine}
 use Rattle.wire.specs.Walk.{Reading, starts}
-use Rattle.wire.proofs.WalkLaws.{all_stop, pieces_nil, starts_length}
+use Rattle.wire.specs.declared.refusal.Refusal.{Refusal}
+use Rattle.wire.proofs.AnswerLaws.{refused_not_fine}
+use Rattle.wire.proofs.WalkLaws.{pieces_nil, starts_length}
 use Rattle.families.specs.Family.{id_size}
 use Rattle.families.specs.Octets.{entry}
 use Rattle.families.specs.declared.Form.{Form}
 use Rattle.routes.specs.List.{Reader}
 use Rattle.routes.specs.ByTable.{by_table}
 use Rattle.routes.specs.declared.Row.{Row}
-use Rattle.routes.specs.declared.PrefixAnswer.{PrefixAnswer}
-use Rattle.routes.specs.declared.PrefixAnswer.TheVariants as P
-use Rattle.routes.proofs.ListLaws.{Fair}
+use Rattle.routes.specs.declared.Prefix.{Prefix}
+use Rattle.routes.proofs.ListLaws.{Fair, list_fixed}
 use Rattle.routes.proofs.TableLaws.{table_size, fair_table}
 use Rattle.route_index.specs.Index.{sixteenths, index_by}
 use Rattle.route_index.specs.Private.{skipped, Passes, Remain, Fitting}
-use Rattle.route_index.specs.declared.PlaceAnswer.TheVariants.{At}
 use Rattle.route_index.proofs.SkipLaws.{skip_took}
-use Rattle.route_index.proofs.IndexLaws.{sixteenths_length, items_from, places_from, verdict_from, step, step_stops, index_is, item_took, block_took, Placing, placing_start, placing_step}
+use Rattle.route_index.proofs.IndexLaws.{sixteenths_length, items_from, places_from, verdict_from, step, index_is, item_took, item_stops, block_took}
 
 -- ---- one item of those that remain
 
@@ -44,22 +45,19 @@ module _ (read : Reader) (form : Form) (s : List ℕ) (fair : Fair read) (n at :
   abbrev On : ℕ → Type 0
   On used = (at + used ≤ length s) × (skipped read form s n at ≡ skipped read form s (n - 1) (at + used)) × Remain read form s (n - 1) (at + used)
 
-  item_on : (a : PrefixAnswer) → read (drop at s) form ≡ a → (used : ℕ) × (row : Row) × (read (drop at s) form ≡ P.Prefix used row) × On used
-  item_on (P.Prefix used row) e =
-      let t = item_took read form s fair at used row inside e in
-      let fewer : length (items_from read form (drop at s)) ≡ suc (length (items_from read form (drop (at + used) s))) =
-      sym (starts_length at _) ∙ ap length t.3 ∙ ap suc (starts_length (at + used) _) in
+  item_on : (a : Result Prefix Refusal) → read (drop at s) form ≡ a → (item : Prefix) × (read (drop at s) form ≡ Ok item) × On item.used
+  item_on (Ok item) e =
+      let t = item_took read form s fair at item inside e in
+      let next : ℕ = at + item.used in
+      let fewer : length (items_from read form (drop at s)) ≡ suc (length (items_from read form (drop next s))) =
+      sym (starts_length at _) ∙ ap length t.3 ∙ ap suc (starts_length next _) in
       let m : n ≡ suc (n - 1) = omega (arith, some) in
-      let on : skipped read form s n at ≡ skipped read form s (n - 1) (at + used) =
-      ap (λ (i : ℕ). skipped read form s i at) m ∙ skip_took read form s (n - 1) at inside used row e in
-      (used, row, e, (t.1, on, record { good = sym t.2 ∙ h.good; many = omega (arith, fewer, h.many) }))
-  item_on (P.Refused why) e =
-      let named = fair.names (drop at s) form why e in
-      let pos : 0 < length (drop at s) = omega (arith, inside, length-drop at s) in
-      let verdict : verdict_from read form s at ≡ why = ap (λ (r : Reading Row). r.verdict) (all_stop (step read form) form (drop at s) why pos (step_stops read form form (drop at s) why e)) in
-      absurd (omega (arith, named.0, verdict, h.good))
+      let on : skipped read form s n at ≡ skipped read form s (n - 1) next =
+      ap (λ (i : ℕ). skipped read form s i at) m ∙ skip_took read form s (n - 1) at inside item e in
+      (item, e, (t.1, on, record { good = sym t.2 ∙ h.good; many = omega (arith, fewer, h.many) }))
+  item_on (Err why) e = absurd (refused_not_fine why (sym (item_stops read form s fair at why inside e) ∙ h.good))
 
-  pub known_item : (used : ℕ) × (row : Row) × (read (drop at s) form ≡ P.Prefix used row) × On used
+  pub known_item : (item : Prefix) × (read (drop at s) form ≡ Ok item) × On item.used
   known_item = item_on (read (drop at s) form) refl
 
 -- by a table, which says how long it is
@@ -70,9 +68,9 @@ module _ (counts : List ℕ) (form : Form) (s : List ℕ) (n at : ℕ) (some : 0
   pub known_turn : (at + size_at ≤ length s) × (skipped (by_table counts) form s n at ≡ skipped (by_table counts) form s (n - 1) (at + size_at)) × Remain (by_table counts) form s (n - 1) (at + size_at)
   known_turn =
       let k = known_item (by_table counts) form s (fair_table counts) n at some h in
-      let size : k.0 ≡ size_at =
-      table_size counts (drop at s) form k.0 k.1 k.2 ∙ ap (λ (b : ℕ). id_size form + 1 + entry counts b) (get_or-drop at s (id_size form) 0) in
-      rw (← size) k.3
+      let size : k.0.used ≡ size_at =
+      table_size counts (drop at s) form k.0.used k.0.row k.1 ∙ ap (λ (b : ℕ). id_size form + 1 + entry counts b) (get_or-drop at s (id_size form) 0) in
+      rw (← size) k.2
 
 -- ---- items of one size
 
@@ -96,11 +94,16 @@ module _ (counts : List ℕ) (form : Form) (s : List ℕ) (k n most from : ℕ) 
 
 -- ---- the loop that puts
 
-nothing : (l : List ℕ) → length l ≡ 0 → l ≡ []
+nothing : {A : Type 0} (l : List A) → length l ≡ 0 → l ≡ []
 nothing [] e = refl
 nothing (x ∷ l) e = absurd (omega (arith, e))
 
-module _ (read : Reader) (form : Form) (s : List ℕ) (at : ℕ) (good : verdict_from read form s at ≡ 0) where
+abbrev tail : List ℕ → List ℕ
+tail [] = []
+tail (p ∷ ps) = ps
+
+-- where there are places still to come, and all is good from `at` on
+module _ (read : Reader) (form : Form) (s : List ℕ) (fair : Fair read) (at : ℕ) (good : verdict_from read form s at ≡ fine) where
   -- of two places, the first has sixteen items after it
   pub many_items : (n : ℕ) → n + 15 ≤ 16 * length (places_from read form s at) → Remain read form s n at
   many_items n h = record {
@@ -109,64 +112,53 @@ module _ (read : Reader) (form : Form) (s : List ℕ) (at : ℕ) (good : verdict
   }
 
   -- the first place is where they start
-  pub first_place : Fair read → 0 < length (places_from read form s at) → (rest : List ℕ) × (places_from read form s at ≡ at ∷ rest) × (at < length s)
+  pub first_place : 0 < length (places_from read form s at) → (left : List ℕ) × (places_from read form s at ≡ at ∷ left) × (at < length s)
   unfolding sixteenths
-  first_place fair some =
+  first_place some =
       let h = many_items 1 (omega (arith, some)) in
       let k = known_item read form s fair 1 at (omega arith) h in
       let lt = inside read form s fair 1 at (omega arith) h in
-      (_, ap (sixteenths 0) (item_took read form s fair at k.0 k.1 lt k.2).3, lt)
+      (_, ap (sixteenths 0) (item_took read form s fair at k.0 lt k.1).3, lt)
 
--- at its head: while there are places to put, as before with as many to come; and else all stand there
-pub record Putting (read : Reader) (form : Form) (s d₀ : List ℕ) (n at i : ℕ) (d : List ℕ) : Type 0 where
-  pub going : i < n → Placing read form s d₀ at i d × (length (places_from read form s at) ≡ n - i)
-  pub done : n ≤ i → d ≡ laid d₀ 0 (index_by read s form)
-  pub long : length d ≡ length d₀
+-- at its head: `at` is the last place that was put, 0 the first, and the places after 0 are j of d and those after `at`
+pub record Putting (read : Reader) (form : Form) (s d : List ℕ) (at j : ℕ) : Type 0 where
+  pub left : List ℕ
+  pub here : places_from read form s at ≡ at ∷ left
+  pub good : verdict_from read form s at ≡ fine
+  pub long : suc (length d) ≡ length (index_by read s form)
+  pub so_far : 0 ∷ (take j d ++ left) ≡ index_by read s form
 
-module _ (read : Reader) (form : Form) (s d₀ : List ℕ) (fits : Fitting read s form d₀) (n : ℕ) (count : n ≡ length (index_by read s form)) where
-  room : 0 + length (places_from read form s 0) ≤ length d₀
-  room = omega (arith, fits.room, ap length (index_is read form s))
+module _ {read : Reader} {form : Form} {s : List ℕ} where
+  pub putting_none : {store : List ℕ} → Fitting read s form store → length store ≡ 0 → store ≡ index_by read s form
+  putting_none {store} fits none = nothing store none ∙ sym (nothing (index_by read s form) (omega (arith, fits.room, none)))
 
-  total : length (places_from read form s 0) ≡ n
-  total = omega (arith, count, ap length (index_is read form s))
+  pub putting_start : Fair read → {store d : List ℕ} → Fitting read s form store → length d + 1 ≡ length store → Putting read form s d 0 0
+  putting_start fair fits long =
+      let good : verdict_from read form s 0 ≡ fine = ap (λ (r : Reading Row). r.verdict) (sym (list_fixed read s form)) ∙ fits.good in
+      let first = first_place read form s fair 0 good (omega (arith, ap length (index_is read form s), fits.room, long)) in
+      record { left = first.0; here = first.1; good = good; long = omega (arith, fits.room, long); so_far = sym first.1 ∙ sym (index_is read form s) }
 
-  -- all that were to come are put
-  all_put : (at i : ℕ) (d left : List ℕ) → Laying d₀ 0 (places_from read form s 0) d i left → length left ≡ 0 → d ≡ laid d₀ 0 (index_by read s form)
-  all_put at i d left h none = laying_done d₀ 0 (places_from read form s 0) room d i left h (nothing left none) ∙ ap (laid d₀ 0) (sym (index_is read form s))
+  module _ {d : List ℕ} {at j : ℕ} (fair : Fair read) (h : Putting read form s d at j) where
+    still : j ≤ length d → length h.left ≡ length d - j
+    still le = omega (arith, h.long, ap length h.so_far, length-append (take j d) h.left, length-take-le j d le)
 
-  pub putting_start : Putting read form s d₀ n 0 0 d₀
-  putting_start =
-      let h = placing_start read form s d₀ fits in
-      record { going = λ _. (h, omega (arith, total)); done = λ none. all_put 0 0 d₀ _ h.laying (omega (arith, none, total)); long = refl }
+    pub putting_done : length d ≡ j → 0 ∷ d ≡ index_by read s form
+    putting_done e =
+        let none : h.left ≡ [] = nothing h.left (omega (arith, still (omega (arith, e)), e)) in
+        ap (λ (l : List ℕ). 0 ∷ l) (sym (append-nil d) ∙ ap₂ (λ (l r : List ℕ). l ++ r) (sym (take_all j d (omega (arith, e)))) (sym none)) ∙ h.so_far
 
-  module _ (fair : Fair read) (at i : ℕ) (d : List ℕ) (h : Putting read form s d₀ n at i d) (some : i < n) where
-    placing : Placing read form s d₀ at i d
-    placing = (h.going some).0
+    module _ (lt : j < length d) where
+      pub putting_more : Remain read form s 16 at
+      putting_more = many_items read form s fair at h.good 16 (omega (arith, ap length h.here, still (omega (arith, lt)), lt))
 
-    left : length (places_from read form s at) ≡ n - i
-    left = (h.going some).1
-
-    here : (rest : List ℕ) × (places_from read form s at ≡ at ∷ rest) × (at < length s)
-    here = first_place read form s at placing.good fair (omega (arith, left, some))
-
-    pub putting_here : (i < length d) × (at < length s) × (i ≤ at)
-    putting_here =
-        let fit = laying_room d₀ 0 (places_from read form s 0) room d i (places_from read form s at) placing.laying in
-        (omega (arith, fit, left, some), here.2, placing.few)
-
-    set_long : length (set d i at) ≡ length d₀
-    set_long = length-set d i at ∙ h.long
-
-    pub putting_last : n ≤ i + 1 → Putting read form s d₀ n at (i + 1) (set d i at)
-    putting_last last =
-        let put = laying_set d₀ 0 (places_from read form s 0) room d i (places_from read form s at) placing.laying at here.0 here.1 in
-        record { going = λ more. absurd (omega (arith, last, more)); done = λ _. all_put at (i + 1) (set d i at) here.0 put (omega (arith, ap length here.1, left, last, some)); long = set_long }
-
-    pub putting_more : i + 1 < n → Remain read form s 16 at
-    putting_more more = many_items read form s at placing.good 16 (omega (arith, left, more))
-
-    pub putting_next : i + 1 < n → (next : ℕ) → At next ≡ skipped read form s 16 at → Putting read form s d₀ n next (i + 1) (set d i at)
-    putting_next more next e =
-        let b = block_took read form s fair at next here.2 (sym e) in
-        let on = placing_step read form s d₀ fits fair at i d placing next here.2 (sym e) in
-        record { going = λ _. (on.2, omega (arith, ap length b.3, left, more)); done = λ none. absurd (omega (arith, none, more)); long = set_long }
+      pub putting_next : {next : ℕ} → Ok next ≡ skipped read form s 16 at → (next < length s) × Putting read form s (set d j next) next (j + 1)
+      putting_next {next} e =
+          let b = block_took read form s fair at next (first_place read form s fair at h.good (omega (arith, ap length h.here))).2 (sym e) in
+          let rest : h.left ≡ places_from read form s next = ap tail (sym h.here ∙ b.3) in
+          let good : verdict_from read form s next ≡ fine = sym b.2 ∙ h.good in
+          let first = first_place read form s fair next good (omega (arith, ap length rest, still (omega (arith, lt)), lt)) in
+          let put : take (j + 1) (set d j next) ++ first.0 ≡ take j d ++ h.left =
+          ap (λ (l : List ℕ). l ++ first.0) (take_more_set d j next lt) ∙ append_assoc (take j d) (next ∷ []) first.0 ∙ ap (λ (l : List ℕ). take j d ++ l) (sym (rest ∙ first.1)) in (
+            first.2,
+            record { left = first.0; here = first.1; good = good; long = ap suc (length-set d j next) ∙ h.long; so_far = ap (λ (l : List ℕ). 0 ∷ l) put ∙ h.so_far },
+          )

@@ -3,37 +3,36 @@
 use Prim.Native.Nat.{ℕ, zero, suc, ◌+◌, ◌*◌, ◌/◌, ◌%◌, ◌≤◌, ◌<◌}
 use mathlib.Core.Path.{◌≡◌, refl, sym, ap, ap₂, ◌∙◌}
 use mathlib.Core.List.{List, [], ◌∷◌, map}
-use mathlib.Core.Bool.{Bool, true}
+use mathlib.Core.Bool.{true}
 use native.Mathlib.Nat.{lt_of_not-le}
 use native.Mathlib.Decide.{dec_le}
 use native.Mathlib.Omega.{arith}
 use borrow.Author.Tests.{le-leb, lt-ltb, le-ltb}
 use lib.ListN.{length, get_or, take, drop, length-drop, length-map, get_or-eq_default, get_or-map}
 use lib.Seq.{get_or-drop, length-take-le}
-use Rattle.wire.specs.Answer.{filled, either}
-use Rattle.wire.proofs.AnswerLaws.{either_first}
+use Rattle.std.specs.Prelude.{Result, Ok, Err}
+use Rattle.wire.specs.Answer.{filled, count_meaning}
+use Rattle.wire.specs.Verdict.{Verdict, fine}
+use Rattle.wire.specs.declared.refusal.Refusal.{Refusal}
+use Rattle.wire.specs.declared.refusal.Refusal.TheVariants.{NoSuchRoute}
 use Rattle.wire.proofs.ChoiceLaws.{pick_leb}
-use Rattle.wire.specs.Refusal.{no_such_route, list_limit}
+use Rattle.wire.specs.Refusal.{list_limit}
 use Rattle.wire.proofs.StoreLaws.{take_laid}
 use Rattle.wire.specs.Walk.{Step, took, stop, Reading, noted, notes, read_all, pieces, starts, flat}
 use Rattle.wire.proofs.WalkLaws.{Sound, all_ind, all_blind, noted_sound, noted_alike, pieces_nil, pieces_stop, pieces_took, starts_length, rest_read}
 use Rattle.families.specs.declared.Form.{Form}
-use Rattle.routes.specs.List.{Reader, fixed, step_by, list_by}
-use Rattle.routes.specs.Prefix.{item_row, words, host_bits, with_host}
+use Rattle.routes.specs.List.{Reader, as_step, fixed, step_by, list_by}
+use Rattle.routes.specs.Prefix.{prefix_with, item_row, words, host_bits, with_host}
 use Rattle.routes.specs.Promises.{count_answer}
 use Rattle.routes.specs.declared.Row.{Row}
-use Rattle.routes.specs.declared.PrefixAnswer.{PrefixAnswer}
-use Rattle.routes.specs.declared.PrefixAnswer.TheVariants as P
-use Rattle.routes.specs.declared.RouteAnswer.{RouteAnswer}
-use Rattle.routes.specs.declared.ListAnswer.{ListAnswer}
-use Rattle.routes.specs.declared.ListAnswer.TheVariants as L
+use Rattle.routes.specs.declared.Prefix.{Prefix}
+use Rattle.routes.specs.declared.Route.{Route}
+use Rattle.routes.proofs.PrefixLaws.{given_not_refused}
 use Rattle.routes.proofs.ListLaws.{Fair, fixed_step, list_fixed, sound_by, count_rows}
-use Rattle.route_index.specs.Index.{sixteenths, items_by, index_by, rising, is_index, refused_route, past_item, route_from, item_route, route_by}
+use Rattle.route_index.specs.Index.{sixteenths, items_by, index_by, rising, is_index, past_item, route_from, item_route, no_route, route_by}
 use Rattle.route_index.proofs.AskLaws.{unless_some}
 use Rattle.route_index.proofs.IndexLaws.{sixteenths_length, items_from, items_fixed, index_is, step_took, step_stops, count_fits}
-use Rattle.route_index.specs.Promises.{index_meaning, places_for, count_index, room_for, build_index, index_after}
-use Rattle.route_index.specs.declared.IndexAnswer.{IndexAnswer}
-use Rattle.route_index.specs.declared.IndexAnswer.TheVariants as I
+use Rattle.route_index.specs.Promises.{places_for, count_index, room_for, build_index, index_after}
 
 -- ---- every sixteenth of a list
 
@@ -56,18 +55,19 @@ module _ (read : Reader) (fair : Fair read) (form : Form) where
   sound = sound_by read fair (fixed form)
 
   -- how an item is read, from a step
-  step_read : (st : Form) (t : List ℕ) (a : PrefixAnswer) → read t form ≡ a → (x : Step Form Row) → step st t ≡ x
-      → ((used : ℕ) (row : Row) (st' : Form) → x ≡ took used row st' → a ≡ P.Prefix used row) × ((n : ℕ) → x ≡ stop n → a ≡ P.Refused n)
-  step_read st t (P.Prefix u r) e x f =
-      let is : took u r form ≡ x = sym (step_took read form st t u r e) ∙ f in (
-        λ used row st' g. (let h : took u r form ≡ took used row st' = is ∙ g in let p : u ≡ used = cc in let q : r ≡ row = cc in ap₂ P.Prefix p q),
-        λ n g. (let h : took u r form ≡ stop n = is ∙ g in let z : ◌≡◌ {A = ℕ} 0 1 = cc in absurd (omega arith)),
-      )
-  step_read st t (P.Refused m) e x f =
-      let is : stop m ≡ x = sym (step_stops read form st t m e) ∙ f in (
-        λ used row st' g. (let h : stop m ≡ took used row st' = is ∙ g in let z : ◌≡◌ {A = ℕ} 0 1 = cc in absurd (omega arith)),
-        λ n g. (let h : stop m ≡ stop n = is ∙ g in let p : m ≡ n = cc in ap P.Refused p),
-      )
+  item_of : (st : Form) (t : List ℕ) (used : ℕ) (row : Row) (st' : Form) → step st t ≡ took used row st' → read t form ≡ Ok (prefix_with used row)
+  item_of st t used row st' e = by (read t form) (sym (fixed_step read form st t) ∙ e)
+    where
+      by : (a : Result Prefix Refusal) → as_step form a ≡ took used row st' → a ≡ Ok (prefix_with used row)
+      by (Ok item) f = let size : item.used ≡ used = cc in let same : item.row ≡ row = cc in ap₂ (λ (u : ℕ) (r : Row). Ok (prefix_with u r)) size same
+      by (Err why) f = let z : ◌≡◌ {A = ℕ} 0 1 = cc in absurd (omega arith)
+
+  stop_of : (st : Form) (t : List ℕ) (why : Refusal) → step st t ≡ stop why → read t form ≡ Err why
+  stop_of st t why e = by (read t form) (sym (fixed_step read form st t) ∙ e)
+    where
+      by : (a : Result Prefix Refusal) → as_step form a ≡ stop why → a ≡ Err why
+      by (Ok item) f = let z : ◌≡◌ {A = ℕ} 0 1 = cc in absurd (omega arith)
+      by (Err w) f = let same : w ≡ why = cc in ap Err same
 
   blind : (st st' : Form) (t : List ℕ) → step st t ≡ step st' t
   blind st st' t = fixed_step read form st t ∙ sym (fixed_step read form st' t)
@@ -81,58 +81,56 @@ module _ (read : Reader) (fair : Fair read) (form : Form) where
   -- ---- what is found from the front on
 
   -- the answers of the items, in their order
-  abbrev pub routes_in : List ℕ → List RouteAnswer
+  abbrev pub routes_in : List ℕ → List (Result Route Refusal)
   routes_in t = map (item_route form) (items_from read form t)
 
-  abbrev Finds : List ℕ → ℕ → Type 0
-  Finds t verdict = (n : ℕ) → route_from read form n t ≡ get_or (routes_in t) n (refused_route (either verdict no_such_route))
+  abbrev Finds : List ℕ → Verdict → Type 0
+  Finds t verdict = (n : ℕ) → route_from read form n t ≡ get_or (routes_in t) n (no_route verdict)
 
-  finds_end : Finds [] 0
+  finds_end : Finds [] fine
   unfolding route_from
-  finds_end zero = sym (ap (λ (items : List (List ℕ)). get_or (map (item_route form) items) 0 (refused_route no_such_route)) (pieces_nil step form))
-  finds_end (suc n) = sym (ap (λ (items : List (List ℕ)). get_or (map (item_route form) items) (suc n) (refused_route no_such_route)) (pieces_nil step form))
+  finds_end zero = sym (ap (λ (items : List (List ℕ)). get_or (map (item_route form) items) 0 (no_route fine)) (pieces_nil step form))
+  finds_end (suc n) = sym (ap (λ (items : List (List ℕ)). get_or (map (item_route form) items) (suc n) (no_route fine)) (pieces_nil step form))
 
-  finds_stop : (t : List ℕ) (why : ℕ) → 0 < length t → read t form ≡ P.Refused why → Finds t why
+  finds_stop : (t : List ℕ) (why : Refusal) → 0 < length t → read t form ≡ Err why → Finds t (Err why)
   unfolding route_from
   finds_stop t why some e n =
-      let named = fair.names t form why e in
-      let none : get_or (routes_in t) n (refused_route (either why no_such_route)) ≡ refused_route why =
-      ap (λ (items : List (List ℕ)). get_or (map (item_route form) items) n (refused_route (either why no_such_route))) (pieces_stop step form t why some (step_stops read form form t why e))
-      ∙ ap refused_route (sym (either_first why no_such_route why refl named.0)) in
-      by n ∙ sym none
+      by n ∙ sym (ap (λ (items : List (List ℕ)). get_or (map (item_route form) items) n (Err why)) (pieces_stop step form t why some (step_stops read form form t why e)))
     where
-      by : (m : ℕ) → route_from read form m t ≡ refused_route why
+      by : (m : ℕ) → route_from read form m t ≡ Err why
       by zero = unless_some t (with_host form t (read t form)) some ∙ ap (with_host form t) e
-      by (suc m) = unless_some t (past_item (read t form) (λ used. route_from read form m (drop used t))) some ∙ ap (λ (a : PrefixAnswer). past_item a (λ used. route_from read form m (drop used t))) e
+      by (suc m) =
+          unless_some t (past_item (read t form) (λ used. route_from read form m (drop used t))) some
+          ∙ ap (λ (a : Result Prefix Refusal). past_item a (λ used. route_from read form m (drop used t))) e
 
-  finds_took : (t : List ℕ) (used : ℕ) (row : Row) (verdict : ℕ) → 0 < length t → read t form ≡ P.Prefix used row → Finds (drop used t) verdict → Finds t verdict
+  finds_took : (t : List ℕ) (item : Prefix) (verdict : Verdict) → 0 < length t → read t form ≡ Ok item → Finds (drop item.used t) verdict → Finds t verdict
   unfolding route_from
-  finds_took t used row verdict some e again n =
-      let takes = fair.takes t form used row e in
-      let first : routes_in t ≡ item_route form (take used t) ∷ routes_in (drop used t) =
-      ap (map (item_route form)) (pieces_took step form form t used row some takes.0 (step_took read form form t used row e)) in
+  finds_took t item verdict some e again n =
+      let takes = fair.takes t form item.used item.row e in
+      let first : routes_in t ≡ item_route form (take item.used t) ∷ routes_in (drop item.used t) =
+      ap (map (item_route form)) (pieces_took step form form t item.used item.row some takes.0 (step_took read form form t item e)) in
       by n takes first
     where
-      by : (m : ℕ) → (0 < used) × (used ≤ length t) × (row ≡ item_row form (take used t)) → routes_in t ≡ item_route form (take used t) ∷ routes_in (drop used t)
-          → route_from read form m t ≡ get_or (routes_in t) m (refused_route (either verdict no_such_route))
+      by : (m : ℕ) → (0 < item.used) × (item.used ≤ length t) × (item.row ≡ item_row form (take item.used t)) → routes_in t ≡ item_route form (take item.used t) ∷ routes_in (drop item.used t)
+          → route_from read form m t ≡ get_or (routes_in t) m (no_route verdict)
       by zero takes first =
           unless_some t (with_host form t (read t form)) some
           ∙ ap (with_host form t) e
-          ∙ ap₂ (λ (u : ℕ) (r : Row). record { prefix = P.Prefix u r; host = host_bits form (take used t) }) (sym (length-take-le used t takes.1)) takes.2
-          ∙ sym (ap (λ (l : List RouteAnswer). get_or l 0 (refused_route (either verdict no_such_route))) first)
+          ∙ ap₂ (λ (u : ℕ) (r : Row). Ok (record { prefix = prefix_with u r; host = host_bits form (take item.used t) })) (sym (length-take-le item.used t takes.1)) takes.2
+          ∙ sym (ap (λ (l : List (Result Route Refusal)). get_or l 0 (no_route verdict)) first)
       by (suc m) takes first =
           unless_some t (past_item (read t form) (λ u. route_from read form m (drop u t))) some
-          ∙ ap (λ (a : PrefixAnswer). past_item a (λ u. route_from read form m (drop u t))) e
+          ∙ ap (λ (a : Result Prefix Refusal). past_item a (λ u. route_from read form m (drop u t))) e
           ∙ again m
-          ∙ sym (ap (λ (l : List RouteAnswer). get_or l (suc m) (refused_route (either verdict no_such_route))) first)
+          ∙ sym (ap (λ (l : List (Result Route Refusal)). get_or l (suc m) (no_route verdict)) first)
 
   -- the answer of item n, or the verdict, or 20
-  pub route_reads : (t : List ℕ) (n : ℕ) → route_from read form n t ≡ get_or (routes_in t) n (refused_route (either (read_all step form t).verdict no_such_route))
+  pub route_reads : (t : List ℕ) (n : ℕ) → route_from read form n t ≡ get_or (routes_in t) n (no_route (read_all step form t).verdict)
   route_reads =
       all_ind step sound (λ _ t r. Finds t r.verdict)
       (λ _. finds_end)
-      (λ st t why some e. finds_stop t why some ((step_read st t (read t form) refl (stop why) e).1 why refl))
-      (λ st st' t used row some e again. finds_took t used row (read_all step st' (drop used t)).verdict some ((step_read st t (read t form) refl (took used row st') e).0 used row st' refl) again)
+      (λ st t why some e. finds_stop t why some (stop_of st t why e))
+      (λ st st' t used row some e again. finds_took t (prefix_with used row) (read_all step st' (drop used t)).verdict some (item_of st t used row st' e) again)
       form
 
   -- ---- the rows of the list are those of its items
@@ -143,9 +141,9 @@ module _ (read : Reader) (fair : Fair read) (form : Form) where
       (λ _. sym (ap (map (item_row form)) (pieces_nil step form)))
       (λ st t why some e. sym (ap (map (item_row form)) (pieces_stop step form t why some (blind form st t ∙ e))))
       (λ st st' t used row some e again.
-      let takes = sound.takes st st' t used row e in
-      let is = (fair.takes t form used row ((step_read st t (read t form) refl (took used row st') e).0 used row st' refl)).2 in
-      ap₂ ◌∷◌ is again ∙ sym (ap (map (item_row form)) (pieces_took step form form t used row some takes.0 (step_took read form form t used row ((step_read st t (read t form) refl (took used row st') e).0 used row st' refl)))))
+      let item = item_of st t used row st' e in
+      let takes = fair.takes t form used row item in
+      ap₂ ◌∷◌ takes.2 again ∙ sym (ap (map (item_row form)) (pieces_took step form form t used row some takes.0 (step_took read form form t (prefix_with used row) item))))
       form
 
   pub rows_items : (s : List ℕ) → (list_by read s (fixed form)).rows ≡ map (item_row form) (items_by read s form)
@@ -224,16 +222,16 @@ module _ (read : Reader) (fair : Fair read) (form : Form) where
   -- by any index that has the start: what reading from the place named there gives
   pub other_route : (s index : List ℕ) (n : ℕ) → length s ≤ list_limit → is_index (length s) index ≡ true → n / 16 < length index →
       let t = drop (get_or index (n / 16) 0) s in
-      route_by read form s index n ≡ get_or (map (item_route form) (items_by read t form)) (n % 16) (refused_route (either (list_by read t (fixed form)).verdict no_such_route))
+      route_by read form s index n ≡ get_or (map (item_route form) (items_by read t form)) (n % 16) (no_route (list_by read t (fixed form)).verdict)
   unfolding route_by
   other_route s index n short taken there =
       let t : List ℕ = drop (get_or index (n / 16) 0) s in
       rw (le-leb (length s) list_limit short, taken, lt-ltb (n / 16) (length index) there)
       (route_reads t (n % 16)
-      ∙ ap₂ (λ (items : List (List ℕ)) (r : Reading Row). get_or (map (item_route form) items) (n % 16) (refused_route (either r.verdict no_such_route)))
+      ∙ ap₂ (λ (items : List (List ℕ)) (r : Reading Row). get_or (map (item_route form) items) (n % 16) (no_route r.verdict))
       (sym (items_fixed read form t)) (sym (list_fixed read t form)))
 
-  map_drop : (f : List ℕ → RouteAnswer) (n : ℕ) (l : List (List ℕ)) → map f (drop n l) ≡ drop n (map f l)
+  map_drop : (f : List ℕ → Result Route Refusal) (n : ℕ) (l : List (List ℕ)) → map f (drop n l) ≡ drop n (map f l)
   map_drop f zero l = refl
   map_drop f (suc n) [] = refl
   map_drop f (suc n) (x ∷ l) = map_drop f n l
@@ -267,23 +265,23 @@ module _ (read : Reader) (fair : Fair read) (form : Form) where
       )
 
   -- by its own index, route n is that of item n, and there is none past the last
-  pub own_route_lem : (s : List ℕ) → length s ≤ list_limit → (list_by read s (fixed form)).verdict ≡ 0 → (n : ℕ)
-      → route_by read form s (index_by read s form) n ≡ get_or (map (item_route form) (items_by read s form)) n (refused_route no_such_route)
+  pub own_route_lem : (s : List ℕ) → length s ≤ list_limit → (list_by read s (fixed form)).verdict ≡ fine → (n : ℕ)
+      → route_by read form s (index_by read s form) n ≡ get_or (map (item_route form) (items_by read s form)) n (Err NoSuchRoute)
   unfolding route_by
   own_route_lem s short good n =
       let index : List ℕ = index_by read s form in
-      let routes : List RouteAnswer = map (item_route form) (items_by read s form) in
+      let routes : List (Result Route Refusal) = map (item_route form) (items_by read s form) in
       let many : length routes ≡ length (items_by read s form) = length-map (items_by read s form) (item_route form) in
       elim (dec_le (length index) (n / 16)) [
         | yes past ↦ (let out : length routes ≤ n = omega (arith, past, own_length s, many) in
-            rw (le-leb (length s) list_limit short, own_taken s, le-ltb (n / 16) (length index) past) (sym (get_or-eq_default routes (refused_route no_such_route) out)))
+            rw (le-leb (length s) list_limit short, own_taken s, le-ltb (n / 16) (length index) past) (sym (get_or-eq_default routes (Err NoSuchRoute) out)))
         | no there ↦ (let rest = own_rest s (n / 16) (lt_of_not-le there) in
             let on : 16 * (n / 16) + n % 16 ≡ n = omega arith in
             other_route s index n short (own_taken s) (lt_of_not-le there)
-            ∙ ap₂ (λ (items : List (List ℕ)) (v : ℕ). get_or (map (item_route form) items) (n % 16) (refused_route (either v no_such_route))) rest.0 (rest.1 ∙ good)
-            ∙ ap (λ (l : List RouteAnswer). get_or l (n % 16) (refused_route no_such_route)) (map_drop (item_route form) (16 * (n / 16)) (items_by read s form))
-            ∙ get_or-drop (16 * (n / 16)) routes (n % 16) (refused_route no_such_route)
-            ∙ ap (λ (i : ℕ). get_or routes i (refused_route no_such_route)) on)
+            ∙ ap₂ (λ (items : List (List ℕ)) (v : Verdict). get_or (map (item_route form) items) (n % 16) (no_route v)) rest.0 (rest.1 ∙ good)
+            ∙ ap (λ (l : List (Result Route Refusal)). get_or l (n % 16) (Err NoSuchRoute)) (map_drop (item_route form) (16 * (n / 16)) (items_by read s form))
+            ∙ get_or-drop (16 * (n / 16)) routes (n % 16) (Err NoSuchRoute)
+            ∙ ap (λ (i : ℕ). get_or routes i (Err NoSuchRoute)) on)
       ]
 
 -- ---- in the words of the calls
@@ -305,8 +303,8 @@ words_at (row ∷ rows) (suc n) none h =
 
 module _ (read : Reader) (fair : Fair read) (s : List ℕ) (form : Form) where
   -- what a store holds at its front where an index was built in it
-  pub built : (d : List ℕ) (n : ℕ) → build_index read s form (length d) ≡ I.Places n
-      → (length s ≤ list_limit) × ((list_by read s (fixed form)).verdict ≡ 0) × (length (index_by read s form) ≡ n) × (take n (index_after read s form d) ≡ index_by read s form)
+  pub built : (d : List ℕ) (n : ℕ) → build_index read s form (length d) ≡ Ok n
+      → (length s ≤ list_limit) × ((list_by read s (fixed form)).verdict ≡ fine) × (length (index_by read s form) ≡ n) × (take n (index_after read s form d) ≡ index_by read s form)
   unfolding build_index index_after
   built d n e =
       let c = by (count_index read s form) e in
@@ -315,47 +313,45 @@ module _ (read : Reader) (fair : Fair read) (s : List ℕ) (form : Form) where
         f.0,
         f.1,
         f.2,
-        ap₂ (λ (i : ℕ) (a : IndexAnswer). take i (filled (index_meaning a) (index_by read s form) d)) all e ∙ take_laid d 0 (index_by read s form) (omega (arith, c.1, f.2)),
+        ap₂ (λ (i : ℕ) (a : Result ℕ Refusal). take i (filled (count_meaning a) (index_by read s form) d)) all e ∙ take_laid d 0 (index_by read s form) (omega (arith, c.1, f.2)),
       )
     where
-      by : (a : IndexAnswer) → room_for a (length d) ≡ I.Places n → (a ≡ I.Places n) × (n ≤ length d)
-      by (I.Places m) =
-          pick_leb (λ (a : IndexAnswer). a ≡ I.Places n → (I.Places m ≡ I.Places n) × (n ≤ length d)) m (length d) _ _
-          (λ le f. let same : m ≡ n = cc in (f, omega arith))
-          (λ _ f. let z : ◌≡◌ {A = ℕ} 0 1 = cc in absurd (omega arith))
-      by (I.Refused m) = λ f. let z : ◌≡◌ {A = ℕ} 0 1 = cc in absurd (omega arith)
+      by : (a : Result ℕ Refusal) → room_for a (length d) ≡ Ok n → (a ≡ Ok n) × (n ≤ length d)
+      by (Ok m) =
+          pick_leb (λ (a : Result ℕ Refusal). a ≡ Ok n → (◌≡◌ {A = Result ℕ Refusal} (Ok m) (Ok n)) × (n ≤ length d)) m (length d) _ _
+          (λ le f. let same : m ≡ n = cc in (f, omega (arith, le, same)))
+          (λ _ f. absurd (given_not_refused (sym f)))
+      by (Err why) = λ f. absurd (given_not_refused (sym f))
 
   -- counting an index goes by counting the list
-  pub counted_places : (m : ℕ) → count_answer s (list_by read s (fixed form)) ≡ L.Rows m → count_index read s form ≡ I.Places ((m + 15) / 16)
+  pub counted_places : (m : ℕ) → count_answer s (list_by read s (fixed form)) ≡ Ok m → count_index read s form ≡ Ok ((m + 15) / 16)
   unfolding count_index
   counted_places m e =
       let rows : length (items_by read s form) ≡ m = sym (length-map (items_by read s form) (item_row form)) ∙ ap length (sym (rows_items read fair form s)) ∙ (count_rows s (list_by read s (fixed form)) m e).1 in
       let places : length (index_by read s form) ≡ (m + 15) / 16 = omega (arith, own_length read fair form s, rows) in
-      ap (λ (a : ListAnswer). places_for a (index_by read s form)) e ∙ ap I.Places places
+      ap (λ (a : Result ℕ Refusal). places_for a (index_by read s form)) e ∙ ap Ok places
 
-  pub counted_refused : (why : ℕ) → count_answer s (list_by read s (fixed form)) ≡ L.Refused why → count_index read s form ≡ I.Refused why
+  pub counted_refused : (why : Refusal) → count_answer s (list_by read s (fixed form)) ≡ Err why → count_index read s form ≡ Err why
   unfolding count_index
-  counted_refused why e = ap (λ (a : ListAnswer). places_for a (index_by read s form)) e
+  counted_refused why e = ap (λ (a : Result ℕ Refusal). places_for a (index_by read s form)) e
 
   -- route n of the answers is row n of the rows
   pub route_row : (n : ℕ) → n < length (list_by read s (fixed form)).rows
-      → (used : ℕ) × (row : Row) × (host : Bool) × (get_or (map (item_route form) (items_by read s form)) n (refused_route no_such_route) ≡ record { prefix = P.Prefix used row; host = host })
-      × (take 6 (drop (6 * n) (flat words (list_by read s (fixed form)).rows)) ≡ words row)
+      → (route : Route) × (get_or (map (item_route form) (items_by read s form)) n (Err NoSuchRoute) ≡ Ok route)
+      × (take 6 (drop (6 * n) (flat words (list_by read s (fixed form)).rows)) ≡ words route.prefix.row)
   route_row n lt =
       let items : List (List ℕ) = items_by read s form in
       let is = rows_items read fair form s in
       let some : n < length items = omega (arith, lt, ap length is, length-map items (item_row form)) in
       let item : List ℕ = get_or items n [] in (
-        length item,
-        item_row form item,
-        host_bits form item,
-        get_or_there (map (item_route form) items) n (refused_route no_such_route) (item_route form []) (omega (arith, some, length-map items (item_route form))) ∙ get_or-map (item_route form) items n [],
+        record { prefix = prefix_with (length item) (item_row form item); host = host_bits form item },
+        get_or_there (map (item_route form) items) n (Err NoSuchRoute) (item_route form []) (omega (arith, some, length-map items (item_route form))) ∙ get_or-map (item_route form) items n [],
         words_at (list_by read s (fixed form)).rows n (item_row form []) lt
             ∙ ap words (ap (λ (rows : List Row). get_or rows n (item_row form [])) is ∙ get_or-map (item_row form) items n []),
       )
 
-  pub route_none : (n : ℕ) → length (list_by read s (fixed form)).rows ≤ n → get_or (map (item_route form) (items_by read s form)) n (refused_route no_such_route) ≡ refused_route no_such_route
+  pub route_none : (n : ℕ) → length (list_by read s (fixed form)).rows ≤ n → get_or (map (item_route form) (items_by read s form)) n (Err NoSuchRoute) ≡ Err NoSuchRoute
   route_none n le =
       let items : List (List ℕ) = items_by read s form in
-      get_or-eq_default (map (item_route form) items) (refused_route no_such_route)
+      get_or-eq_default (map (item_route form) items) (Err NoSuchRoute)
       (omega (arith, le, ap length (rows_items read fair form s), length-map items (item_row form), length-map items (item_route form)))

@@ -8,67 +8,68 @@ use native.Mathlib.Omega.{arith}
 use borrow.Author.Tests.{le-leb, lt-leb}
 use lib.ListN.{length, get_or, take, drop, length-drop}
 use lib.Seq.{get_or-drop}
+use Rattle.std.specs.Prelude.{Result, Ok, Err}
+use Rattle.wire.specs.declared.refusal.Refusal.{Refusal}
 use Rattle.wire.proofs.Turn.{rest}
 use Rattle.families.specs.Family.{id_size}
 use Rattle.families.specs.Octets.{refused_length, entry}
 use Rattle.families.specs.declared.Form.{Form}
-use Rattle.families.specs.declared.Form.TheVariants.{Plain, Tagged}
-use Rattle.routes.specs.List.{Reader, form_by, fixed, step_by}
+use Rattle.routes.specs.Prefix.{prefix_with}
+use Rattle.routes.specs.List.{Reader, fixed, step_by}
 use Rattle.routes.specs.ByTable.{end_by, by_table}
 use Rattle.routes.specs.Promises.{sized}
 use Rattle.routes.specs.declared.Row.{Row}
-use Rattle.routes.specs.declared.PrefixAnswer.TheVariants as P
-use Rattle.routes.specs.declared.StepAnswer.{StepAnswer}
-use Rattle.routes.specs.declared.StepAnswer.TheVariants as S
-use Rattle.routes.proofs.ListLaws.{step_form, step_stop, step_taken, turn_took, turn_refused}
+use Rattle.routes.specs.declared.Prefix.{Prefix}
+use Rattle.routes.specs.declared.Item.{Item}
+use Rattle.routes.proofs.PrefixLaws.{given_not_refused}
+use Rattle.routes.proofs.ListLaws.{fixed_form, step_form, step_stop, step_taken, turn_took, turn_refused}
 use Rattle.routes.proofs.TableLaws.{table_long, table_took, table_size, fair_table}
 use Rattle.route_index.specs.Private.{skipped, Passes}
-use Rattle.route_index.specs.declared.PlaceAnswer.TheVariants.{At, Refused}
 
 -- ---- by any way to read one item
 
 module _ (read : Reader) (form : Form) (s : List ℕ) where
-  pub skip_zero : (at : ℕ) → skipped read form s 0 at ≡ At at
+  pub skip_zero : (at : ℕ) → skipped read form s 0 at ≡ Ok at
   unfolding skipped
   skip_zero at = refl
 
-  pub skip_end : (n at : ℕ) → length s ≤ at → skipped read form s n at ≡ At at
+  pub skip_end : (n at : ℕ) → length s ≤ at → skipped read form s n at ≡ Ok at
   unfolding skipped
   skip_end zero at le = refl
   skip_end (suc n) at le = rw (le-leb (length s) at le)
 
   module _ (n at : ℕ) (some : at < length s) where
-    pub skip_took : (used : ℕ) (row : Row) → read (drop at s) form ≡ P.Prefix used row → skipped read form s (suc n) at ≡ skipped read form s n (at + used)
+    pub skip_took : (item : Prefix) → read (drop at s) form ≡ Ok item → skipped read form s (suc n) at ≡ skipped read form s n (at + item.used)
     unfolding skipped
-    skip_took used row e = rw (lt-leb (length s) at some, e)
+    skip_took item e = rw (lt-leb (length s) at some, e)
 
-    pub skip_stop : (why : ℕ) → read (drop at s) form ≡ P.Refused why → skipped read form s (suc n) at ≡ Refused why
+    pub skip_stop : (why : Refusal) → read (drop at s) form ≡ Err why → skipped read form s (suc n) at ≡ Err why
     unfolding skipped
     skip_stop why e = rw (lt-leb (length s) at some, e)
 
 -- ---- from the size of the item at a place
 
--- in one form every item stands in it
-form_fixed : (read : Reader) (form st : Form) (s : List ℕ) → form_by read (fixed form) st s ≡ form
-form_fixed read Plain st s = refl
-form_fixed read Tagged st s = refl
+module _ (counts : List ℕ) (form : Form) (s : List ℕ) (at : ℕ) where
+  abbrev Found : Result Item Refusal → Type 0
+  Found found = found ≡ sized (step_by (by_table counts) (fixed form) form (take (length s - at) (drop at s)))
 
-module _ (counts : List ℕ) (form : Form) (s : List ℕ) (at : ℕ) (r : StepAnswer)
-    (e : r ≡ sized (step_by (by_table counts) (fixed form) form (take (length s - at) (drop at s)))) where
-  here : r ≡ sized (step_by (by_table counts) (fixed form) form (drop at s))
-  here = e ∙ ap (λ (t : List ℕ). sized (step_by (by_table counts) (fixed form) form t)) (rest s at)
+  abbrev Here : Result Item Refusal → Type 0
+  Here found = found ≡ sized (step_by (by_table counts) (fixed form) form (drop at s))
 
-  pub item_here : (used : ℕ) (form' : Form) → r ≡ S.Item used form' → S.Item used form ≡ sized (step_by (by_table counts) (fixed form) form (drop at s))
-  item_here used form' f =
-      let step = turn_took (by_table counts) (drop at s) (fixed form) form r here (fair_table counts) used form' f in
-      let same : form ≡ form' = sym (form_fixed (by_table counts) form form (drop at s)) ∙ step_form (by_table counts) (fixed form) form form' (drop at s) used _ step in
-      ap (S.Item used) same ∙ sym f ∙ here
+  here : (found : Result Item Refusal) → Found found → Here found
+  here found e = e ∙ ap (λ (t : List ℕ). sized (step_by (by_table counts) (fixed form) form t)) (rest s at)
 
-  pub stop_here : (n why : ℕ) → 0 < n → at < length s → r ≡ S.Refused why → skipped (by_table counts) form s n at ≡ Refused why
-  stop_here n why pos some f =
-      let step = turn_refused (by_table counts) (drop at s) (fixed form) form r here why f in
-      let item : by_table counts (drop at s) form ≡ P.Refused why =
-      ap (by_table counts (drop at s)) (sym (form_fixed (by_table counts) form form (drop at s))) ∙ step_stop (by_table counts) (fixed form) form (drop at s) why step in
+  pub item_here : (item : Item) → Found (Ok item) → Here (Ok (record { used = item.used; form = form }))
+  item_here item e =
+      let step = turn_took (by_table counts) (drop at s) (fixed form) form (fair_table counts) item (here (Ok item) e) in
+      let same : form ≡ item.form = sym (fixed_form (by_table counts) form form (drop at s)) ∙ step_form (by_table counts) (fixed form) form item.form (drop at s) item.used _ step in
+      ap (λ (f : Form). Ok (record { used = item.used; form = f })) same ∙ here (Ok item) e
+
+  pub stop_here : (n : ℕ) (why : Refusal) → 0 < n → at < length s → Found (Err why) → skipped (by_table counts) form s n at ≡ Err why
+  stop_here n why pos some e =
+      let step = turn_refused (by_table counts) (drop at s) (fixed form) form why (here (Err why) e) in
+      let item : by_table counts (drop at s) form ≡ Err why =
+      ap (by_table counts (drop at s)) (sym (fixed_form (by_table counts) form form (drop at s))) ∙ step_stop (by_table counts) (fixed form) form (drop at s) why step in
       let m : n ≡ suc (n - 1) = omega (arith, pos) in
       ap (λ (i : ℕ). skipped (by_table counts) form s i at) m ∙ skip_stop (by_table counts) form s (n - 1) at some why item
 
@@ -86,11 +87,11 @@ pub record Alike (counts : List ℕ) (form : Form) (s : List ℕ) (used n most f
   pub passes : Passes (by_table counts) form s most from (most - passed) at
 
 module _ (counts : List ℕ) (form : Form) (s : List ℕ) (from used most : ℕ) (some : 0 < most)
-    (step : S.Item used form ≡ sized (step_by (by_table counts) (fixed form) form (drop from s))) where
+    (step : Ok (record { used = used; form = form }) ≡ sized (step_by (by_table counts) (fixed form) form (drop from s))) where
   -- the item there
-  first : (row : Row) × (0 < used) × (used ≤ length (drop from s)) × (by_table counts (drop from s) form ≡ P.Prefix used row)
+  first : (row : Row) × (0 < used) × (used ≤ length (drop from s)) × (by_table counts (drop from s) form ≡ Ok (prefix_with used row))
   first =
-      let e = turn_took (by_table counts) (drop from s) (fixed form) form (S.Item used form) step (fair_table counts) used form refl in
+      let e = turn_took (by_table counts) (drop from s) (fixed form) form (fair_table counts) (record { used = used; form = form }) step in
       let t = step_taken (by_table counts) (fair_table counts) (fixed form) form form (drop from s) used _ e in
       (_, t.0, t.1, t.2)
 
@@ -103,9 +104,7 @@ module _ (counts : List ℕ) (form : Form) (s : List ℕ) (from used most : ℕ)
   known_there : octets_there ≡ refused_length → ⊥
   known_there e =
       let long = table_long counts (drop from s) form (omega (arith, size_there, first.2)) e in
-      let told : P.Prefix used first.0 ≡ P.Refused _ = sym first.3 ∙ long in
-      let z : ◌≡◌ {A = ℕ} 0 1 = cc in
-      absurd (omega arith)
+      absurd (given_not_refused (sym first.3 ∙ long))
 
   pub first_fits : (id_size form + 1 ≤ used) × (from + used ≤ length s)
   first_fits = (omega (arith, size_there), omega (arith, first.1, first.2, length-drop from s))
@@ -121,7 +120,7 @@ module _ (counts : List ℕ) (form : Form) (s : List ℕ) (from used most : ℕ)
       let one_on : skipped (by_table counts) form s most from ≡ skipped (by_table counts) form s (most - 1) (from + used) =
       (let m : most ≡ suc (most - 1) = omega (arith, some) in
       ap (λ (i : ℕ). skipped (by_table counts) form s i from) m
-      ∙ skip_took (by_table counts) form s (most - 1) from (omega (arith, fits, first.1)) used first.0 first.3) in (
+      ∙ skip_took (by_table counts) form s (most - 1) from (omega (arith, fits, first.1)) (prefix_with used first.0) first.3) in (
         room,
         record {
           size = omega (arith, size_there);
@@ -153,7 +152,7 @@ module _ (counts : List ℕ) (form : Form) (s : List ℕ) (used n most from last
       let one_on : skipped (by_table counts) form s (most - passed) at ≡ skipped (by_table counts) form s (most - (passed + 1)) (at + used) =
       (let m : most - passed ≡ suc (most - (passed + 1)) = omega (arith, more) in
       ap (λ (i : ℕ). skipped (by_table counts) form s i at) m
-      ∙ skip_took (by_table counts) form s (most - (passed + 1)) at (omega (arith, inside, h.size)) (end_by counts form (drop at s)) _ item
+      ∙ skip_took (by_table counts) form s (most - (passed + 1)) at (omega (arith, inside, h.size)) _ item
       ∙ ap (λ (i : ℕ). skipped (by_table counts) form s (most - (passed + 1)) (at + i)) end) in
       record {
         size = h.size;

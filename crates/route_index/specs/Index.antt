@@ -1,5 +1,5 @@
 -- An index beside a list of routes, guess off (document 02, K9): the start of every sixteenth item, from the first; and the route that is found by one.
-use Rattle.std.specs.Prelude.{ℕ, zero, suc, ◌/◌, ◌%◌, List, [], ◌∷◌, Bool, true, false, ◌&&◌, length, get_or, drop, leb, ltb, eqb, Result, Ok, Err}
+use Rattle.std.specs.Prelude.{ℕ, zero, suc, ◌/◌, ◌%◌, List, [], ◌∷◌, Bool, true, ◌&&◌, length, get_or, drop, leb, ltb, eqb, Result, Ok, Err}
 use Rattle.wire.specs.Choice.{pick}
 use Rattle.wire.specs.Refusal.{list_limit}
 use Rattle.wire.specs.Verdict.{Verdict, answer_by}

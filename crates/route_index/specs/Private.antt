@@ -25,7 +25,7 @@ pub record Remain (read : Reader) (form : Form) (s : List ℕ) (n at : ℕ) : Ty
   pub good : (read_all (step_by read (fixed form)) form (drop at s)).verdict ≡ fine
   pub many : n ≤ length (pieces (step_by read (fixed form)) form (drop at s))
 
--- a good list whose index fits a store: what putting it asks
+-- a good list, and a store with as many places as its index: what putting it asks
 pub record Fitting (read : Reader) (s : List ℕ) (form : Form) (store : List ℕ) : Type 0 where
   pub good : (list_by read s (fixed form)).verdict ≡ fine
-  pub room : length (index_by read s form) ≤ length store
+  pub room : length (index_by read s form) ≡ length store

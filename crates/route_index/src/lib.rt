@@ -3,7 +3,6 @@
 
 ghost use Rattle.std.specs.Prelude.{◌≡◌, ◌+◌, ◌≤◌, ◌<◌, length, get_or, drop, Ok};
 ghost use Rattle.wire.specs.Refusal.{list_limit};
-ghost use Rattle.wire.specs.Store.{laid};
 ghost use Rattle.families.specs.Family.{max_of, id_size};
 ghost use Rattle.families.specs.Octets.{entry};
 ghost use Rattle.routes.specs.List.{up_to, fixed, step_by};
@@ -38,7 +37,7 @@ fn pass_alike(
     form: Form,
 ) -> Passed
     requires most_nonzero { (0 < most) × (most ≤ 16) }
-    requires s_len_bound { length s.now ≤ list_limit }
+    requires short { length s.now ≤ list_limit }
     requires form_value { Ok (record { used = used; form = form }) ≡ sized (step_by (by_table counts.now) (fixed form) form (drop from s.now)) }
     ensures { Passes (by_table counts.now) form s.now most from result.left result.at }
 {
@@ -75,10 +74,7 @@ fn pass_items(
 {
     let mut at = from;
     let mut left = n;
-    while 0 < left {
-        if s.len() <= at {
-            return Ok(at);
-        }
+    while 0 < left && at < s.len() {
         let item = routes::form_size(&s[at..], counts, form)?;
         let p = pass_alike(s, at, item.used, left, counts, form);
         at = p.at;
@@ -147,21 +143,20 @@ fn pass_known(s: &[u8], from: usize, counts: &[u8; 256], form: Form) -> usize
     at
 }
 
-// Puts the n places of a list that was counted. All but the last have sixteen items after them.
-fn put_places(s: &[u8], counts: &[u8; 256], form: Form, n: usize, places: &mut [u16])
-    requires s_len_bound { length s.now ≤ list_limit }
+// Puts the places of a list that was counted, as many as the store has. All but the last have sixteen items after them.
+fn put_places(s: &[u8], counts: &[u8; 256], form: Form, places: &mut [u16])
+    requires short { length s.now ≤ list_limit }
     requires fitting { Fitting (by_table counts.now) s.now form places.old }
-    requires n_value { n ≡ length (index_by (by_table counts.now) s.now form) }
-    ensures { places.new ≡ laid places.old 0 (index_by (by_table counts.now) s.now form) }
+    ensures { places.new ≡ index_by (by_table counts.now) s.now form }
 {
-    let mut at: usize = 0;
-    let mut i: usize = 0;
-    while i < n {
-        places[i] = at as u16;
-        i = i + 1;
-        if i < n {
-            at = pass_known(s, at, counts, form);
-        }
+    let Some((first, rest)) = places.split_first_mut() else {
+        return;
+    };
+    *first = 0;
+    let mut at = 0;
+    for place in rest.iter_mut() {
+        at = pass_known(s, at, counts, form);
+        *place = at as u16;
     }
 }
 
@@ -182,7 +177,7 @@ pub fn build_index(s: &[u8], afi: Afi, form: Form, places: &mut [u16]) -> Result
     if places.len() < n {
         return Err(Refusal::NoRoom);
     }
-    put_places(s, &counts, form, n, places);
+    put_places(s, &counts, form, &mut places[..n]);
     Ok(n)
 }
 

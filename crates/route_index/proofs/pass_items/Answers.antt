@@ -1,6 +1,7 @@
 use mathlib.Core.Path.{◌≡◌, refl, sym, ap, ◌∙◌}
 use Prim.Native.Nat.{ℕ}
 use native.Mathlib.Omega.{arith}
+use Rattle.routes.proofs.PrefixLaws.{passed}
 use Rattle.routes.specs.ByTable.{by_table}
 use Rattle.route_index.specs.Private.{skipped}
 use Rattle.route_index.proofs.SkipLaws.{skip_zero, skip_end, item_here, stop_here}
@@ -9,18 +10,19 @@ use Rattle.route_index.proofs.pass_items.Goals as goal
 pub loop-left-init : goal.loop-left-init
 loop-left-init c = (omega arith, refl)
 
-pub returns-then-s-at : goal.returns-then-s-at
-returns-then-s-at c =
+pub returns-in_err-item : goal.returns-in_err-item
+returns-in_err-item c =
     let a = c.args in
-    sym (c.loop-left.invariant.1 ∙ skip_end (by_table a.counts.now) a.form a.s.now c.loop-left.left c.loop-left.at c.if-s-at.true)
+    let stop = stop_here a.counts.now a.form a.s.now c.loop-left.at c.loop-left.left _ (omega (arith, c.loop-left-test.true)) (omega (arith, c.loop-left-test.true)) c.in_err-item.ensures in
+    passed _ _ c.from_residual.ensures.1 ∙ sym (c.loop-left.invariant.1 ∙ stop)
 
 pub pass_alike-p-requires : goal.pass_alike-p-requires
 pass_alike-p-requires c =
     let a = c.args in
     record {
       most_nonzero = (omega (arith, c.loop-left-test.true), omega (arith, c.loop-left.invariant.0, c.requires.0));
-      s_len_bound = c.requires.1;
-      form_value = item_here a.counts.now a.form a.s.now c.loop-left.at _ c.form_size.ensures c.in-Item.used c.in-Item.form c.in-Item.is;
+      short = c.requires.1;
+      form_value = item_here a.counts.now a.form a.s.now c.loop-left.at _ c.in_ok-item.ensures;
     }
 
 pub loop-left-smaller : goal.loop-left-smaller
@@ -29,15 +31,13 @@ loop-left-smaller c = c.pass_alike-p.ensures.fewer
 pub loop-left-preserved : goal.loop-left-preserved
 loop-left-preserved c = (omega (arith, c.loop-left.invariant.0, c.pass_alike-p.ensures.fewer), c.loop-left.invariant.1 ∙ c.pass_alike-p.ensures.same)
 
-pub returns-in-Refused : goal.returns-in-Refused
-returns-in-Refused c =
+pub returns-else-at-s : goal.returns-else-at-s
+returns-else-at-s c =
     let a = c.args in
-    sym (c.loop-left.invariant.1
-    ∙ stop_here a.counts.now a.form a.s.now c.loop-left.at _ c.form_size.ensures c.loop-left.left c.in-Refused.why
-    (omega (arith, c.loop-left-test.true)) (omega (arith, c.if-s-at.false)) c.in-Refused.is)
+    sym (c.loop-left.invariant.1 ∙ skip_end (by_table a.counts.now) a.form a.s.now c.loop-left.left c.loop-left.at c.if-at-s.false)
 
-pub returns : goal.returns
-returns c =
+pub returns-after-loop-left : goal.returns-after-loop-left
+returns-after-loop-left c =
     let a = c.args in
     let none : c.loop-left.left ≡ 0 = omega (arith, c.loop-left-test.false) in
     sym (c.loop-left.invariant.1

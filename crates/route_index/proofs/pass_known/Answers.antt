@@ -33,8 +33,8 @@ pass_known_alike-p-requires c =
     let a = c.args in
     record {
       most_nonzero = omega (arith, c.loop-left-test.true);
-      n_value = c.after-n.ensures ∙ ap (λ (i : ℕ). entry a.counts.now (get_or a.s.now (c.loop-left.at + i) 0)) c.id_size.ensures;
-      remain_2 = c.loop-left.invariant.1;
+      n_value = c.from-n.ensures ∙ c.after.ensures ∙ ap (λ (i : ℕ). entry a.counts.now (get_or a.s.now (c.loop-left.at + i) 0)) c.id_size.ensures;
+      remaining = c.loop-left.invariant.1;
     }
 
 pub loop-left-smaller : goal.loop-left-smaller

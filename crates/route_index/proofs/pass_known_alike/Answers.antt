@@ -15,7 +15,7 @@ overflow_add-used c =
     let next = a.from + (c.id_size.result + 1 + a.n) in
     (next ≤ length a.s.now) × Passes (by_table a.counts.now) a.form a.s.now a.most a.from (a.most - 1) next × Remain (by_table a.counts.now) a.form a.s.now (a.most - 1) next =
     let a = c.args in
-    known_start a.counts.now a.form a.s.now c.id_size.result a.n a.most a.from c.id_size.ensures c.requires.most_nonzero c.requires.n_value c.requires.remain_2 in
+    known_start a.counts.now a.form a.s.now c.id_size.result a.n a.most a.from c.id_size.ensures c.requires.most_nonzero c.requires.n_value c.requires.remaining in
     omega (arith, start.0)
 
 pub overflow_add-used-2 : goal.overflow_add-used-2
@@ -24,7 +24,7 @@ overflow_add-used-2 c =
     let next = a.from + (c.id_size.result + 1 + a.n) in
     (next ≤ length a.s.now) × Passes (by_table a.counts.now) a.form a.s.now a.most a.from (a.most - 1) next × Remain (by_table a.counts.now) a.form a.s.now (a.most - 1) next =
     let a = c.args in
-    known_start a.counts.now a.form a.s.now c.id_size.result a.n a.most a.from c.id_size.ensures c.requires.most_nonzero c.requires.n_value c.requires.remain_2 in
+    known_start a.counts.now a.form a.s.now c.id_size.result a.n a.most a.from c.id_size.ensures c.requires.most_nonzero c.requires.n_value c.requires.remaining in
     omega (arith, start.0)
 
 pub overflow_add-at : goal.overflow_add-at
@@ -33,7 +33,7 @@ overflow_add-at c =
     let next = a.from + (c.id_size.result + 1 + a.n) in
     (next ≤ length a.s.now) × Passes (by_table a.counts.now) a.form a.s.now a.most a.from (a.most - 1) next × Remain (by_table a.counts.now) a.form a.s.now (a.most - 1) next =
     let a = c.args in
-    known_start a.counts.now a.form a.s.now c.id_size.result a.n a.most a.from c.id_size.ensures c.requires.most_nonzero c.requires.n_value c.requires.remain_2 in
+    known_start a.counts.now a.form a.s.now c.id_size.result a.n a.most a.from c.id_size.ensures c.requires.most_nonzero c.requires.n_value c.requires.remaining in
     omega (arith, start.0)
 
 pub overflow_sub-left : goal.overflow_sub-left
@@ -45,7 +45,7 @@ loop-left-init c =
     let next = a.from + (c.id_size.result + 1 + a.n) in
     (next ≤ length a.s.now) × Passes (by_table a.counts.now) a.form a.s.now a.most a.from (a.most - 1) next × Remain (by_table a.counts.now) a.form a.s.now (a.most - 1) next =
     let a = c.args in
-    known_start a.counts.now a.form a.s.now c.id_size.result a.n a.most a.from c.id_size.ensures c.requires.most_nonzero c.requires.n_value c.requires.remain_2 in
+    known_start a.counts.now a.form a.s.now c.id_size.result a.n a.most a.from c.id_size.ensures c.requires.most_nonzero c.requires.n_value c.requires.remaining in
     (start.1, start.2)
 
 pub overflow_add-at-in-loop-left : goal.overflow_add-at-in-loop-left
@@ -64,8 +64,8 @@ bounds-s-at c =
     omega (arith, t.0, c.id_size-in-loop-left.ensures) in
     there
 
-pub returns-then-after-n : goal.returns-then-after-n
-returns-then-after-n c =
+pub returns-then-from-n : goal.returns-then-from-n
+returns-then-from-n c =
     let both = c.loop-left.invariant in
     record { passes = both.0; remain = both.1 }
 
@@ -77,7 +77,7 @@ overflow_add-at-in-loop-left-2 c =
     (on ≤ length a.s.now) × Passes (by_table a.counts.now) a.form a.s.now a.most a.from (c.loop-left.left - 1) on × Remain (by_table a.counts.now) a.form a.s.now (c.loop-left.left - 1) on =
     let a = c.args in
     let says : entry a.counts.now (get_or a.s.now (c.loop-left.at + id_size a.form) 0) ≡ a.n =
-    ap (λ (i : ℕ). entry a.counts.now (get_or a.s.now (c.loop-left.at + i) 0)) (sym c.id_size-in-loop-left.ensures) ∙ sym c.after.ensures ∙ omega (arith, c.if-after-n.false) in
+    ap (λ (i : ℕ). entry a.counts.now (get_or a.s.now (c.loop-left.at + i) 0)) (sym c.id_size-in-loop-left.ensures) ∙ sym c.after.ensures ∙ omega (arith, c.from.ensures, c.if-from-n.false) in
     known_next a.counts.now a.form a.s.now c.id_size.result a.n a.most a.from c.id_size.ensures c.loop-left.left c.loop-left.at c.loop-left.invariant
     (omega (arith, c.loop-left-test.true)) says in
     omega (arith, next.0)
@@ -96,7 +96,7 @@ loop-left-preserved c =
     (on ≤ length a.s.now) × Passes (by_table a.counts.now) a.form a.s.now a.most a.from (c.loop-left.left - 1) on × Remain (by_table a.counts.now) a.form a.s.now (c.loop-left.left - 1) on =
     let a = c.args in
     let says : entry a.counts.now (get_or a.s.now (c.loop-left.at + id_size a.form) 0) ≡ a.n =
-    ap (λ (i : ℕ). entry a.counts.now (get_or a.s.now (c.loop-left.at + i) 0)) (sym c.id_size-in-loop-left.ensures) ∙ sym c.after.ensures ∙ omega (arith, c.if-after-n.false) in
+    ap (λ (i : ℕ). entry a.counts.now (get_or a.s.now (c.loop-left.at + i) 0)) (sym c.id_size-in-loop-left.ensures) ∙ sym c.after.ensures ∙ omega (arith, c.from.ensures, c.if-from-n.false) in
     known_next a.counts.now a.form a.s.now c.id_size.result a.n a.most a.from c.id_size.ensures c.loop-left.left c.loop-left.at c.loop-left.invariant
     (omega (arith, c.loop-left-test.true)) says in
     (next.1, next.2)
