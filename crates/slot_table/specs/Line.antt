@@ -1,21 +1,21 @@
 -- The table of slot records (document 01, "The lister"), as ASCII bytes.
-use Rattle.std.specs.Prelude.{ℕ, zero, suc, ◌+◌, ◌-◌, ◌*◌, ◌/◌, ◌%◌, Bool, List, [], ◌∷◌, ◌++◌, length, ◌==◌, nat_le, nat_lt}
+use Rattle.std.specs.Prelude.{ℕ, zero, suc, ◌+◌, ◌-◌, ◌*◌, ◌/◌, ◌%◌, Bool, List, [], ◌∷◌, ◌++◌, length, ◌==◌, nat_le, nat_lt, Option, Some, None, Result, Ok, Err}
 use Rattle.wire.specs.Choice.{pick}
 use Rattle.wire.specs.Extent.{within}
+use Rattle.wire.specs.Refusal.{number_of}
 use Rattle.wire.specs.Store.{laid}
+use Rattle.wire.specs.declared.refusal.Refusal.{Refusal}
 use Rattle.families.specs.declared.AddPath.{AddPath}
-use Rattle.routes.specs.declared.RoutesAnswer.{RoutesAnswer}
-use Rattle.messages.specs.Header.{update_kind, message_of, body_at}
-use Rattle.messages.specs.declared.MessageAnswer.{MessageAnswer}
-use Rattle.messages.specs.declared.MessageAnswer.TheVariants as M
-use Rattle.updates.specs.Update.{count_update}
+use Rattle.messages.specs.Header.{update_kind, kind_number, message_of, body_at}
+use Rattle.messages.specs.declared.Message.{Message}
 use Rattle.routes.specs.Promises.{rows_in, hosts_in, verdict_in}
-use Rattle.updates.specs.declared.UpdateAnswer.{UpdateAnswer}
-use Rattle.updates.specs.declared.UpdateAnswer.TheVariants as U
+use Rattle.routes.specs.declared.Routes.{Routes}
+use Rattle.updates.specs.Update.{count_update}
+use Rattle.updates.specs.declared.Update.{Update}
 use Rattle.slot_table.specs.declared.State.{State}
 use Rattle.slot_table.specs.declared.State.TheVariants.{Whole, Cut, Trailing}
 use Rattle.slot_table.specs.declared.Entry.{Entry}
-use Rattle.slot_table.specs.declared.Entry.TheVariants.{Refused, Other, Update}
+use Rattle.slot_table.specs.declared.Entry.TheVariants as E
 
 -- ---- what a line says
 
@@ -23,17 +23,18 @@ abbrev pub state_of : Bool → Bool → State
 state_of cut trailing = pick cut Cut (pick trailing Trailing Whole)
 
 -- an UPDATE whose body is refused says no more than that
-abbrev pub update_entry : UpdateAnswer → ℕ → State → Entry
-update_entry (U.Update withdrawn announced) claimed state = Update claimed state withdrawn announced (hosts_in withdrawn + hosts_in announced)
-update_entry (U.Refused n) claimed state = Refused n
+abbrev pub update_entry : Result Update Refusal → ℕ → State → Result Entry Refusal
+update_entry (Ok u) claimed state = Ok (E.Update claimed state u (hosts_in u.withdrawn + hosts_in u.announced))
+update_entry (Err r) claimed state = Err r
 
 -- of a message that the crate's reading found in s
-abbrev pub entry_by : MessageAnswer → List ℕ → AddPath → Entry
-entry_by (M.Message kind claimed taken marker cut trailing) body mode =
-    pick (kind == update_kind) (update_entry (count_update body mode) claimed (state_of cut trailing)) (Other kind claimed (state_of cut trailing))
-entry_by (M.Refused n) body mode = Refused n
+abbrev pub entry_by : Result Message Refusal → List ℕ → AddPath → Result Entry Refusal
+entry_by (Ok m) body mode =
+    pick (kind_number m.kind == update_kind) (update_entry (count_update body mode) m.claimed (state_of m.cut m.trailing))
+    (Ok (E.Other m.kind m.claimed (state_of m.cut m.trailing)))
+entry_by (Err r) body mode = Err r
 
-unfoldable pub entry_of : List ℕ → AddPath → Entry
+unfoldable pub entry_of : List ℕ → AddPath → Result Entry Refusal
 entry_of s mode = entry_by (message_of s) (within (body_at (message_of s)) s) mode
 
 -- ---- its text
@@ -81,15 +82,15 @@ fields_text kind claimed kept state =
     number kind (space ∷ []) ++ (number claimed (space ∷ []) ++ (number kept (space ∷ []) ++ state_text state))
 
 -- rows/verdict of a section
-unfoldable pub section_text : RoutesAnswer → List ℕ
+unfoldable pub section_text : Result Routes Refusal → List ℕ
 section_text a = number (rows_in a) (slash ∷ []) ++ number (verdict_in a) (space ∷ [])
 
 -- after the record's number; of an UPDATE the last field is how many rows of both sections have a host bit (document 02, K6)
-unfoldable pub entry_text : ℕ → Entry → List ℕ
-entry_text kept (Refused n) = refused_text ++ number n (line_end ∷ [])
-entry_text kept (Other kind claimed state) = fields_text kind claimed kept state ++ no_sections
-entry_text kept (Update claimed state withdrawn announced host) =
-    fields_text update_kind claimed kept state ++ (section_text withdrawn ++ (section_text announced ++ number host (line_end ∷ [])))
+unfoldable pub entry_text : ℕ → Result Entry Refusal → List ℕ
+entry_text kept (Err r) = refused_text ++ number (number_of r) (line_end ∷ [])
+entry_text kept (Ok (E.Other kind claimed state)) = fields_text (kind_number kind) claimed kept state ++ no_sections
+entry_text kept (Ok (E.Update claimed state u host)) =
+    fields_text update_kind claimed kept state ++ (section_text u.withdrawn ++ (section_text u.announced ++ number host (line_end ∷ [])))
 
 -- the line of a record with those kept bytes
 unfoldable pub line_of : ℕ → List ℕ → AddPath → List ℕ
@@ -111,8 +112,8 @@ abbrev pub line_room : ℕ
 line_room = 224
 
 -- the bytes put, and the output: where it has too few places, nothing is put
-unfoldable pub put_count : List ℕ → ℕ → ℕ
-put_count line places = pick (nat_le line_room places) (length line) 0
+unfoldable pub put_count : List ℕ → ℕ → Option ℕ
+put_count line places = pick (nat_le line_room places) (Some (length line)) None
 
 unfoldable pub put_out : List ℕ → List ℕ → List ℕ
 put_out line out = pick (nat_le line_room (length out)) (laid out 0 line) out

@@ -1,6 +1,7 @@
--- What private functions ask of each other and promise: room for a piece, and an output that grows piece by piece.
+-- What private functions ask of each other and promise: room for a piece, and text that grows piece by piece.
 use Rattle.std.specs.Prelude.{◌≡◌, ℕ, ◌+◌, ◌≤◌, List, length}
 use Rattle.wire.specs.Store.{laid}
+use Rattle.slot_table.specs.declared.Text.{Text}
 
 -- the most bytes of a number and the byte after it, and of the other pieces
 abbrev pub number_room : ℕ
@@ -15,14 +16,16 @@ fields_room = 72
 abbrev pub section_room : ℕ
 section_room = 42
 
-abbrev pub sections_room : ℕ
-sections_room = 105
-
 abbrev pub entry_room : ℕ
 entry_room = 177
 
--- d with vs from `at` on is d', and `to` is the place after them
-pub record Grown (d : List ℕ) (at : ℕ) (vs : List ℕ) (d' : List ℕ) (to : ℕ) : Type 0 where
-  pub grown : d' ≡ laid d at vs
-  pub after : to ≡ at + length vs
-  pub room : to ≤ length d
+-- so many places are left
+abbrev pub Room : Text → ℕ → Type 0
+Room text n = text.at + n ≤ length text.out.now
+
+-- the text with a piece more is `after`, in the same output
+pub record Grown (before : Text) (piece : List ℕ) (after : Text) : Type 0 where
+  pub grown : after.out.now ≡ laid before.out.now before.at piece
+  pub at : after.at ≡ before.at + length piece
+  pub room : after.at ≤ length before.out.now
+  pub same : after.out.ghost_name ≡ before.out.ghost_name

@@ -1,7 +1,0 @@
-use Rattle.slot_table.specs.Line.{stop_text}
-use Rattle.slot_table.proofs.Growth.{grow}
-use Rattle.slot_table.proofs.stop_at.Goals as goal
-
-pub returns : goal.returns
-unfolding stop_text
-returns c = grow c.put_text-to.ensures c.put_number.ensures
