@@ -1,23 +1,25 @@
 -- The loop that weighs a path: what holds at its head, and what a turn makes of it, over any weight of a segment's type and count.
 -- Assumes nothing.
-use Prim.Native.Nat.{ℕ, ◌+◌, ◌≤◌, ◌<◌}
+use Prim.Native.Nat.{ℕ, ◌+◌, ◌-◌, ◌≤◌, ◌<◌}
 use mathlib.Core.Path.{◌≡◌, sym, ap, ap₂, subst, ◌∙◌}
 use mathlib.Core.List.{List}
 use native.Mathlib.Omega.{arith}
-use lib.ListN.{length, get_or, drop}
+use lib.ListN.{length, get_or, take, drop}
 use Rattle.wire.specs.Refusal.{list_limit}
 use Rattle.wire.specs.Walk.{tally, flat}
-use Rattle.wire.proofs.Turn.{Light, Counted, count_start, count_step, count_stop, count_done, tally_few}
+use Rattle.std.specs.Prelude.{Result, Ok, Err}
+use Rattle.wire.specs.Verdict.{fine}
+use Rattle.wire.specs.declared.refusal.Refusal.{Refusal}
+use Rattle.wire.proofs.Turn.{Light, Counted, count_start, count_step, count_stop, count_done, tally_few, rest}
 use Rattle.asns.specs.Asn.{span}
 use Rattle.asns.proofs.AsnLaws.{span_many}
 use Rattle.paths.specs.Segment.{Segment, known_type, segment_at, segment_of, path_of, asns_of}
 use Rattle.paths.specs.Promises.{count_in}
 use Rattle.paths.proofs.SegmentLaws.{segment_sound, segment_taken, counted_taken, counted_refused, length_numbers}
 use Rattle.paths.proofs.PathTurn.{kind_is}
-use Rattle.paths.specs.declared.SegmentAnswer.TheVariants as G
-use Rattle.as4.specs.Merge.{kept}
+use Rattle.as4.specs.Merge.{route_len_of, kept}
 use Rattle.as4.specs.Private.{kept_count, route_count, weighed}
-use Rattle.as4.specs.declared.WeighAnswer.TheVariants as W
+use Rattle.as4.specs.declared.Weight.{Weight}
 use Rattle.as4.proofs.SegmentLaws.{count_most, route_most, route_tally, kept_segments, kept_numbers}
 use Rattle.as4.proofs.PromiseLaws.{fault_short, weighed_good, weighed_bad}
 
@@ -47,7 +49,7 @@ module _ (f : ℕ → ℕ → ℕ) (small : (kind n : ℕ) → f kind n ≤ 1 + 
     weigh_start = count_start (segment_of known_type w) (segment_sound known_type w) (weight_by f) 1 light tt s
 
     module _ (at c : ℕ) (h : WeighedTo f w s at c) where
-      pub weigh_next : (k : ℕ) → count_in (segment_of known_type w tt (drop at s)) ≡ G.Numbers k → WeighedTo f w s (at + (2 + span w k)) (c + f (get_or s at 0) k)
+      pub weigh_next : (k : ℕ) → count_in (segment_of known_type w tt (drop at s)) ≡ Ok k → WeighedTo f w s (at + (2 + span w k)) (c + f (get_or s at 0) k)
       unfolding segment_at
       weigh_next k e =
           let t = counted_taken known_type w (drop at s) k e in
@@ -55,13 +57,11 @@ module _ (f : ℕ → ℕ → ℕ) (small : (kind n : ℕ) → f kind n ≤ 1 + 
           subst (λ (x : ℕ). WeighedTo f w s (at + (2 + span w k)) (c + x)) (ap₂ f (kind_is w s at) len)
           (count_step (segment_of known_type w) (segment_sound known_type w) (weight_by f) 1 light tt s tt at c h tt _ _ t.0)
 
-      pub weigh_stop : (k : ℕ) → at < length s → count_in (segment_of known_type w tt (drop at s)) ≡ G.Refused k → ((path_of known_type w s).verdict ≡ k) × (0 < k)
+      pub weigh_stop : (r : Refusal) → at < length s → count_in (segment_of known_type w tt (drop at s)) ≡ Err r → (path_of known_type w s).verdict ≡ Err r
       unfolding path_of
-      weigh_stop k lt e =
-          let n = counted_refused known_type w (drop at s) k e in
-          (count_stop (segment_of known_type w) (segment_sound known_type w) (weight_by f) 1 light tt s tt at c h k lt n, (segment_sound known_type w).names tt (drop at s) k n)
+      weigh_stop r lt e = count_stop (segment_of known_type w) (segment_sound known_type w) (weight_by f) 1 light tt s tt at c h r lt (counted_refused known_type w (drop at s) r e)
 
-      pub weigh_done : length s ≤ at → ((path_of known_type w s).verdict ≡ 0) × (tally (weight_by f) (path_of known_type w s).rows ≡ c)
+      pub weigh_done : length s ≤ at → ((path_of known_type w s).verdict ≡ fine) × (tally (weight_by f) (path_of known_type w s).rows ≡ c)
       unfolding path_of
       weigh_done le = count_done (segment_of known_type w) (segment_sound known_type w) (weight_by f) 1 light tt s tt at c h le
 
@@ -80,10 +80,10 @@ kept_one_small kind n = omega (arith, count_most kind 1)
 kept_all_small : (kind n : ℕ) → kept_all kind n ≤ 1 + n
 kept_all_small kind n = omega (arith, count_most kind n)
 
-pub record Weighing (w : ℕ) (s : List ℕ) (at c m n : ℕ) : Type 0 where
-  pub counted : WeighedTo route_count w s at c
-  pub segments : WeighedTo kept_one w s at m
-  pub numbers : WeighedTo kept_all w s at n
+pub record Weighing (w : ℕ) (s : List ℕ) (at : ℕ) (weight : Weight) : Type 0 where
+  pub counted : WeighedTo route_count w s at weight.route_len
+  pub segments : WeighedTo kept_one w s at weight.segments
+  pub numbers : WeighedTo kept_all w s at weight.numbers
 
 module _ (w : ℕ) (pos : 0 < w) (s : List ℕ) where
   -- what is kept of a path has no more segments, and no more numbers, than bytes
@@ -91,31 +91,42 @@ module _ (w : ℕ) (pos : 0 < w) (s : List ℕ) where
   kept_few =
       (omega (arith, weight_few kept_one kept_one_small w pos s, kept_segments (path_of known_type w s).rows), omega (arith, weight_few kept_all kept_all_small w pos s, kept_numbers (path_of known_type w s).rows))
 
-  pub weighing_start : Weighing w s 0 0 0 0
+  pub weighing_start : Weighing w s 0 (record { route_len = 0; segments = 0; numbers = 0 })
   weighing_start = record {
     counted = weigh_start route_count route_most w pos s;
     segments = weigh_start kept_one kept_one_small w pos s;
     numbers = weigh_start kept_all kept_all_small w pos s;
   }
 
-  module _ (at c m n : ℕ) (h : Weighing w s at c m n) where
-    pub weighing_next : (k : ℕ) → count_in (segment_of known_type w tt (drop at s)) ≡ G.Numbers k
-        → Weighing w s (at + (2 + span w k)) (c + route_count (get_or s at 0) k) (m + kept_count (get_or s at 0) 1) (n + kept_count (get_or s at 0) k)
+  module _ (at : ℕ) (weight : Weight) (h : Weighing w s at weight) where
+    -- no count is over that of the bytes
+    pub weighing_few : length s ≤ list_limit → (weight.route_len ≤ list_limit) × (weight.segments ≤ list_limit) × (weight.numbers ≤ list_limit)
+    weighing_few short = (omega (arith, h.counted.few, h.counted.within, short), omega (arith, h.segments.few, h.segments.within, short), omega (arith, h.numbers.few, h.numbers.within, short))
+
+    -- what a call on the part from `at` on says of the step there
+    here : (x : Result ℕ Refusal) → x ≡ count_in (segment_of known_type w tt (take (length s - at) (drop at s))) → count_in (segment_of known_type w tt (drop at s)) ≡ x
+    here x e = sym (rw rest at e)
+
+    pub weighing_next : (k : ℕ) → Ok k ≡ count_in (segment_of known_type w tt (take (length s - at) (drop at s)))
+        → Weighing w s (at + (2 + span w k)) (record { route_len = weight.route_len + route_count (get_or s at 0) k; segments = weight.segments + kept_count (get_or s at 0) 1; numbers = weight.numbers + kept_count (get_or s at 0) k })
     weighing_next k e = record {
-      counted = weigh_next route_count route_most w pos s at c h.counted k e;
-      segments = weigh_next kept_one kept_one_small w pos s at m h.segments k e;
-      numbers = weigh_next kept_all kept_all_small w pos s at n h.numbers k e;
+      counted = weigh_next route_count route_most w pos s at weight.route_len h.counted k (here _ e);
+      segments = weigh_next kept_one kept_one_small w pos s at weight.segments h.segments k (here _ e);
+      numbers = weigh_next kept_all kept_all_small w pos s at weight.numbers h.numbers k (here _ e);
     }
 
-    pub weighing_stop : (k : ℕ) → length s ≤ list_limit → at < length s → count_in (segment_of known_type w tt (drop at s)) ≡ G.Refused k → W.Refused k ≡ weighed s (path_of known_type w s)
-    weighing_stop k short lt e =
-        let v = weigh_stop route_count route_most w pos s at c h.counted k lt e in
-        weighed_bad s (path_of known_type w s) k (fault_short s (path_of known_type w s) short ∙ v.0) v.1
+    pub weighing_stop : (r : Refusal) → length s ≤ list_limit → at < length s → Err r ≡ count_in (segment_of known_type w tt (take (length s - at) (drop at s)))
+        → Err r ≡ weighed s (path_of known_type w s)
+    weighing_stop r short lt e =
+        sym (weighed_bad s (path_of known_type w s) r (fault_short s (path_of known_type w s) short ∙ weigh_stop route_count route_most w pos s at weight.route_len h.counted r lt (here _ e)))
 
-    pub weighing_done : length s ≤ list_limit → length s ≤ at → W.Weight c m n ≡ weighed s (path_of known_type w s)
+    pub weighing_done : length s ≤ list_limit → length s ≤ at → Ok weight ≡ weighed s (path_of known_type w s)
     weighing_done short le =
         let r = path_of known_type w s in
-        let a = weigh_done route_count route_most w pos s at c h.counted le in
-        let b = weigh_done kept_one kept_one_small w pos s at m h.segments le in
-        let d = weigh_done kept_all kept_all_small w pos s at n h.numbers le in
-        weighed_good s r c m n (fault_short s r short ∙ a.0) (sym a.1 ∙ route_tally r.rows) (sym b.1 ∙ kept_segments r.rows) (sym d.1 ∙ kept_numbers r.rows)
+        let a = weigh_done route_count route_most w pos s at weight.route_len h.counted le in
+        let b = weigh_done kept_one kept_one_small w pos s at weight.segments h.segments le in
+        let d = weigh_done kept_all kept_all_small w pos s at weight.numbers h.numbers le in
+        let ec : route_len_of r.rows ≡ weight.route_len = sym (route_tally r.rows) ∙ a.1 in
+        let em : length (kept r.rows) ≡ weight.segments = sym (kept_segments r.rows) ∙ b.1 in
+        let en : length (flat asns_of (kept r.rows)) ≡ weight.numbers = sym (kept_numbers r.rows) ∙ d.1 in
+        sym (weighed_good s r (fault_short s r short ∙ a.0) ∙ ap₃ (λ (x y z : ℕ). Ok (record { route_len = x; segments = y; numbers = z })) ec em en)

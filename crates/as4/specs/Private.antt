@@ -1,5 +1,5 @@
 -- What only private functions' contracts name: what a path weighs, where its leading part ends, and what the path to build is made of.
-use Rattle.std.specs.Prelude.{ℕ, zero, suc, ◌+◌, ◌≤◌, ◌<◌, ◌≡◌, List, [], ◌∷◌, ◌++◌, Bool, true, false, length, get_or, take, drop, leb, ltb, eqb, Result, Ok, Err}
+use Rattle.std.specs.Prelude.{ℕ, zero, suc, ◌+◌, ◌≤◌, ◌<◌, ◌≡◌, List, [], ◌∷◌, ◌++◌, Bool, ◌&&◌, ◌||◌, length, get_or, take, drop, leb, ltb, eqb, Result, Ok, Err}
 use Rattle.wire.specs.Choice.{pick}
 use Rattle.wire.specs.Refusal.{list_limit}
 use Rattle.wire.specs.Verdict.{fine, unless}
@@ -44,8 +44,8 @@ weighed s r = unless (fault_of s r) (weight_of r.rows)
 -- ---- the leading part
 
 -- whether a segment stands there and is to be taken, with so much left to make up
-unfoldable pub goes_on : List ℕ → ℕ → ℕ → Bool
-goes_on s at left = pick (leb (length s) at) false (pick (leb 1 left) true (leb confed_sequence (get_or s at 0)))
+abbrev pub goes_on : List ℕ → ℕ → ℕ → Bool
+goes_on s at left = ltb at (length s) && (ltb 0 left || leb confed_sequence (get_or s at 0))
 
 -- a sequence that is split: the first n numbers of the segment at a place, where n is not 0
 unfoldable pub split_at : List ℕ → ℕ → ℕ → List Segment
@@ -73,8 +73,8 @@ pub record Leads (s : List ℕ) (need : ℕ) (r : Leading) : Type 0 where
 -- ---- the path to build
 
 -- whether AS_PATH stands alone: AS4_PATH is ignored, has no segments left, or counts more
-unfoldable pub alone : Bool → ℕ → ℕ → ℕ → Bool
-alone ignores segments old new = pick ignores true (pick (eqb segments 0) true (ltb old new))
+abbrev pub alone : Bool → ℕ → ℕ → ℕ → Bool
+alone ignores segments old new = ignores || (eqb segments 0 || ltb old new)
 
 -- r is a front of AS_PATH and what is left of AS4_PATH, of so many segments and numbers
 pub record Made (r : Reading Segment) (path four : List ℕ) (lead : Leading) (both : Path) : Type 0 where

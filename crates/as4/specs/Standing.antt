@@ -37,9 +37,13 @@ both_there first second = ltb 0 (length first) && ltb 0 (length second)
 abbrev pub has_as_trans : List ℕ → Bool
 has_as_trans first = eqb (be_at first 0 2) as_trans
 
--- 10 for either size; then the second where both are there and the first has AS_TRANS, and else the first
+-- the second where both are there and the first has AS_TRANS, and else the first
+abbrev pub stands : List ℕ → List ℕ → Standing
+stands first second = pick (both_there first second && has_as_trans first) As4Aggregator Aggregator
+
+-- 10 for either size comes first
 unfoldable pub standing : List ℕ → List ℕ → Result Standing Refusal
-standing first second = unless (sizes_fault first second) (pick (both_there first second) (pick (has_as_trans first) As4Aggregator Aggregator) Aggregator)
+standing first second = unless (sizes_fault first second) (stands first second)
 
 -- AS4_PATH is ignored: the first stands though both are there
 unfoldable pub ignored : List ℕ → List ℕ → Bool

@@ -78,10 +78,7 @@ pub fn which_aggregator(aggregator: &[u8], as4_aggregator: &[u8]) -> Result<Stan
     ensures { result ≡ standing aggregator.now as4_aggregator.now }
 {
     sizes_fault(aggregator, as4_aggregator)?;
-    if !both_there(aggregator, as4_aggregator) {
-        return Ok(Standing::Aggregator);
-    }
-    if has_as_trans(aggregator) {
+    if both_there(aggregator, as4_aggregator) && has_as_trans(aggregator) {
         return Ok(Standing::As4Aggregator);
     }
     Ok(Standing::Aggregator)
@@ -162,22 +159,20 @@ fn weigh(value: &[u8], width: AsnLength) -> Result<Weight, Refusal>
         return Err(Refusal::TooLong);
     }
     let mut at: usize = 0;
-    let mut counted: usize = 0;
-    let mut segments: usize = 0;
-    let mut numbers: usize = 0;
+    let mut weight = Weight {
+        route_len: 0,
+        segments: 0,
+        numbers: 0,
+    };
     while at < value.len() {
         let n = paths::segment_count(&value[at..], width, PathRule::Crate)?;
         let kind = value[at];
-        counted += route_len(kind, n as usize);
-        segments += kept_count(kind, 1);
-        numbers += kept_count(kind, n as usize);
-        at += 2 + asns::numbers_size(n as u16, width);
+        weight.route_len += route_len(kind, usize::from(n));
+        weight.segments += kept_count(kind, 1);
+        weight.numbers += kept_count(kind, usize::from(n));
+        at += paths::segment_size(n, width);
     }
-    Ok(Weight {
-        route_len: counted,
-        segments,
-        numbers,
-    })
+    Ok(weight)
 }
 
 // Whether a segment stands there and is to be taken, with so much left to make up.

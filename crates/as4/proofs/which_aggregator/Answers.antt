@@ -1,23 +1,23 @@
-use mathlib.Core.Path.{◌≡◌, sym, ◌∙◌}
-use native.Mathlib.Omega.{arith}
-use Rattle.as4.specs.Standing.{has_as_trans}
-use Rattle.as4.proofs.StandingLaws.{standing_refused, standing_absent, standing_second, standing_first}
+use mathlib.Core.Path.{sym, ◌∙◌}
+use Rattle.std.proofs.lemmas.Result.{err_from_is_err_and}
+use Rattle.as4.proofs.StandingLaws.{standing_refused, standing_good}
 use Rattle.as4.proofs.which_aggregator.Goals as goal
+use Rattle.as4.proofs.which_aggregator.Goals.{else-both_there-via-then-both_there+else-has_as_trans, else-both_there-via-else-both_there}
 
-pub returns-then-fault-ne0 : goal.returns-then-fault-ne0
-returns-then-fault-ne0 c = standing_refused _ _ _ c.sizes_fault-fault.ensures (omega (arith, c.if-fault-ne0.true))
-
-pub returns-then-not-both_there : goal.returns-then-not-both_there
-returns-then-not-both_there c = standing_absent _ _ (sym c.if-fault-ne0.false ∙ c.sizes_fault-fault.ensures) (sym c.both_there.ensures ∙ c.if-not-both_there.true)
+pub returns-in_err-sizes_fault : goal.returns-in_err-sizes_fault
+returns-in_err-sizes_fault c =
+    let why = err_from_is_err_and c.from_residual.result c.from_residual.ensures.1 in
+    rw (why.1, why.2) (standing_refused _ _ _ c.in_err-sizes_fault.ensures)
 
 pub returns-then-has_as_trans : goal.returns-then-has_as_trans
 returns-then-has_as_trans c =
-    let looked : c.has_as_trans.result ≡ has_as_trans c.args.aggregator.now = c.has_as_trans.ensures in
-    standing_second _ _ (sym c.if-fault-ne0.false ∙ c.sizes_fault-fault.ensures)
-    (sym c.both_there.ensures ∙ c.if-not-both_there.false) (sym looked ∙ c.if-has_as_trans.true)
+    standing_good _ _ _ c.in_ok-sizes_fault.ensures (rw (sym c.both_there.ensures ∙ c.if-both_there.true, sym c.has_as_trans.ensures ∙ c.if-has_as_trans.true))
 
 pub returns : goal.returns
 returns c =
-    let looked : c.has_as_trans.result ≡ has_as_trans c.args.aggregator.now = c.has_as_trans.ensures in
-    standing_first _ _ (sym c.if-fault-ne0.false ∙ c.sizes_fault-fault.ensures)
-    (sym c.both_there.ensures ∙ c.if-not-both_there.false) (sym looked ∙ c.if-has_as_trans.false)
+    standing_good _ _ _ c.in_ok-sizes_fault.ensures
+    (elim c.else-both_there.branch [
+      | else-both_there-via-then-both_there+else-has_as_trans w ↦
+          rw (sym c.both_there.ensures ∙ w.if-both_there.true, sym w.has_as_trans.ensures ∙ w.if-has_as_trans.false)
+      | else-both_there-via-else-both_there w ↦ rw (sym c.both_there.ensures ∙ w.if-both_there.false)
+    ])
