@@ -6,6 +6,7 @@ use mathlib.Core.List.{List}
 use native.Mathlib.Omega.{arith}
 use lib.ListN.{length, get_or, drop}
 use Rattle.wire.specs.Store.{laid}
+use Rattle.wire.specs.Verdict.{fine}
 use Rattle.wire.specs.Walk.{took, flat}
 use Rattle.wire.proofs.Turn.{Filled, fill_start, fill_fits, fill_step, fill_done}
 use Rattle.asns.specs.Asn.{span}
@@ -20,7 +21,7 @@ module _ (emit : Segment → List ℕ) (w : ℕ) (s d₀ : List ℕ) where
   abbrev pub FilledTo : ℕ → ℕ → List ℕ → Type 0
   FilledTo at to d = Filled (segment_of known_type w) (kept_by emit) tt s d₀ tt at to d
 
-  pub filled_start : (path_of known_type w s).verdict ≡ 0 → length (flat (kept_by emit) (path_of known_type w s).rows) ≤ length d₀ → FilledTo 0 0 d₀
+  pub filled_start : (path_of known_type w s).verdict ≡ fine → length (flat (kept_by emit) (path_of known_type w s).rows) ≤ length d₀ → FilledTo 0 0 d₀
   unfolding path_of
   filled_start v r = fill_start (segment_of known_type w) (segment_sound known_type w) (kept_by emit) tt s d₀ v r
 

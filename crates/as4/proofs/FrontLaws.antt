@@ -11,11 +11,12 @@ use lib.Dec.{leb}
 use Rattle.wire.specs.Choice.{pick}
 use Rattle.wire.specs.Refusal.{list_limit}
 use Rattle.wire.specs.Store.{laid}
+use Rattle.wire.specs.Verdict.{fine}
 use Rattle.wire.specs.Walk.{flat}
 use Rattle.wire.proofs.StoreLaws.{laid_nil}
 use Rattle.wire.proofs.WalkLaws.{all_nil}
 use Rattle.paths.specs.Segment.{Segment, numbers_of, known_type, segment_of, path_of, pair_of, asns_of}
-use Rattle.paths.specs.Promises.{pairs_after, numbers_after}
+use Rattle.paths.specs.Promises.{counts, pairs_after, numbers_after}
 use Rattle.paths.proofs.SegmentLaws.{length_numbers}
 use Rattle.paths.proofs.PromiseLaws.{pairs_length, path_read, path_stores}
 use Rattle.as4.specs.Promises.{old_path}
@@ -54,11 +55,10 @@ front_none emit d [] e = sym (ap (λ (r : _). laid d 0 (flat emit r.rows)) (all_
 front_none emit d (b ∷ s) e = absurd (omega (arith, e))
 
 -- what the reader of a path leaves of good ones that have room
-pub front_read : (s pairs numbers : List ℕ) → length s ≤ list_limit → (old_path s).verdict ≡ 0 → length (flat pair_of (old_path s).rows) ≤ length pairs → length (flat asns_of (old_path s).rows) ≤ length numbers
+pub front_read : (s pairs numbers : List ℕ) → length s ≤ list_limit → (old_path s).verdict ≡ fine → length (flat pair_of (old_path s).rows) ≤ length pairs → length (flat asns_of (old_path s).rows) ≤ length numbers
     → (pairs_after s (old_path s) pairs (length numbers) ≡ laid pairs 0 (flat pair_of (old_path s).rows))
     × (numbers_after s (old_path s) (length pairs) numbers ≡ laid numbers 0 (flat asns_of (old_path s).rows))
 front_read s pairs numbers short good p n =
-    let m : ℕ = length (old_path s).rows in
-    let k : ℕ = length (flat asns_of (old_path s).rows) in
-    path_stores s (old_path s) pairs numbers m k
-    (path_read s (old_path s) m k (length pairs) (length numbers) short good refl refl (omega (arith, pairs_length (old_path s).rows)) n)
+    let r = old_path s in
+    path_stores s r pairs numbers (counts r.rows)
+    (path_read s r (counts r.rows) (length pairs) (length numbers) short good refl (omega (arith, pairs_length r.rows, p)) n)

@@ -1,17 +1,20 @@
 -- The loop over the leading segments of AS_PATH: what holds at its head, and what a turn makes of it.
 -- Assumes nothing.
 use Prim.Native.Nat.{ℕ, zero, suc, ◌+◌, ◌-◌, ◌≤◌, ◌<◌}
-use mathlib.Core.Path.{◌≡◌, sym, ap, ap₂, ◌∙◌}
+use mathlib.Core.Path.{◌≡◌, refl, sym, ap, ap₂, ◌∙◌}
 use mathlib.Core.List.{List, [], ◌∷◌, ◌++◌, append_assoc, append-nil}
 use mathlib.Core.Bool.{Bool, true, false}
-use mathlib.Core.Logic.{◌⊎◌, inl, inr}
-use native.Mathlib.Nat.{not-suc-le-zero}
+use mathlib.Core.Logic.{◌⊎◌, ⊎_elim, inl, inr}
+use borrow.Author.Tests.{lt-ltb, ltb-true, ltb-false}
+use native.Mathlib.Decide.{dec_le}
+use native.Mathlib.Nat.{lt_of_not-le, not-suc-le-zero}
 use native.Mathlib.Omega.{arith}
 use lib.ListN.{length, get_or, take, drop, length-append}
 use lib.Seq.{take_at}
-use lib.Dec.{leb}
+use lib.Dec.{leb, ltb}
 use Rattle.wire.specs.Walk.{took, Reading, more, flat}
-use Rattle.wire.proofs.ChoiceLaws.{pick_leb}
+use Rattle.wire.specs.Verdict.{fine}
+use Rattle.wire.proofs.ChoiceLaws.{and_true}
 use Rattle.wire.proofs.CuttingLaws.{read_more}
 use Rattle.wire.proofs.Turn.{turn_next, turn_end, turn_fits}
 use Rattle.wire.proofs.WalkLaws.{all_nil}
@@ -25,19 +28,21 @@ use Rattle.paths.proofs.FormedLaws.{ruled, decides}
 use Rattle.paths.proofs.PathTurn.{kind_is, asns_is, asns_length, good_taken}
 use Rattle.as4.specs.Merge.{confed_sequence, is_confed, route_len, leading, split}
 use Rattle.as4.specs.Promises.{old_path}
+use Rattle.as4.specs.declared.Leading.{Leading}
 use Rattle.as4.specs.Private.{route_count, goes_on, split_at, Leads}
 use Rattle.as4.proofs.SegmentLaws.{route_is, flat_join}
-use Rattle.as4.proofs.MergeLaws.{lead_whole, lead_split, lead_ends}
+use Rattle.as4.proofs.MergeLaws.{either_true, neither, lead_whole, lead_split, lead_ends}
 
--- at the head: what stands before `at` is taken whole, and `left` is still to be made up
-pub record LedTo (s : List ℕ) (need at left m n : ℕ) : Type 0 where
-  pub within : at ≤ length s
-  pub read : (old_path (take at s)).verdict ≡ 0
-  pub good : (old_path (drop at s)).verdict ≡ 0
-  pub rows : leading need (old_path s).rows ≡ (old_path (take at s)).rows ++ leading left (old_path (drop at s)).rows
-  pub segments : length (old_path (take at s)).rows ≡ m
-  pub numbers : length (flat asns_of (old_path (take at s)).rows) ≡ n
-  pub few : (m ≤ at) × (n ≤ at)
+-- at the head: what stands before `lead.end` is taken whole, and `left` is still to be made up
+pub record LedTo (s : List ℕ) (need left : ℕ) (lead : Leading) : Type 0 where
+  pub whole : lead.split ≡ 0
+  pub within : lead.end ≤ length s
+  pub read : (old_path (take lead.end s)).verdict ≡ fine
+  pub good : (old_path (drop lead.end s)).verdict ≡ fine
+  pub rows : leading need (old_path s).rows ≡ (old_path (take lead.end s)).rows ++ leading left (old_path (drop lead.end s)).rows
+  pub segments : length (old_path (take lead.end s)).rows ≡ lead.segments
+  pub numbers : length (flat asns_of (old_path (take lead.end s)).rows) ≡ lead.numbers
+  pub few : (lead.segments ≤ lead.end) × (lead.numbers ≤ lead.end)
 
 -- the segment at a place
 abbrev here : List ℕ → ℕ → Segment
@@ -57,7 +62,7 @@ split_is s at (suc n) pos le =
     (sym (ap (take (suc n)) (asns_is 2 s at) ∙ fewer_numbers (suc n) (get_or s (at + 1) 0) (drop (at + 2) s) le))
 
 -- nothing is left
-ended : (n : ℕ) {r : Reading Segment} → r ≡ record { rows = []; verdict = 0 } → leading n r.rows ≡ []
+ended : (n : ℕ) {r : Reading Segment} → r ≡ record { rows = []; verdict = fine } → leading n r.rows ≡ []
 unfolding leading
 ended n e = ap (λ (x : Reading Segment). leading n x.rows) e
 
@@ -66,12 +71,13 @@ last_numbers : (g : Segment) → length (flat asns_of (g ∷ [])) ≡ length (as
 unfolding flat
 last_numbers g = ap length (append-nil (asns_of g))
 
-module _ (s : List ℕ) (need : ℕ) where
-  pub led_start : (old_path s).verdict ≡ 0 → LedTo s need 0 need 0 0
+module _ {s : List ℕ} {need : ℕ} where
+  pub led_start : (old_path s).verdict ≡ fine → LedTo s need need (record { end = 0; split = 0; segments = 0; numbers = 0 })
   unfolding path_of flat
   led_start good =
-      let none : old_path [] ≡ record { rows = []; verdict = 0 } = all_nil (segment_of known_type 2) tt in
+      let none : old_path [] ≡ record { rows = []; verdict = fine } = all_nil (segment_of known_type 2) tt in
       record {
+        whole = refl;
         within = omega arith;
         read = ap (λ (r : Reading Segment). r.verdict) none;
         good = good;
@@ -81,77 +87,73 @@ module _ (s : List ℕ) (need : ℕ) where
         few = (omega arith, omega arith);
       }
 
-  module _ (at left m n : ℕ) (h : LedTo s need at left m n) where
+  module _ {left : ℕ} {lead : Leading} (h : LedTo s need left lead) where
     -- a segment that stands there is the next of the path
-    module _ (lt : at < length s) where
-      taken : segment_of known_type 2 tt (drop at s) ≡ took (2 + span 2 (get_or s (at + 1) 0)) (here s at) tt
-      taken = good_taken 2 s at known_type h.good lt
+    module _ (lt : lead.end < length s) where
+      taken : segment_of known_type 2 tt (drop lead.end s) ≡ took (2 + span 2 (get_or s (lead.end + 1) 0)) (here s lead.end) tt
+      taken = good_taken 2 s lead.end known_type h.good lt
 
-      next : old_path (drop at s) ≡ more (here s at) (old_path (drop (at + (2 + span 2 (get_or s (at + 1) 0))) s))
+      next : old_path (drop lead.end s) ≡ more (here s lead.end) (old_path (drop (lead.end + (2 + span 2 (get_or s (lead.end + 1) 0))) s))
       unfolding path_of
-      next = turn_next (segment_of known_type 2) (segment_sound known_type 2) s tt at tt _ _ taken
+      next = turn_next (segment_of known_type 2) (segment_sound known_type 2) s tt lead.end tt _ _ taken
 
     -- the loop ends: at the end, or at a segment that is not to be taken
-    nothing : goes_on s at left ≡ false → leading left (old_path (drop at s)).rows ≡ []
-    unfolding goes_on path_of
-    nothing =
-        pick_leb (λ (x : Bool). x ≡ false → leading left (old_path (drop at s)).rows ≡ []) (length s) at _ _
-        (λ le _. at_end le)
-        (λ lt. pick_leb (λ (x : Bool). x ≡ false → leading left (old_path (drop at s)).rows ≡ []) 1 left _ _
-        (λ _ e. let z : ◌≡◌ {A = ℕ} 0 1 = cc in absurd (omega (arith, z)))
-        (λ none e. stays lt none e))
-      where
-        at_end : length s ≤ at → leading left (old_path (drop at s)).rows ≡ []
-        at_end le = ended left (turn_end (segment_of known_type 2) (segment_sound known_type 2) s tt at le)
+    nothing : goes_on s lead.end left ≡ false → leading left (old_path (drop lead.end s)).rows ≡ []
+    unfolding path_of
+    nothing e =
+        elim (dec_le (length s) lead.end) [
+          | yes le ↦ ended left (turn_end (segment_of known_type 2) (segment_sound known_type 2) s tt lead.end le)
+          | no gt ↦
+              (let lt : lead.end < length s = lt_of_not-le gt in
+              let stays : (ltb 0 left ≡ false) × (leb confed_sequence (get_or s lead.end 0) ≡ false) = neither _ _ (rw (lt-ltb lead.end (length s) lt) at e) in
+              let none : left ≡ 0 = omega (arith, ltb-false 0 left stays.0) in
+              ap₂ (λ (k : ℕ) (r : Reading Segment). leading k r.rows) none (next lt) ∙ lead_ends (here s lead.end) _ (ap (leb confed_sequence) (kind_is 2 s lead.end) ∙ stays.1))
+        ]
 
-        stays : at < length s → left < 1 → leb confed_sequence (get_or s at 0) ≡ false → leading left (old_path (drop at s)).rows ≡ []
-        stays lt none e =
-            let zero_left : left ≡ 0 = omega (arith, none) in
-            ap₂ (λ (k : ℕ) (r : Reading Segment). leading k r.rows) zero_left (next lt)
-            ∙ lead_ends (here s at) _ (ap (leb confed_sequence) (kind_is 2 s at) ∙ e)
-
-    pub led_ends : goes_on s at left ≡ false → Leads s need (record { end = at; split = 0; segments = m; numbers = n })
+    pub led_ends : goes_on s lead.end left ≡ false → Leads s need lead
     unfolding split_at
     led_ends e = record {
-      front = record { good = h.read; segments = h.segments; numbers = h.numbers; within = h.within; there = λ pos. absurd (omega (arith, pos)); few = omega arith; small = h.few };
-      rows = h.rows ∙ ap (λ (l : List Segment). (old_path (take at s)).rows ++ l) (nothing e);
+      front = record { good = h.read; segments = h.segments; numbers = h.numbers; within = h.within; there = λ pos. absurd (omega (arith, pos, h.whole)); few = omega (arith, h.whole); small = h.few };
+      rows = h.rows ∙ ap (λ (l : List Segment). (old_path (take lead.end s)).rows ++ l) (nothing e ∙ sym (ap (split_at s lead.end) h.whole));
     }
 
-    module _ (on : goes_on s at left ≡ true) where
+    module _ (on : goes_on s lead.end left ≡ true) where
       -- a segment stands there, and is to be taken
-      pub led_there : (at < length s) × (is_confed (here s at) ≡ true ⊎ 0 < left)
-      unfolding goes_on
-      led_there =
-          pick_leb (λ (x : Bool). x ≡ true → (at < length s) × (is_confed (here s at) ≡ true ⊎ 0 < left)) (length s) at _ _
-          (λ _ e. let z : ◌≡◌ {A = ℕ} 0 1 = cc in absurd (omega (arith, z)))
-          (λ lt e. (
-            lt,
-            pick_leb (λ (x : Bool). x ≡ true → is_confed (here s at) ≡ true ⊎ 0 < left) 1 left _ _ (λ pos _. inr pos) (λ _ f. inl (ap (leb confed_sequence) (kind_is 2 s at) ∙ f)) e,
-          ))
-          on
+      there : (lead.end < length s) × (is_confed (here s lead.end) ≡ true ⊎ 0 < left)
+      there =
+          let both = and_true _ _ on in
+          (
+            ltb-true lead.end (length s) both.0,
+            ⊎_elim (λ (pos : ltb 0 left ≡ true). inr (ltb-true 0 left pos))
+            (λ (confed : leb confed_sequence (get_or s lead.end 0) ≡ true). inl (ap (leb confed_sequence) (kind_is 2 s lead.end) ∙ confed))
+            (either_true _ _ both.1),
+          )
 
-      pub led_fits : at + (2 + span 2 (get_or s (at + 1) 0)) ≤ length s
-      led_fits = (turn_fits (segment_of known_type 2) (segment_sound known_type 2) s tt at tt _ _ (taken led_there.0) h.within).1
+      pub led_fits : lead.end + (2 + span 2 (get_or s (lead.end + 1) 0)) ≤ length s
+      led_fits = (turn_fits (segment_of known_type 2) (segment_sound known_type 2) s tt lead.end tt _ _ (taken there.0) h.within).1
 
-      counted : route_count (get_or s at 0) (get_or s (at + 1) 0) ≡ route_len (here s at)
-      counted = ap₂ route_count (sym (kind_is 2 s at)) (sym (asns_length 2 s at)) ∙ route_is (here s at)
+      counted : route_count (get_or s lead.end 0) (get_or s (lead.end + 1) 0) ≡ route_len (here s lead.end)
+      counted = ap₂ route_count (sym (kind_is 2 s lead.end)) (sym (asns_length 2 s lead.end)) ∙ route_is (here s lead.end)
 
       -- it is taken whole
-      pub led_next : route_count (get_or s at 0) (get_or s (at + 1) 0) ≤ left
-          → LedTo s need (at + (2 + span 2 (get_or s (at + 1) 0))) (left - route_count (get_or s at 0) (get_or s (at + 1) 0)) (m + 1) (n + get_or s (at + 1) 0)
+      pub led_next : route_count (get_or s lead.end 0) (get_or s (lead.end + 1) 0) ≤ left
+          → LedTo s need (left - route_count (get_or s lead.end 0) (get_or s (lead.end + 1) 0))
+          (record { end = lead.end + (2 + span 2 (get_or s (lead.end + 1) 0)); split = lead.split; segments = lead.segments + 1; numbers = lead.numbers + get_or s (lead.end + 1) 0 })
       unfolding path_of
       led_next le =
+          let at = lead.end in
           let g : Segment = here s at in
           let size : ℕ = 2 + span 2 (get_or s (at + 1) 0) in
           let front : List Segment = (old_path (take at s)).rows in
           let past : List Segment = (old_path (drop (at + size) s)).rows in
-          let more_read = read_more (segment_of known_type 2) (WellFormed Known 2) (segment_at 2) (decides known_type Known (ruled Crate) 2) tt tt tt s at size g h.read (taken led_there.0) in
+          let more_read = read_more (segment_of known_type 2) (WellFormed Known 2) (segment_at 2) (decides known_type Known (ruled Crate) 2) tt tt tt s at size g h.read (taken there.0) in
           let rest : leading left (old_path (drop at s)).rows ≡ g ∷ leading (left - route_len g) past =
-          ap (λ (r : Reading Segment). leading left r.rows) (next led_there.0) ∙ lead_whole left g past led_there.1 (omega (arith, le, counted)) in
+          ap (λ (r : Reading Segment). leading left r.rows) (next there.0) ∙ lead_whole left g past there.1 (omega (arith, le, counted)) in
           record {
+            whole = h.whole;
             within = led_fits;
             read = ap (λ (r : Reading Segment). r.verdict) more_read;
-            good = sym (ap (λ (r : Reading Segment). r.verdict) (next led_there.0)) ∙ h.good;
+            good = sym (ap (λ (r : Reading Segment). r.verdict) (next there.0)) ∙ h.good;
             rows =
                 h.rows
                 ∙ ap (λ (l : List Segment). front ++ l) rest
@@ -166,11 +168,13 @@ module _ (s : List ℕ) (need : ℕ) where
           }
 
       -- it is split
-      pub led_split : left < route_count (get_or s at 0) (get_or s (at + 1) 0) → get_or s (at + 1) 0 < 256 → Leads s need (record { end = at; split = left; segments = m; numbers = n })
+      pub led_split : left < route_count (get_or s lead.end 0) (get_or s (lead.end + 1) 0) → get_or s (lead.end + 1) 0 < 256
+          → Leads s need (record { end = lead.end; split = left; segments = lead.segments; numbers = lead.numbers })
       led_split lt byte =
+          let at = lead.end in
           let k : ℕ = get_or s (at + 1) 0 in
           let past : List Segment = (old_path (drop (at + (2 + span 2 k)) s)).rows in
-          let f = lead_split left (here s at) past led_there.1 (omega (arith, lt, counted)) in
+          let f = lead_split left (here s at) past there.1 (omega (arith, lt, counted)) in
           let fewer : left < k = omega (arith, f.2, asns_length 2 s at) in
           record {
             front = record {
@@ -184,6 +188,6 @@ module _ (s : List ℕ) (need : ℕ) where
             };
             rows =
                 h.rows
-                ∙ ap (λ (r : Reading Segment). (old_path (take at s)).rows ++ leading left r.rows) (next led_there.0)
+                ∙ ap (λ (r : Reading Segment). (old_path (take at s)).rows ++ leading left r.rows) (next there.0)
                 ∙ ap (λ (l : List Segment). (old_path (take at s)).rows ++ l) (f.0 ∙ sym (split_is s at left f.1 (omega (arith, fewer))));
           }

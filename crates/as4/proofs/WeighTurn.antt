@@ -17,8 +17,8 @@ use Rattle.paths.specs.Segment.{Segment, known_type, segment_at, segment_of, pat
 use Rattle.paths.specs.Promises.{count_in}
 use Rattle.paths.proofs.SegmentLaws.{segment_sound, segment_taken, counted_taken, counted_refused, length_numbers}
 use Rattle.paths.proofs.PathTurn.{kind_is}
-use Rattle.as4.specs.Merge.{route_len_of, kept}
-use Rattle.as4.specs.Private.{kept_count, route_count, weighed}
+use Rattle.as4.specs.Merge.{kept}
+use Rattle.as4.specs.Private.{kept_count, route_count, weight_of, weighed}
 use Rattle.as4.specs.declared.Weight.{Weight}
 use Rattle.as4.proofs.SegmentLaws.{count_most, route_most, route_tally, kept_segments, kept_numbers}
 use Rattle.as4.proofs.PromiseLaws.{fault_short, weighed_good, weighed_bad}
@@ -85,12 +85,13 @@ pub record Weighing (w : ℕ) (s : List ℕ) (at : ℕ) (weight : Weight) : Type
   pub segments : WeighedTo kept_one w s at weight.segments
   pub numbers : WeighedTo kept_all w s at weight.numbers
 
-module _ (w : ℕ) (pos : 0 < w) (s : List ℕ) where
-  -- what is kept of a path has no more segments, and no more numbers, than bytes
-  pub kept_few : (length (kept (path_of known_type w s).rows) ≤ length s) × (length (flat asns_of (kept (path_of known_type w s).rows)) ≤ length s)
-  kept_few =
-      (omega (arith, weight_few kept_one kept_one_small w pos s, kept_segments (path_of known_type w s).rows), omega (arith, weight_few kept_all kept_all_small w pos s, kept_numbers (path_of known_type w s).rows))
+-- what is kept of a path has no more segments, and no more numbers, than bytes
+pub kept_few : (w : ℕ) → 0 < w → (s : List ℕ) → (length (kept (path_of known_type w s).rows) ≤ length s) × (length (flat asns_of (kept (path_of known_type w s).rows)) ≤ length s)
+kept_few w pos s =
+    let rows = (path_of known_type w s).rows in
+    (omega (arith, weight_few kept_one kept_one_small w pos s, kept_segments rows), omega (arith, weight_few kept_all kept_all_small w pos s, kept_numbers rows))
 
+module _ {w : ℕ} (pos : 0 < w) {s : List ℕ} where
   pub weighing_start : Weighing w s 0 (record { route_len = 0; segments = 0; numbers = 0 })
   weighing_start = record {
     counted = weigh_start route_count route_most w pos s;
@@ -98,35 +99,38 @@ module _ (w : ℕ) (pos : 0 < w) (s : List ℕ) where
     numbers = weigh_start kept_all kept_all_small w pos s;
   }
 
-  module _ (at : ℕ) (weight : Weight) (h : Weighing w s at weight) where
-    -- no count is over that of the bytes
-    pub weighing_few : length s ≤ list_limit → (weight.route_len ≤ list_limit) × (weight.segments ≤ list_limit) × (weight.numbers ≤ list_limit)
-    weighing_few short = (omega (arith, h.counted.few, h.counted.within, short), omega (arith, h.segments.few, h.segments.within, short), omega (arith, h.numbers.few, h.numbers.within, short))
-
+  module _ {at : ℕ} {weight : Weight} (h : Weighing w s at weight) where
     -- what a call on the part from `at` on says of the step there
     here : (x : Result ℕ Refusal) → x ≡ count_in (segment_of known_type w tt (take (length s - at) (drop at s))) → count_in (segment_of known_type w tt (drop at s)) ≡ x
     here x e = sym (rw rest at e)
 
+    -- after a segment of k numbers; no count is over that of the bytes
     pub weighing_next : (k : ℕ) → Ok k ≡ count_in (segment_of known_type w tt (take (length s - at) (drop at s)))
-        → Weighing w s (at + (2 + span w k)) (record { route_len = weight.route_len + route_count (get_or s at 0) k; segments = weight.segments + kept_count (get_or s at 0) 1; numbers = weight.numbers + kept_count (get_or s at 0) k })
-    weighing_next k e = record {
-      counted = weigh_next route_count route_most w pos s at weight.route_len h.counted k (here _ e);
-      segments = weigh_next kept_one kept_one_small w pos s at weight.segments h.segments k (here _ e);
-      numbers = weigh_next kept_all kept_all_small w pos s at weight.numbers h.numbers k (here _ e);
-    }
+        → let next : Weight = record { route_len = weight.route_len + route_count (get_or s at 0) k; segments = weight.segments + kept_count (get_or s at 0) 1; numbers = weight.numbers + kept_count (get_or s at 0) k } in
+        Weighing w s (at + (2 + span w k)) next × (at + (2 + span w k) ≤ length s) × (next.route_len ≤ length s) × (next.segments ≤ length s) × (next.numbers ≤ length s)
+    weighing_next k e =
+        let counted = weigh_next route_count route_most w pos s at weight.route_len h.counted k (here _ e) in
+        let segments = weigh_next kept_one kept_one_small w pos s at weight.segments h.segments k (here _ e) in
+        let numbers = weigh_next kept_all kept_all_small w pos s at weight.numbers h.numbers k (here _ e) in
+        (
+          record { counted = counted; segments = segments; numbers = numbers },
+          counted.within,
+          omega (arith, counted.few, counted.within),
+          omega (arith, segments.few, segments.within),
+          omega (arith, numbers.few, numbers.within),
+        )
 
     pub weighing_stop : (r : Refusal) → length s ≤ list_limit → at < length s → Err r ≡ count_in (segment_of known_type w tt (take (length s - at) (drop at s)))
-        → Err r ≡ weighed s (path_of known_type w s)
+        → ◌≡◌ {A = Result Weight Refusal} (Err r) (weighed s (path_of known_type w s))
     weighing_stop r short lt e =
         sym (weighed_bad s (path_of known_type w s) r (fault_short s (path_of known_type w s) short ∙ weigh_stop route_count route_most w pos s at weight.route_len h.counted r lt (here _ e)))
 
     pub weighing_done : length s ≤ list_limit → length s ≤ at → Ok weight ≡ weighed s (path_of known_type w s)
     weighing_done short le =
         let r = path_of known_type w s in
-        let a = weigh_done route_count route_most w pos s at weight.route_len h.counted le in
-        let b = weigh_done kept_one kept_one_small w pos s at weight.segments h.segments le in
-        let d = weigh_done kept_all kept_all_small w pos s at weight.numbers h.numbers le in
-        let ec : route_len_of r.rows ≡ weight.route_len = sym (route_tally r.rows) ∙ a.1 in
-        let em : length (kept r.rows) ≡ weight.segments = sym (kept_segments r.rows) ∙ b.1 in
-        let en : length (flat asns_of (kept r.rows)) ≡ weight.numbers = sym (kept_numbers r.rows) ∙ d.1 in
-        sym (weighed_good s r (fault_short s r short ∙ a.0) ∙ ap₃ (λ (x y z : ℕ). Ok (record { route_len = x; segments = y; numbers = z })) ec em en)
+        let counted = weigh_done route_count route_most w pos s at weight.route_len h.counted le in
+        let segments = weigh_done kept_one kept_one_small w pos s at weight.segments h.segments le in
+        let numbers = weigh_done kept_all kept_all_small w pos s at weight.numbers h.numbers le in
+        let same : weight_of r.rows ≡ weight =
+        rw (sym (route_tally r.rows) ∙ counted.1, sym (kept_segments r.rows) ∙ segments.1, sym (kept_numbers r.rows) ∙ numbers.1) in
+        sym (weighed_good s r (fault_short s r short ∙ counted.0) ∙ ap Ok same)

@@ -188,32 +188,29 @@ fn leading_part(as_path: &[u8], need: usize) -> Leading
     requires short { length as_path.now ≤ list_limit }
     ensures { Leads as_path.now need result }
 {
-    let mut at: usize = 0;
+    let mut lead = Leading {
+        end: 0,
+        split: 0,
+        segments: 0,
+        numbers: 0,
+    };
     let mut left = need;
-    let mut segments: usize = 0;
-    let mut numbers: usize = 0;
-    while goes_on(as_path, at, left) {
-        let n = as_path[at + 1];
-        let counted = route_len(as_path[at], n as usize);
+    while goes_on(as_path, lead.end, left) {
+        let kind = as_path[lead.end];
+        let n = as_path[lead.end + 1];
+        let counted = route_len(kind, usize::from(n));
         if left < counted {
             return Leading {
-                end: at,
                 split: left,
-                segments,
-                numbers,
+                ..lead
             };
         }
-        at = at + (2 + asns::numbers_size(n as u16, AsnLength::Bits16));
-        left = left - counted;
-        segments = segments + 1;
-        numbers = numbers + n as usize;
+        left -= counted;
+        lead.end += paths::segment_size(n, AsnLength::Bits16);
+        lead.segments += 1;
+        lead.numbers += usize::from(n);
     }
-    Leading {
-        end: at,
-        split: 0,
-        segments,
-        numbers,
-    }
+    lead
 }
 
 // The first n numbers of the segment at a place, and a pair of its type and n, to places of the stores.

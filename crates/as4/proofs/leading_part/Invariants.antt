@@ -3,8 +3,8 @@ use lib.ListN.{length}
 use Rattle.as4.proofs.LeadTurn.{LedTo}
 use Rattle.as4.proofs.leading_part.Given as goal
 
-abbrev pub invariant-loop-n : goal.invariant-loop-n
-invariant-loop-n l = LedTo l.as_path l.need l.at l.left l.segments l.numbers
+abbrev pub invariant-loop-kind : goal.invariant-loop-kind
+invariant-loop-kind l = LedTo l.as_path l.need l.left l.lead
 
-abbrev pub decreases-loop-n : goal.decreases-loop-n
-decreases-loop-n l = length l.as_path - l.at
+abbrev pub decreases-loop-kind : goal.decreases-loop-kind
+decreases-loop-kind l = length l.as_path - l.lead.end

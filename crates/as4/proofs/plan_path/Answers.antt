@@ -1,42 +1,64 @@
-use Prim.Native.Nat.{◌<◌}
-use mathlib.Core.Path.{◌≡◌, sym, ap, subst, ◌∙◌}
+use mathlib.Core.Path.{sym, ◌∙◌}
 use native.Mathlib.Omega.{arith}
-use Rattle.wire.specs.Walk.{Reading}
-use Rattle.paths.specs.Segment.{Segment}
-use Rattle.as4.specs.Standing.{sizes_fault}
-use Rattle.as4.specs.Promises.{old_path}
-use Rattle.as4.specs.Private.{Planned}
-use Rattle.as4.proofs.PromiseLaws.{weight_says, refused_says}
+use borrow.Author.Tests.{eqb-true}
+use Rattle.std.proofs.lemmas.Result.{err_from_is_err_and}
+use Rattle.as4.proofs.PromiseLaws.{no_fault, refused_says}
+use Rattle.as4.proofs.SegmentLaws.{one_most}
 use Rattle.as4.proofs.PlanLaws as plan
+use Rattle.as4.proofs.PlanLaws.{built_planned, weighs}
 use Rattle.as4.proofs.plan_path.Goals as goal
 
-pub returns-then-fault-ne0 : goal.returns-then-fault-ne0
-returns-then-fault-ne0 c = let a = c.args in let pos : 0 < c.sizes_fault-fault.result = omega (arith, c.if-fault-ne0.true) in (plan.built_sizes a.as_path.now a.as4_path.now a.aggregator.now a.as4_aggregator.now _ c.sizes_fault-fault.ensures pos, pos)
-
-pub returns-then-as4_path-eq0 : goal.returns-then-as4_path-eq0
-returns-then-as4_path-eq0 c =
-    let sized : let a = c.args in 0 ≡ sizes_fault a.aggregator.now a.as4_aggregator.now = sym c.if-fault-ne0.false ∙ c.sizes_fault-fault.ensures in
-    let a = c.args in plan.built_absent a.as_path.now a.as4_path.now a.aggregator.now a.as4_aggregator.now sized c.if-as4_path-eq0.true
-
-pub plan_by-requires : goal.plan_by-requires
-plan_by-requires c =
+pub returns-in_err-sizes_fault : goal.returns-in_err-sizes_fault
+returns-in_err-sizes_fault c =
     let a = c.args in
-    let w = weight_says a.as_path.now (old_path a.as_path.now) _ _ _ (sym c.weigh.ensures ∙ c.in-Weight.is) in
-    record {
-      as_path_value = w.0;
-      as_path_value_2 = w.1;
-    }
+    let why = err_from_is_err_and c.from_residual.result c.from_residual.ensures.1 in
+    rw (why.1, why.2) (plan.built_sizes a.as_path.now a.as4_path.now a.aggregator.now a.as4_aggregator.now _ c.in_err-sizes_fault.ensures)
 
-pub returns-in-Weight : goal.returns-in-Weight
-returns-in-Weight c =
-    let sized : let a = c.args in 0 ≡ sizes_fault a.aggregator.now a.as4_aggregator.now = sym c.if-fault-ne0.false ∙ c.sizes_fault-fault.ensures in
+pub returns-then-is_empty : goal.returns-then-is_empty
+returns-then-is_empty c =
     let a = c.args in
-    subst (λ (r : Reading Segment). Planned r a.as_path.now a.as4_path.now c.plan_by.result) (plan.built_by a.as_path.now a.as4_path.now a.aggregator.now a.as4_aggregator.now _ sized c.ignores_as4_path-ignores.ensures) c.plan_by.ensures
+    plan.built_absent a.as_path.now a.as4_path.now a.aggregator.now a.as4_aggregator.now c.in_ok-sizes_fault.ensures (eqb-true _ _ (sym c.is_empty.ensures ∙ c.if-is_empty.true))
 
-pub returns-in-Refused : goal.returns-in-Refused
-returns-in-Refused c =
-    let sized : let a = c.args in 0 ≡ sizes_fault a.aggregator.now a.as4_aggregator.now = sym c.if-fault-ne0.false ∙ c.sizes_fault-fault.ensures in
+pub returns-in_err-old : goal.returns-in_err-old
+returns-in_err-old c =
     let a = c.args in
-    let f = refused_says a.as_path.now (old_path a.as_path.now) _ (sym c.weigh.ensures ∙ c.in-Refused.is) in
-    let verdict = ap (λ (r : Reading Segment). r.verdict) (plan.built_both a.as_path.now a.as4_path.now a.aggregator.now a.as4_aggregator.now sized) ∙ plan.both_first _ a.as_path.now a.as4_path.now _ f.0 f.1 in
-    (verdict, f.1)
+    let why = err_from_is_err_and c.from_residual-in_err-old.result c.from_residual-in_err-old.ensures.1 in
+    rw (why.1, why.2)
+    (built_planned _ c.in_ok-sizes_fault.ensures c.ignores_as4_path-ignores.ensures
+    (plan.both_first _ a.as_path.now a.as4_path.now _ (refused_says _ _ _ (sym c.in_err-old.ensures))))
+
+pub returns-in_err-new : goal.returns-in_err-new
+returns-in_err-new c =
+    let a = c.args in
+    let old = weighs _ _ _ c.in_ok-old.ensures in
+    let why = err_from_is_err_and c.from_residual-in_err-new.result c.from_residual-in_err-new.ensures.1 in
+    rw (why.1, why.2)
+    (built_planned _ c.in_ok-sizes_fault.ensures c.ignores_as4_path-ignores.ensures
+    (plan.both_verdict _ a.as_path.now a.as4_path.now old.good ∙ refused_says _ _ _ (sym c.in_err-new.ensures)))
+
+pub returns-then-stands_alone : goal.returns-then-stands_alone
+returns-then-stands_alone c =
+    built_planned _ c.in_ok-sizes_fault.ensures c.ignores_as4_path-ignores.ensures
+    (plan.weighs_alone _ (weighs _ _ _ c.in_ok-old.ensures) (weighs _ _ _ c.in_ok-new.ensures) (sym c.stands_alone.ensures ∙ c.if-stands_alone.true))
+
+pub leading_part-lead-requires : goal.leading_part-lead-requires
+leading_part-lead-requires c =
+    let read = no_fault _ _ (weighs _ _ _ c.in_ok-old.ensures).good in
+    record { good = read.1; short = read.0 }
+
+pub overflow_add-path-2 : goal.overflow_add-path-2
+overflow_add-path-2 c =
+    let few = plan.weighs_few _ (weighs _ _ _ c.in_ok-old.ensures) (weighs _ _ _ c.in_ok-new.ensures) (sym c.stands_alone.ensures ∙ c.if-stands_alone.false) c.leading_part-lead.ensures in
+    omega (arith, few, c.split_count.ensures, one_most c.leading_part-lead.result.split)
+
+pub overflow_add-path-4 : goal.overflow_add-path-4
+overflow_add-path-4 c =
+    omega (
+      arith,
+      plan.weighs_few _ (weighs _ _ _ c.in_ok-old.ensures) (weighs _ _ _ c.in_ok-new.ensures) (sym c.stands_alone.ensures ∙ c.if-stands_alone.false) c.leading_part-lead.ensures,
+    )
+
+pub returns : goal.returns
+returns c =
+    built_planned _ c.in_ok-sizes_fault.ensures c.ignores_as4_path-ignores.ensures
+    (plan.weighs_made _ (weighs _ _ _ c.in_ok-old.ensures) (weighs _ _ _ c.in_ok-new.ensures) (sym c.stands_alone.ensures ∙ c.if-stands_alone.false) c.leading_part-lead.ensures _ c.split_count.ensures)
