@@ -3,7 +3,7 @@
 use Prim.Native.Nat.{ℕ, zero, suc, ◌+◌, ◌-◌, ◌≤◌, ◌<◌}
 use mathlib.Core.Path.{◌≡◌, refl, sym, ap, ap₂, ◌∙◌}
 use mathlib.Core.List.{List, [], ◌∷◌, ◌++◌, append_assoc, append-nil}
-use mathlib.Core.Bool.{Bool, true, false}
+use mathlib.Core.Bool.{true, false}
 use mathlib.Core.Logic.{◌⊎◌, ⊎_elim, inl, inr}
 use borrow.Author.Tests.{lt-ltb, ltb-true, ltb-false}
 use native.Mathlib.Decide.{dec_le}
@@ -121,12 +121,11 @@ module _ {s : List ℕ} {need : ℕ} where
       -- a segment stands there, and is to be taken
       there : (lead.end < length s) × (is_confed (here s lead.end) ≡ true ⊎ 0 < left)
       there =
-          let both = and_true _ _ on in
-          (
+          let both = and_true _ _ on in (
             ltb-true lead.end (length s) both.0,
             ⊎_elim (λ (pos : ltb 0 left ≡ true). inr (ltb-true 0 left pos))
-            (λ (confed : leb confed_sequence (get_or s lead.end 0) ≡ true). inl (ap (leb confed_sequence) (kind_is 2 s lead.end) ∙ confed))
-            (either_true _ _ both.1),
+                (λ (confed : leb confed_sequence (get_or s lead.end 0) ≡ true). inl (ap (leb confed_sequence) (kind_is 2 s lead.end) ∙ confed))
+                (either_true _ _ both.1),
           )
 
       pub led_fits : lead.end + (2 + span 2 (get_or s (lead.end + 1) 0)) ≤ length s

@@ -153,9 +153,9 @@ built_good path four first second good =
     from false = merged_comes (old_path path).rows (new_path four).rows
 
 -- what is planned of both, by a test of the AGGREGATORs
-pub built_planned : {path four first second : List ℕ} {ignores : Bool} (r : Result Plan Refusal) → fine ≡ sizes_fault first second → ignores ≡ ignored first second
+pub built_planned : (path four first second : List ℕ) {ignores : Bool} (r : Result Plan Refusal) → fine ≡ sizes_fault first second → ignores ≡ ignored first second
     → Planned (both_of ignores path four) path four r → Planned (built_of path four first second) path four r
-built_planned {path} {four} {first} {second} r good e =
+built_planned path four first second r good e =
     subst (λ (x : Reading Segment). Planned x path four r) (ap (λ (t : Bool). both_of t path four) e ∙ sym (built_both path four first second good))
 
 -- ---- how many segments and numbers a front and what follows it have

@@ -6,7 +6,7 @@ use mathlib.Core.List.{List}
 use native.Mathlib.Omega.{arith}
 use borrow.Author.Tests.{le-leb, lt-leb}
 use lib.ListN.{length}
-use Rattle.std.specs.Prelude.{Result, Ok, Err}
+use Rattle.std.specs.Prelude.{Ok, Err}
 use Rattle.wire.specs.Refusal.{list_limit}
 use Rattle.wire.specs.Verdict.{Verdict, fine, unless}
 use Rattle.wire.specs.Walk.{Reading}

@@ -3,7 +3,7 @@
 use Prim.Native.Nat.{ℕ}
 use mathlib.Core.Path.{◌≡◌, ap, ◌∙◌}
 use mathlib.Core.List.{List}
-use Rattle.std.specs.Prelude.{Result, Ok, Err}
+use Rattle.std.specs.Prelude.{Ok, Err}
 use Rattle.wire.specs.Verdict.{Verdict, fine, unless}
 use Rattle.wire.specs.declared.refusal.Refusal.{Refusal}
 use Rattle.as4.specs.Standing.{sizes_fault, stands, standing}

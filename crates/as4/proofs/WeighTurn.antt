@@ -111,8 +111,7 @@ module _ {w : ℕ} (pos : 0 < w) {s : List ℕ} where
     weighing_next k e =
         let counted = weigh_next route_count route_most w pos s at weight.route_len h.counted k (here _ e) in
         let segments = weigh_next kept_one kept_one_small w pos s at weight.segments h.segments k (here _ e) in
-        let numbers = weigh_next kept_all kept_all_small w pos s at weight.numbers h.numbers k (here _ e) in
-        (
+        let numbers = weigh_next kept_all kept_all_small w pos s at weight.numbers h.numbers k (here _ e) in (
           record { counted = counted; segments = segments; numbers = numbers },
           counted.within,
           omega (arith, counted.few, counted.within),

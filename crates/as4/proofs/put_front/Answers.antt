@@ -1,14 +1,17 @@
-use mathlib.Core.Path.{◌∙◌}
+use mathlib.Core.Path.{sym, ◌∙◌}
+use borrow.Author.Tests.{eqb-true}
+use lib.ListN.{length}
 use Rattle.paths.specs.Segment.{pair_of, asns_of}
 use Rattle.as4.proofs.FrontLaws as front
 use Rattle.as4.proofs.put_front.Goals as goal
 
-pub returns-then-front-eq0 : goal.returns-then-front-eq0
-returns-then-front-eq0 c =
+pub returns-then-is_empty : goal.returns-then-is_empty
+returns-then-is_empty c =
     let a = c.args in
+    let none = eqb-true (length a.front.now) 0 (sym c.is_empty.ensures ∙ c.if-is_empty.true) in
     record {
-      pairs = front.front_none pair_of a.pairs.now a.front.now c.if-front-eq0.true;
-      numbers = front.front_none asns_of a.numbers.now a.front.now c.if-front-eq0.true;
+      pairs = front.front_none pair_of a.pairs.now a.front.now none;
+      numbers = front.front_none asns_of a.numbers.now a.front.now none;
     }
 
 pub returns : goal.returns

@@ -13,7 +13,7 @@ pub returns : goal.returns
 returns c =
     let a = c.args in
     let size = c.numbers_size in record {
-      pairs = put_two a.pairs.now a.pair _ _ (get_or a.value.now a.at 0) a.n c.wide.ensures c.wide-2.ensures c.requires.pair_in_bounds;
+      pairs = put_two a.pairs.now a.pair _ _ (get_or a.value.now a.at 0) a.n c.from.ensures c.from-2.ensures c.requires.pair_in_bounds;
       numbers =
           put_asns (width_of a.width) a.value.now (a.at + 2) (a.at + 2 + size.result) a.n (omega (arith, size.ensures)) (omega (arith, size.ensures, c.requires.n_in_bounds)) a.numbers.now _ a.to (a.to + a.n) refl
           c.requires.n_in_bounds_2 c.read_asns.ensures;
