@@ -6,10 +6,12 @@ use mathlib.Core.List.{List, ◌++◌}
 use native.Mathlib.Omega.{arith}
 use lib.ListN.{length, get_or, take, drop, length-drop}
 use lib.Seq.{drop-drop, get_or-drop}
+use Rattle.std.specs.Prelude.{Result, Ok, Err}
 use Rattle.wire.specs.Store.{laid}
 use Rattle.wire.proofs.StoreLaws.{length_laid, laid_laid}
 use Rattle.wire.proofs.Turn.{rest, Filled, fill_start, fill_fits, fill_step, fill_takes, fill_never, fill_done}
 use Rattle.wire.specs.Walk.{read_all, took, stop, flat}
+use Rattle.wire.specs.declared.refusal.Refusal.{Refusal}
 use Rattle.families.specs.Family.{max_of, id_size, guess_mark, octets}
 use Rattle.families.specs.Octets.{table_of, entry}
 use Rattle.families.proofs.FamilyLaws.{max_small}
@@ -26,8 +28,7 @@ use Rattle.routes.proofs.ListLaws.{fair, sound, step_form, step_taken, step_took
 use Rattle.routes.proofs.TableLaws.{end_same, step_family}
 use Rattle.routes.proofs.Carried.{Behind, behind_start, behind_long, behind_next}
 use Rattle.routes.specs.declared.Row.{Row}
-use Rattle.routes.specs.declared.StepAnswer.{StepAnswer}
-use Rattle.routes.specs.declared.StepAnswer.TheVariants as S
+use Rattle.routes.specs.declared.Item.{Item}
 use Rattle.route_reader.specs.Private.{head_words, address_words, Octets, Fitting}
 use Rattle.route_reader.proofs.WordsLaws.{item_words}
 
@@ -67,8 +68,8 @@ module _ (max : ℕ) (mode : AddPath) (st₀ : Form) (s d₀ : List ℕ) where
     pub held_done : length left ≤ n → d ≡ laid d₀ 0 (flat words (read_all (step_of max mode) st₀ s).rows)
     held_done le = fill_done (step_of max mode) (sound max mode) words st₀ s d₀ st h.at to d h.filled (omega (arith, long))
 
-    held_never : (k : ℕ) → n < length left → step_of max mode st (drop n left) ≡ stop k → ⊥
-    held_never k lt e = fill_never (step_of max mode) (sound max mode) words st₀ s d₀ st h.at to d h.filled k (omega (arith, long)) (ap (step_of max mode st) (sym h.behind.is) ∙ e)
+    held_never : (why : Refusal) → n < length left → step_of max mode st (drop n left) ≡ stop why → ⊥
+    held_never why lt e = fill_never (step_of max mode) (sound max mode) words st₀ s d₀ st h.at to d h.filled why (omega (arith, long)) (ap (step_of max mode st) (sym h.behind.is) ∙ e)
 
     -- the item that a step takes
     pub turn_by : (used : ℕ) (form : Form) → step_of max mode st (drop n left) ≡ took used (marked (guess_mark mode form) (item_row form (take used (drop n left)))) form
@@ -118,8 +119,8 @@ fitting_form s max form d h = rw (list_fixed (up_to max) s form) at h
 
 module _ (max : ℕ) (form : Form) (s d₀ left : List ℕ) (n to : ℕ) (d : List ℕ) (h : Held max (fixed form) form s d₀ left n form to d) where
   -- the item that stands next
-  item : n < length left → (used : ℕ) × (row : Row) × (step_of max (fixed form) form (drop n left) ≡ took used row form) × Took (drop n left) max form used (item_row form (take used (drop n left)))
-  item lt =
+  item_here : n < length left → (used : ℕ) × (row : Row) × (step_of max (fixed form) form (drop n left) ≡ took used row form) × Took (drop n left) max form used (item_row form (take used (drop n left)))
+  item_here lt =
       let x = fill_takes (step_of max (fixed form)) (sound max (fixed form)) words form s d₀ form h.at to d h.filled (omega (arith, lt, behind_long s left n h.at h.behind)) in
       let step = ap (step_of max (fixed form) form) h.behind.is ∙ x.3 in
       let same : x.2 ≡ form = sym (step_form (up_to max) (fixed form) form x.2 (drop n left) x.0 x.1 step) ∙ fixed_form (up_to max) form form (drop n left) in
@@ -127,13 +128,13 @@ module _ (max : ℕ) (form : Form) (s d₀ left : List ℕ) (n to : ℕ) (d : Li
 
   -- its id and its length byte are there
   pub front_there : n < length left → n + id_size form < length left
-  front_there lt = omega (arith, lt, (item lt).3.there, length-drop n left)
+  front_there lt = omega (arith, lt, (item_here lt).3.there, length-drop n left)
 
   -- it has the octets that the table says
   pub turn_form : n < length left → max < 256 → (counts : List ℕ) → counts ≡ table_of max → (b m : ℕ) → b ≡ id_size form + 1 → m ≡ entry counts (get_or left (n + id_size form) 0)
       → Turn max (fixed form) form s d₀ left n to d form b m
   turn_form lt small counts table b m bytes says =
-      let x = item lt in
+      let x = item_here lt in
       let t = x.3 in
       let said : entry (table_of max) (get_or (drop n left) (id_size form) 0) ≡ m =
       ap₂ (λ (l : List ℕ) (i : ℕ). entry l i) (sym table) (get_or-drop n left (id_size form) 0) ∙ sym says in
@@ -149,32 +150,24 @@ turn_read afi {form = form} {s = s} {d₀ = d₀} {left = left} {n = n} {to = to
 
 -- ---- whichever items a step takes, by a family's table
 
-module _ (afi : Afi) (mode : AddPath) (st₀ : Form) (s d₀ left : List ℕ) (n : ℕ) (st : Form) (to : ℕ) (d : List ℕ) (h : Held (max_of afi) mode st₀ s d₀ left n st to d) (counts : List ℕ)
-    (table : counts ≡ table_of (max_of afi)) (r : StepAnswer) (told : r ≡ sized (step_by (by_table counts) mode st (drop n left))) where
-  step : r ≡ sized (step_of (max_of afi) mode st (drop n left))
-  step = told ∙ ap sized (step_family counts afi table mode st (drop n left))
+module _ (afi : Afi) (mode : AddPath) {st₀ : Form} {s d₀ left : List ℕ} {n : ℕ} {st : Form} {to : ℕ} {d counts : List ℕ} (table : counts ≡ table_of (max_of afi)) (h : Held (max_of afi) mode st₀ s d₀ left n st to d) where
+  told : (r : Result Item Refusal) → r ≡ sized (step_by (by_table counts) mode st (drop n left)) → r ≡ sized (step_of (max_of afi) mode st (drop n left))
+  told r e = e ∙ ap sized (step_family counts afi table mode st (drop n left))
 
-  pub turn_step : (used : ℕ) (form : Form) → r ≡ S.Item used form → (b : ℕ) → b ≡ id_size form + 1 → (b ≤ used) × Turn (max_of afi) mode st₀ s d₀ left n to d form b (used - b)
-  turn_step used form e b bytes =
-      let took = turn_took (up_to (max_of afi)) (drop n left) mode st r step (fair (max_of afi)) used form e in
-      let enough : b ≤ used = omega (arith, bytes, (step_took (max_of afi) mode st form (drop n left) used _ took).size) in
-      (enough, turn_by (max_of afi) mode st₀ s d₀ left n st to d h used form took b (used - b) bytes (omega arith))
+  pub turn_taken : {item : Item} → Ok item ≡ sized (step_by (by_table counts) mode st (drop n left)) → (b : ℕ) → id_size item.form + 1 ≡ b
+      → (b ≤ item.used) × Turn (max_of afi) mode st₀ s d₀ left n to d item.form b (item.used - b)
+  turn_taken {item = item} e b bytes =
+      let step = turn_took (up_to (max_of afi)) (drop n left) mode st (fair (max_of afi)) item (told (Ok item) e) in
+      let enough : b ≤ item.used = omega (arith, bytes, (step_took (max_of afi) mode st item.form (drop n left) item.used _ step).size) in
+      (enough, turn_by (max_of afi) mode st₀ s d₀ left n st to d h item.used item.form step b (item.used - b) (sym bytes) (omega arith))
+
+  -- in a form, which has so many bytes before its octets
+  pub turn_in : {item : Item} → Ok item ≡ sized (step_by (by_table counts) mode st (drop n left)) → (known : Form) → item.form ≡ known
+      → let b = id_size known + 1 in (b ≤ item.used) × (n + item.used ≤ length left) × (length left ≤ length s) × Left (max_of afi) mode st₀ s d₀ left n to d item.form (from left (n + b)) (item.used - b)
+  turn_in {item = item} e known is =
+      let t = turn_taken e _ (ap (λ (f : Form). id_size f + 1) is) in
+      (t.0, omega (arith, t.0, t.1.inside), h.behind.part, t.1.leaves)
 
   -- and none refuses
-  pub step_never : n < length left → (why : ℕ) → r ≡ S.Refused why → ⊥
-  step_never lt why e = held_never (max_of afi) mode st₀ s d₀ left n st to d h why lt (turn_refused (up_to (max_of afi)) (drop n left) mode st r step why e)
-
--- the same, as a loop comes by it
-pub turn_taken : (afi : Afi) (mode : AddPath) {st₀ : Form} {s d₀ left : List ℕ} {n : ℕ} {st : Form} {to : ℕ} {d counts : List ℕ} {r : StepAnswer} {used : ℕ} {form : Form}
-    → counts ≡ table_of (max_of afi) → Held (max_of afi) mode st₀ s d₀ left n st to d → r ≡ sized (step_by (by_table counts) mode st (drop n left)) → r ≡ S.Item used form
-    → (b : ℕ) → id_size form + 1 ≡ b → (b ≤ used) × Turn (max_of afi) mode st₀ s d₀ left n to d form b (used - b)
-turn_taken afi mode {st₀ = st₀} {s = s} {d₀ = d₀} {left = left} {n = n} {st = st} {to = to} {d = d} {counts = counts} {r = r} {used = used} {form = form} table h told e b bytes =
-    turn_step afi mode st₀ s d₀ left n st to d h counts table r told used form e b (sym bytes)
-
--- in a form, which has so many bytes before its octets
-pub turn_in : (afi : Afi) (mode : AddPath) {st₀ : Form} {s d₀ left : List ℕ} {n : ℕ} {st : Form} {to : ℕ} {d counts : List ℕ} {r : StepAnswer} {used : ℕ} {form : Form}
-    → counts ≡ table_of (max_of afi) → Held (max_of afi) mode st₀ s d₀ left n st to d → r ≡ sized (step_by (by_table counts) mode st (drop n left)) → r ≡ S.Item used form
-    → (known : Form) → form ≡ known → let b = id_size known + 1 in (b ≤ used) × (n + used ≤ length left) × (length left ≤ length s) × Left (max_of afi) mode st₀ s d₀ left n to d form (from left (n + b)) (used - b)
-turn_in afi mode {left = left} {n = n} {used = used} table h told e known is =
-    let t = turn_taken afi mode table h told e _ (ap (λ (f : Form). id_size f + 1) is) in
-    (t.0, omega (arith, t.0, t.1.inside), h.behind.part, t.1.leaves)
+  pub step_never : n < length left → (why : Refusal) → Err why ≡ sized (step_by (by_table counts) mode st (drop n left)) → ⊥
+  step_never lt why e = held_never (max_of afi) mode st₀ s d₀ left n st to d h why lt (turn_refused (up_to (max_of afi)) (drop n left) mode st why (told (Err why) e))

@@ -1,9 +1,11 @@
 -- Two results that the promise of a call allows are equal, and so is what it leaves: of the ensures clauses themselves.
 use mathlib.Core.Path.{◌≡◌, sym, ap, ◌∙◌}
+use Rattle.std.specs.Prelude.{Result}
+use Rattle.wire.specs.declared.refusal.Refusal.{Refusal}
 use Rattle.families.specs.Family.{max_of}
 use Rattle.routes.specs.List.{section_of}
 use Rattle.route_reader.specs.Pair.{read_pair_first, read_pair_second}
-use Rattle.route_reader.specs.declared.PairAnswer.{PairAnswer}
+use Rattle.route_reader.specs.declared.Sections.{Sections}
 use Rattle.route_reader.proofs.parse_nlri_list.Reads as parse_nlri_list
 use Rattle.route_reader.proofs.read_nlri.Reads as read_nlri
 use Rattle.route_reader.proofs.read_nlri_pair.Reads as read_nlri_pair
@@ -23,6 +25,6 @@ tight_read_nlri_pair κs a z z' e e' p q =
     let mode = a.1.1.1.0 in
     let same = p.0 ∙ sym q.0 in (
       same,
-      p.1.0 ∙ ap (λ (r : PairAnswer). read_pair_first r (section_of a.0.now max mode) a.1.1.1.1.0.now) same ∙ sym q.1.0,
-      p.1.1 ∙ ap (λ (r : PairAnswer). read_pair_second r (section_of a.1.0.now max mode) a.1.1.1.1.1.0.now) same ∙ sym q.1.1,
+      p.1.0 ∙ ap (λ (r : Result Sections Refusal). read_pair_first r (section_of a.0.now max mode) a.1.1.1.1.0.now) same ∙ sym q.1.0,
+      p.1.1 ∙ ap (λ (r : Result Sections Refusal). read_pair_second r (section_of a.1.0.now max mode) a.1.1.1.1.1.0.now) same ∙ sym q.1.1,
     )

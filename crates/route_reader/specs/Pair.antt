@@ -1,6 +1,6 @@
 -- What the call on two sections answers and leaves: both, or neither store is touched.
-use Rattle.std.specs.Prelude.{ℕ, List, [], ◌∷◌, Bool, Result, Ok, Err}
-use Rattle.wire.specs.Answer.{Answer, refusal, meaning_of, filled}
+use Rattle.std.specs.Prelude.{ℕ, List, [], ◌∷◌, Result, Ok, Err}
+use Rattle.wire.specs.Answer.{Answer, refusal, meaning_of, count_meaning, filled}
 use Rattle.wire.specs.Choice.{pick}
 use Rattle.wire.specs.Refusal.{number_of}
 use Rattle.wire.specs.Walk.{Reading, flat}
@@ -8,7 +8,7 @@ use Rattle.wire.specs.declared.refusal.Refusal.{Refusal}
 use Rattle.wire.specs.declared.refusal.Refusal.TheVariants.{NoRoom}
 use Rattle.routes.specs.Prefix.{words}
 use Rattle.routes.specs.List.{up_to}
-use Rattle.routes.specs.Promises.{rows_in, hosts_in, verdict_in, count_section, has_room}
+use Rattle.routes.specs.Promises.{rows_alone, rows_in, hosts_in, verdict_in, count_section, has_room}
 use Rattle.families.specs.declared.AddPath.{AddPath}
 use Rattle.routes.specs.declared.Row.{Row}
 use Rattle.routes.specs.declared.Routes.{Routes}
@@ -20,25 +20,19 @@ abbrev pub sections_meaning : Result Sections Refusal → Answer
 sections_meaning =
     meaning_of (λ p. rows_in p.first ∷ verdict_in p.first ∷ rows_in p.second ∷ verdict_in p.second ∷ hosts_in p.first ∷ hosts_in p.second ∷ [])
 
--- a section by itself, and how many rows it has
-abbrev pub section_meaning : Result Routes Refusal → Answer
-section_meaning = meaning_of (λ r. r.rows ∷ [])
-
+-- each section by itself, and how many rows it has
 abbrev pub first_meaning : Result Sections Refusal → Answer
-first_meaning (Ok p) = section_meaning p.first
+first_meaning (Ok p) = count_meaning (rows_alone p.first)
 first_meaning (Err r) = refusal (number_of r)
 
 abbrev pub second_meaning : Result Sections Refusal → Answer
-second_meaning (Ok p) = section_meaning p.second
+second_meaning (Ok p) = count_meaning (rows_alone p.second)
 second_meaning (Err r) = refusal (number_of r)
-
--- a store of so many places has room for a section that was counted; one that is refused has no rows, and needs none
-abbrev pub room_for : Result Routes Refusal → ℕ → Bool
-room_for a places = has_room (Ok (rows_in a)) places
 
 -- each section as counted, where each good one has room
 unfoldable pub read_pair_by : Result Routes Refusal → Result Routes Refusal → ℕ → ℕ → Result Sections Refusal
-read_pair_by a b places places' = pick (room_for a places) (pick (room_for b places') (Ok (record { first = a; second = b })) (Err NoRoom)) (Err NoRoom)
+read_pair_by a b places places' =
+    pick (has_room (rows_alone a) places) (pick (has_room (rows_alone b) places') (Ok (record { first = a; second = b })) (Err NoRoom)) (Err NoRoom)
 
 unfoldable pub read_pair : List ℕ → List ℕ → ℕ → AddPath → ℕ → ℕ → Result Sections Refusal
 read_pair s t max mode places places' = read_pair_by (count_section (up_to max) s mode) (count_section (up_to max) t mode) places places'

@@ -2,8 +2,8 @@
 // then filled with no test of its bytes again: an address is read by whole words where they lie inside the list.
 #![tactic(auto)]
 
-ghost use Rattle.std.specs.Prelude.{◌≡◌, true, ◌+◌, ◌-◌, ◌≤◌, ◌<◌, [], ◌∷◌, length, take, drop};
-ghost use Rattle.wire.specs.Answer.{filled};
+ghost use Rattle.std.specs.Prelude.{◌≡◌, ◌+◌, ◌-◌, ◌/◌, ◌≤◌, ◌<◌, [], ◌∷◌, length, take, drop};
+ghost use Rattle.wire.specs.Answer.{count_meaning, filled};
 ghost use Rattle.wire.specs.Number.{be_at};
 ghost use Rattle.wire.specs.Store.{laid};
 ghost use Rattle.wire.specs.Walk.{flat};
@@ -14,9 +14,9 @@ ghost use Rattle.families.specs.declared.AddPath.TheVariants.{Guess};
 ghost use Rattle.routes.specs.Prefix.{words};
 ghost use Rattle.routes.specs.ByTable.{by_table};
 ghost use Rattle.routes.specs.List.{up_to, fixed, step_by, list_of, section_of};
-ghost use Rattle.routes.specs.Promises.{sized, count_section, read_list, read_section, store_after};
+ghost use Rattle.routes.specs.Promises.{sized, rows_alone, rows_in, count_section, read_list, read_section, store_after};
 ghost use Rattle.route_reader.specs.Private.{head_words, address_words, masks, Octets, Fitting};
-ghost use Rattle.route_reader.specs.Pair.{section_meaning, room_for, read_pair, read_pair_first, read_pair_second};
+ghost use Rattle.route_reader.specs.Pair.{read_pair, read_pair_first, read_pair_second};
 
 use families::{AddPath, Afi, Form, octets};
 use routes::{Item, Routes};
@@ -374,13 +374,6 @@ pub struct Sections {
     pub second: Result<Routes, Refusal>,
 }
 
-// Whether a store of so many places has room for the rows of a section that was counted.
-fn room_for(counted: Result<Routes, Refusal>, places: usize) -> bool
-    ensures { result ≡ room_for counted places }
-{
-    routes::rows_in(counted) <= places / 6
-}
-
 // The rows of a section that was counted, into a store that has room; nothing of one that was refused.
 fn fill_counted(
     s: &[u8],
@@ -392,8 +385,8 @@ fn fill_counted(
 )
     requires counts_value { counts.now ≡ table_of (max_of afi) }
     requires counted_value { counted ≡ count_section (up_to (max_of afi)) s.now mode }
-    requires store_value { room_for counted (length store.old) ≡ true }
-    ensures { store.new ≡ filled (section_meaning counted) (flat words (section_of s.now (max_of afi) mode).rows) store.old }
+    requires store_value { rows_in counted ≤ length store.old / 6 }
+    ensures { store.new ≡ filled (count_meaning (rows_alone counted)) (flat words (section_of s.now (max_of afi) mode).rows) store.old }
 {
     if counted.is_ok() {
         fill_rows(s, afi, mode, counts, store);
@@ -417,7 +410,7 @@ pub fn read_nlri_pair(
     octets::put_counts(afi, &mut counts);
     let one = routes::count_section_by(s, &counts, mode);
     let two = routes::count_section_by(t, &counts, mode);
-    if !room_for(one, first.len()) || !room_for(two, second.len()) {
+    if first.len() / 6 < routes::rows_in(one) || second.len() / 6 < routes::rows_in(two) {
         return Err(Refusal::NoRoom);
     }
     fill_counted(s, afi, mode, &counts, one, first);

@@ -1,4 +1,3 @@
 pub mod BodyLaws
-pub mod UpdateLaws
 pub mod Sections
 pub mod Tight

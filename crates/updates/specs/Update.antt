@@ -1,15 +1,15 @@
 -- The routes of an UPDATE: both sections are lists of IPv4 routes (RFC 4271 section 4.3). A malformed one has no rows and its own verdict,
 -- and does not refuse the UPDATE.
 use Rattle.std.specs.Prelude.{ℕ, List, [], ◌∷◌, Result, Ok, Err}
-use Rattle.wire.specs.Answer.{Answer, refusal, meaning_of, filled}
+use Rattle.wire.specs.Answer.{Answer, refusal, meaning_of, count_meaning, filled}
 use Rattle.wire.specs.Refusal.{number_of}
 use Rattle.wire.specs.Walk.{flat}
 use Rattle.wire.specs.declared.refusal.Refusal.{Refusal}
 use Rattle.families.specs.Family.{max_of}
 use Rattle.routes.specs.List.{up_to, section_of}
 use Rattle.routes.specs.Prefix.{words}
-use Rattle.routes.specs.Promises.{rows_in, hosts_in, verdict_in, count_section}
-use Rattle.route_reader.specs.Pair.{section_meaning, read_pair}
+use Rattle.routes.specs.Promises.{rows_alone, rows_in, hosts_in, verdict_in, count_section}
+use Rattle.route_reader.specs.Pair.{read_pair}
 use Rattle.families.specs.declared.Afi.TheVariants.{Ipv4}
 use Rattle.families.specs.declared.AddPath.{AddPath}
 use Rattle.routes.specs.declared.Row.{Row}
@@ -27,11 +27,11 @@ update_meaning =
 
 -- each section by itself, and how many rows it has
 abbrev pub withdrawn_meaning : Result Update Refusal → Answer
-withdrawn_meaning (Ok u) = section_meaning u.withdrawn
+withdrawn_meaning (Ok u) = count_meaning (rows_alone u.withdrawn)
 withdrawn_meaning (Err r) = refusal (number_of r)
 
 abbrev pub announced_meaning : Result Update Refusal → Answer
-announced_meaning (Ok u) = section_meaning u.announced
+announced_meaning (Ok u) = count_meaning (rows_alone u.announced)
 announced_meaning (Err r) = refusal (number_of r)
 
 -- a body whose sections are not all there is refused first

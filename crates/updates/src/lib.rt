@@ -97,7 +97,7 @@ pub fn announced_part(body: &[u8]) -> &[u8]
 pub fn count_bgp_update_message(body: &[u8], mode: AddPath) -> Result<Update, Refusal>
     ensures { result ≡ count_update body.now mode }
 {
-    let _parts = update_parts(body)?;
+    update_parts(body)?;
     let mut counts = [0u8; 256];
     octets::put_counts(Afi::Ipv4, &mut counts);
     Ok(Update {
@@ -136,7 +136,7 @@ pub fn parse_bgp_update_message(
     ensures withdrawn { withdrawn.new ≡ withdrawn_after result body.now mode withdrawn.old }
     ensures announced { announced.new ≡ announced_after result body.now mode announced.old }
 {
-    let _parts = update_parts(body)?;
+    update_parts(body)?;
     both_sections(
         withdrawn_part(body),
         announced_part(body),

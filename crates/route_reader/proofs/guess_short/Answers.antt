@@ -20,8 +20,8 @@ slice_bounds-put_head-count c = c.loop-n.invariant.behind.within
 
 pub put_head-requires : goal.put_head-requires
 put_head-requires c =
-    let item = (turn_taken Ipv4 Guess c.requires.counts_value c.loop-n.invariant c.guess_step.ensures c.in-Item.is _ refl).1 in
-    let small : c.guess_mark.result ≤ 512 = rw c.guess_mark.ensures (guess_mark_small Guess c.in-Item.next) in
+    let item = (turn_taken Ipv4 Guess c.requires.counts_value c.loop-n.invariant c.in-Ok.ensures _ refl).1 in
+    let small : c.guess_mark.result ≤ 512 = rw c.guess_mark.ensures (guess_mark_small Guess c.in-Ok.item.form) in
     record {
       to_in_bounds = (omega (arith, item.room), small);
       form_in_bounds = item.front;
@@ -29,75 +29,75 @@ put_head-requires c =
 
 pub overflow_add-rest : goal.overflow_add-rest
 overflow_add-rest c =
-    let plain = turn_in Ipv4 Guess c.requires.counts_value c.loop-n.invariant c.guess_step.ensures c.in-Item.is Plain c.in-Plain.is in
+    let plain = turn_in Ipv4 Guess c.requires.counts_value c.loop-n.invariant c.in-Ok.ensures Plain c.in-Plain.is in
     omega (arith, plain)
 
 pub slice_bounds-rest-count : goal.slice_bounds-rest-count
 slice_bounds-rest-count c =
-    let plain = turn_in Ipv4 Guess c.requires.counts_value c.loop-n.invariant c.guess_step.ensures c.in-Item.is Plain c.in-Plain.is in
+    let plain = turn_in Ipv4 Guess c.requires.counts_value c.loop-n.invariant c.in-Ok.ensures Plain c.in-Plain.is in
     omega (arith, plain)
 
 pub slice_bounds-rest-start : goal.slice_bounds-rest-start
 slice_bounds-rest-start c =
-    let plain = turn_in Ipv4 Guess c.requires.counts_value c.loop-n.invariant c.guess_step.ensures c.in-Item.is Plain c.in-Plain.is in
+    let plain = turn_in Ipv4 Guess c.requires.counts_value c.loop-n.invariant c.in-Ok.ensures Plain c.in-Plain.is in
     omega (arith, plain)
 
 pub overflow_sub-n : goal.overflow_sub-n
 overflow_sub-n c =
-    let plain = turn_in Ipv4 Guess c.requires.counts_value c.loop-n.invariant c.guess_step.ensures c.in-Item.is Plain c.in-Plain.is in
+    let plain = turn_in Ipv4 Guess c.requires.counts_value c.loop-n.invariant c.in-Ok.ensures Plain c.in-Plain.is in
     plain.0
 
 pub overflow_add-rest-in-Tagged : goal.overflow_add-rest-in-Tagged
 overflow_add-rest-in-Tagged c =
-    let tagged = turn_in Ipv4 Guess c.requires.counts_value c.loop-n.invariant c.guess_step.ensures c.in-Item.is Tagged c.in-Tagged.is in
+    let tagged = turn_in Ipv4 Guess c.requires.counts_value c.loop-n.invariant c.in-Ok.ensures Tagged c.in-Tagged.is in
     omega (arith, tagged)
 
 pub slice_bounds-rest-count-in-Tagged : goal.slice_bounds-rest-count-in-Tagged
 slice_bounds-rest-count-in-Tagged c =
-    let tagged = turn_in Ipv4 Guess c.requires.counts_value c.loop-n.invariant c.guess_step.ensures c.in-Item.is Tagged c.in-Tagged.is in
+    let tagged = turn_in Ipv4 Guess c.requires.counts_value c.loop-n.invariant c.in-Ok.ensures Tagged c.in-Tagged.is in
     omega (arith, tagged)
 
 pub slice_bounds-rest-start-in-Tagged : goal.slice_bounds-rest-start-in-Tagged
 slice_bounds-rest-start-in-Tagged c =
-    let tagged = turn_in Ipv4 Guess c.requires.counts_value c.loop-n.invariant c.guess_step.ensures c.in-Item.is Tagged c.in-Tagged.is in
+    let tagged = turn_in Ipv4 Guess c.requires.counts_value c.loop-n.invariant c.in-Ok.ensures Tagged c.in-Tagged.is in
     omega (arith, tagged)
 
 pub overflow_sub-n-in-Tagged : goal.overflow_sub-n-in-Tagged
 overflow_sub-n-in-Tagged c =
-    let tagged = turn_in Ipv4 Guess c.requires.counts_value c.loop-n.invariant c.guess_step.ensures c.in-Item.is Tagged c.in-Tagged.is in
+    let tagged = turn_in Ipv4 Guess c.requires.counts_value c.loop-n.invariant c.in-Ok.ensures Tagged c.in-Tagged.is in
     tagged.0
 
 pub overflow_add-to : goal.overflow_add-to
 overflow_add-to c =
-    let item = (turn_taken Ipv4 Guess c.requires.counts_value c.loop-n.invariant c.guess_step.ensures c.in-Item.is _ refl).1 in
+    let item = (turn_taken Ipv4 Guess c.requires.counts_value c.loop-n.invariant c.in-Ok.ensures _ refl).1 in
     omega (arith, item.room)
 
 pub put_short-requires : goal.put_short-requires
 put_short-requires c =
-    let item = (turn_taken Ipv4 Guess c.requires.counts_value c.loop-n.invariant c.guess_step.ensures c.in-Item.is _ refl).1 in
+    let item = (turn_taken Ipv4 Guess c.requires.counts_value c.loop-n.invariant c.in-Ok.ensures _ refl).1 in
     let leaves :
     let a = c.args in
-    Left (max_of Ipv4) Guess Plain a.s.now a.store.now c.loop-n.rest.now c.loop-n.n c.loop-n.to c.loop-n.store c.in-Item.next c.match-next.rest.now c.match-next.n = elim c.match-next.branch [
-      | in-Plain w ↦ rw (w.rest-is, w.n-is) (turn_in Ipv4 Guess c.requires.counts_value c.loop-n.invariant c.guess_step.ensures c.in-Item.is Plain w.in-Plain.is).3
-      | in-Tagged w ↦ rw (w.rest-is, w.n-is) (turn_in Ipv4 Guess c.requires.counts_value c.loop-n.invariant c.guess_step.ensures c.in-Item.is Tagged w.in-Tagged.is).3
+    Left (max_of Ipv4) Guess Plain a.s.now a.store.now c.loop-n.rest.now c.loop-n.n c.loop-n.to c.loop-n.store c.in-Ok.item.form c.match-form.rest.now c.match-form.n = elim c.match-form.branch [
+      | in-Plain w ↦ rw (w.rest-is, w.n-is) (turn_in Ipv4 Guess c.requires.counts_value c.loop-n.invariant c.in-Ok.ensures Plain w.in-Plain.is).3
+      | in-Tagged w ↦ rw (w.rest-is, w.n-is) (turn_in Ipv4 Guess c.requires.counts_value c.loop-n.invariant c.in-Ok.ensures Tagged w.in-Tagged.is).3
     ] in
     record {
       to_in_bounds = item.more _ _ c.put_head.ensures;
       octets = leaves.spot 4 (omega arith);
     }
 
-pub overflow_add-to-in-Item : goal.overflow_add-to-in-Item
-overflow_add-to-in-Item c =
-    let item = (turn_taken Ipv4 Guess c.requires.counts_value c.loop-n.invariant c.guess_step.ensures c.in-Item.is _ refl).1 in
+pub overflow_add-to-in-loop-n : goal.overflow_add-to-in-loop-n
+overflow_add-to-in-loop-n c =
+    let item = (turn_taken Ipv4 Guess c.requires.counts_value c.loop-n.invariant c.in-Ok.ensures _ refl).1 in
     omega (arith, item.room)
 
 pub loop-n-smaller : goal.loop-n-smaller
 loop-n-smaller c =
     let leaves :
     let a = c.args in
-    Left (max_of Ipv4) Guess Plain a.s.now a.store.now c.loop-n.rest.now c.loop-n.n c.loop-n.to c.loop-n.store c.in-Item.next c.match-next.rest.now c.match-next.n = elim c.match-next.branch [
-      | in-Plain w ↦ rw (w.rest-is, w.n-is) (turn_in Ipv4 Guess c.requires.counts_value c.loop-n.invariant c.guess_step.ensures c.in-Item.is Plain w.in-Plain.is).3
-      | in-Tagged w ↦ rw (w.rest-is, w.n-is) (turn_in Ipv4 Guess c.requires.counts_value c.loop-n.invariant c.guess_step.ensures c.in-Item.is Tagged w.in-Tagged.is).3
+    Left (max_of Ipv4) Guess Plain a.s.now a.store.now c.loop-n.rest.now c.loop-n.n c.loop-n.to c.loop-n.store c.in-Ok.item.form c.match-form.rest.now c.match-form.n = elim c.match-form.branch [
+      | in-Plain w ↦ rw (w.rest-is, w.n-is) (turn_in Ipv4 Guess c.requires.counts_value c.loop-n.invariant c.in-Ok.ensures Plain w.in-Plain.is).3
+      | in-Tagged w ↦ rw (w.rest-is, w.n-is) (turn_in Ipv4 Guess c.requires.counts_value c.loop-n.invariant c.in-Ok.ensures Tagged w.in-Tagged.is).3
     ] in
     leaves.less
 
@@ -105,19 +105,17 @@ pub loop-n-preserved : goal.loop-n-preserved
 loop-n-preserved c =
     let leaves :
     let a = c.args in
-    Left (max_of Ipv4) Guess Plain a.s.now a.store.now c.loop-n.rest.now c.loop-n.n c.loop-n.to c.loop-n.store c.in-Item.next c.match-next.rest.now c.match-next.n = elim c.match-next.branch [
-      | in-Plain w ↦ rw (w.rest-is, w.n-is) (turn_in Ipv4 Guess c.requires.counts_value c.loop-n.invariant c.guess_step.ensures c.in-Item.is Plain w.in-Plain.is).3
-      | in-Tagged w ↦ rw (w.rest-is, w.n-is) (turn_in Ipv4 Guess c.requires.counts_value c.loop-n.invariant c.guess_step.ensures c.in-Item.is Tagged w.in-Tagged.is).3
+    Left (max_of Ipv4) Guess Plain a.s.now a.store.now c.loop-n.rest.now c.loop-n.n c.loop-n.to c.loop-n.store c.in-Ok.item.form c.match-form.rest.now c.match-form.n = elim c.match-form.branch [
+      | in-Plain w ↦ rw (w.rest-is, w.n-is) (turn_in Ipv4 Guess c.requires.counts_value c.loop-n.invariant c.in-Ok.ensures Plain w.in-Plain.is).3
+      | in-Tagged w ↦ rw (w.rest-is, w.n-is) (turn_in Ipv4 Guess c.requires.counts_value c.loop-n.invariant c.in-Ok.ensures Tagged w.in-Tagged.is).3
     ] in
     leaves.next _ c.guess_mark.ensures _ _ c.put_head.ensures c.put_short.ensures
 
-pub shape_of-store-in-Refused : goal.shape_of-store-in-Refused
-shape_of-store-in-Refused c = c.loop-n.invariant.filled.long
+pub shape_of-store-in_default : goal.shape_of-store-in_default
+shape_of-store-in_default c = c.loop-n.invariant.filled.long
 
-pub returns-in-Refused : goal.returns-in-Refused
-returns-in-Refused c =
-    absurd (step_never Ipv4 Guess Plain c.args.s.now c.args.store.now c.loop-n.rest.now c.loop-n.n c.loop-n.form c.loop-n.to c.loop-n.store c.loop-n.invariant c.args.counts.now c.requires.counts_value _ c.guess_step.ensures
-    c.loop-n-test.true _ c.in-Refused.is)
+pub returns-in_default : goal.returns-in_default
+returns-in_default c = absurd (step_never Ipv4 Guess c.requires.counts_value c.loop-n.invariant c.loop-n-test.true _ c.in_default.ensures)
 
 pub shape_of-store : goal.shape_of-store
 shape_of-store c = c.loop-n.invariant.filled.long

@@ -1,25 +1,27 @@
-use mathlib.Core.Path.{refl, ap₂, sym, ◌∙◌}
+use mathlib.Core.Path.{refl, sym, ap₂, ◌∙◌}
+use Rattle.std.proofs.lemmas.Result.{err_from_is_err_and}
 use Rattle.families.specs.declared.Afi.TheVariants.{Ipv4}
 use Rattle.routes.proofs.TableLaws.{count_section_family}
-use Rattle.updates.specs.declared.UpdateAnswer.TheVariants.{Update}
-use Rattle.updates.specs.Update.{count_update}
+use Rattle.updates.specs.Update.{update_of, count_update}
 use Rattle.updates.proofs.BodyLaws.{holds_withdrawn, holds_announced}
 use Rattle.updates.proofs.count_bgp_update_message.Goals as goal
 
-pub returns-in-Parts : goal.returns-in-Parts
+pub returns-in_err-update_parts : goal.returns-in_err-update_parts
 unfolding count_update
-returns-in-Parts c =
+returns-in_err-update_parts c =
+    let p = err_from_is_err_and c.from_residual.result c.from_residual.ensures.1 in
+    rw (← c.in_err-update_parts.ensures, p.1, p.2) refl
+
+pub returns : goal.returns
+unfolding count_update
+returns c =
     let g = c.args in
     let first = c.withdrawn_part in
     let second = c.announced_part in
     let table = c.put_counts.ensures refl in
     let w = holds_withdrawn g.body _ first.ensures in
     let a = holds_announced g.body _ second.ensures in
-    rw (sym c.update_parts.ensures ∙ c.in-Parts.is, ← w, ← a)
-    (ap₂ Update
-    (c.counted.ensures.answer ∙ c.count_section_by-first.ensures.answer ∙ count_section_family _ Ipv4 table first.result.now g.mode)
-    (c.counted-in-Parts.ensures.answer ∙ c.count_section_by-second.ensures.answer ∙ count_section_family _ Ipv4 table second.result.now g.mode))
-
-pub returns-in-Refused : goal.returns-in-Refused
-unfolding count_update
-returns-in-Refused c = rw (sym c.update_parts.ensures ∙ c.in-Refused.is)
+    rw (← c.in_ok-update_parts.ensures, ← w, ← a)
+    (ap₂ update_of
+    (c.count_section_by.ensures.answer ∙ count_section_family _ Ipv4 table first.result.now g.mode)
+    (c.count_section_by-2.ensures.answer ∙ count_section_family _ Ipv4 table second.result.now g.mode))

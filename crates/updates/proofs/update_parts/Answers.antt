@@ -14,9 +14,6 @@ returns-then-n-lt-LENGTH_SIZE c = parts_short _ c.if-n-gt-BODY_LIMIT.false (omeg
 pub returns-then-n-at : goal.returns-then-n-at
 returns-then-n-at c = parts_short _ c.if-n-gt-BODY_LIMIT.false (omega (arith, c.u16_at-withdrawn.ensures))
 
-pub returns-then-n-at-2 : goal.returns-then-n-at-2
-returns-then-n-at-2 c = parts_short _ c.if-n-gt-BODY_LIMIT.false (omega (arith, c.u16_at-withdrawn.ensures))
-
 pub returns-then-n-end : goal.returns-then-n-end
 returns-then-n-end c = parts_short _ c.if-n-gt-BODY_LIMIT.false (omega (arith, attributes_end_lem _ _ _ c.u16_at-withdrawn.ensures c.u16_at-attributes.ensures))
 
