@@ -148,12 +148,11 @@ pub update_verdicts : (b : List ℕ) (mode : AddPath) (u : Update) → count_upd
 unfolding count_update
 update_verdicts b mode u e = by_parts (parts_of b) refl e
   where
-    each = counted_sections b mode u e
-
     by_parts : (p : Result Parts Refusal) → parts_of b ≡ p → if_parts p (update_of (counted (withdrawn_of b) mode) (counted (announced_of b) mode)) ≡ Ok u
         → SectionVerdict (verdict_in u.withdrawn) × SectionVerdict (verdict_in u.announced)
     by_parts (Ok p) found _ =
-        let whole = parts_add_up b p found in (
+        let whole = parts_add_up b p found in
+        let each = counted_sections b mode u e in (
           rw each.0 at (counted_verdict (withdrawn_of b) mode (omega (arith, whole, withdrawn_length b p found))),
           rw each.1 at (counted_verdict (announced_of b) mode (omega (arith, whole, announced_length b p found))),
         )
