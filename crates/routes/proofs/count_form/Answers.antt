@@ -35,7 +35,7 @@ loop-n-preserved c =
 
 pub returns-then-item-n : goal.returns-then-item-n
 returns-then-item-n c =
-    pending_cut c.loop-n.invariant.pending c.requires c.args.form c.id_size-k.ensures (λ e. c.if-item-n.true e) (omega (arith, c.loop-n-test.false))
+    pending_cut c.loop-n.invariant.pending c.requires c.args.form c.id_size-k.ensures (λ e. omega (arith, e, c.if-item-n.true)) (omega (arith, c.loop-n-test.false))
 
 pub returns : goal.returns
 returns c =
