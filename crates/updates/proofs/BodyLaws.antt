@@ -10,7 +10,7 @@ use lib.Dec.{ltb}
 use denote.Ref.{Bor}
 use Rattle.std.specs.Prelude.{Result, Ok, Err}
 use Rattle.wire.proofs.ChoiceLaws.{pick_any, pick_unless}
-use Rattle.wire.specs.Extent.{Extent, PartOf, clipped, nothing}
+use Rattle.wire.specs.Extent.{Extent, PartOf, clipped}
 use Rattle.wire.proofs.ExtentLaws.{clipped_fits}
 use Rattle.wire.specs.Number.{be_at}
 use Rattle.wire.specs.Refusal.{body_limit}

@@ -1,8 +1,8 @@
 -- The sections of an UPDATE body: with their length bytes they are the whole of it, a malformed one has one of three numbers, and what is read is
 -- what is counted.
 -- Assumes nothing.
-use Prim.Native.Nat.{ℕ, zero, suc, ◌+◌, ◌≤◌}
-use mathlib.Core.Path.{◌≡◌, refl, sym, ap, subst, ◌∙◌}
+use Prim.Native.Nat.{ℕ, ◌+◌, ◌≤◌}
+use mathlib.Core.Path.{◌≡◌, refl, sym, ap, ◌∙◌}
 use mathlib.Core.List.{List, ◌++◌}
 use native.Mathlib.Omega.{arith}
 use lib.ListN.{length, take, drop, length-drop, take-append-drop}
@@ -24,7 +24,7 @@ use Rattle.families.specs.declared.AddPath.{AddPath}
 use Rattle.routes.specs.Prefix.{prefix_of}
 use Rattle.routes.proofs.PrefixLaws.{prefix_cases}
 use Rattle.routes.specs.List.{up_to, form_by, step_of, list_by, list_of, hosts_of, strange, section_by, section_of}
-use Rattle.routes.proofs.ListLaws.{fair, sound, step_stop, beside_verdict, counted_hosts}
+use Rattle.routes.proofs.ListLaws.{fair, sound, step_stop, counted_hosts}
 use Rattle.routes.specs.Promises.{has_room, with_hosts, rows_alone, hosts_in, verdict_in, count_answer}
 use Rattle.routes.specs.declared.Row.{Row}
 use Rattle.routes.specs.declared.Routes.{Routes}

@@ -12,7 +12,6 @@ use Rattle.routes.specs.Promises.{rows_alone, rows_in, hosts_in, verdict_in, cou
 use Rattle.route_reader.specs.Pair.{read_pair}
 use Rattle.families.specs.declared.Afi.TheVariants.{Ipv4}
 use Rattle.families.specs.declared.AddPath.{AddPath}
-use Rattle.routes.specs.declared.Row.{Row}
 use Rattle.routes.specs.declared.Routes.{Routes}
 use Rattle.route_reader.specs.declared.Sections.{Sections}
 use Rattle.updates.specs.Body.{parts_of, withdrawn_of, announced_of}
@@ -59,14 +58,8 @@ unfoldable pub read_update : List ℕ → AddPath → ℕ → ℕ → Result Upd
 read_update b mode places places' = if_parts (parts_of b) (as_update (read_pair (withdrawn_of b) (announced_of b) (max_of Ipv4) mode places places'))
 
 -- the stores afterwards, by the answer: the rows of each good section from the front, and else as it was
-abbrev pub withdrawn_filled : Result Update Refusal → List Row → List ℕ → List ℕ
-withdrawn_filled u rows store = filled (withdrawn_meaning u) (flat words rows) store
-
-abbrev pub announced_filled : Result Update Refusal → List Row → List ℕ → List ℕ
-announced_filled u rows store = filled (announced_meaning u) (flat words rows) store
-
 abbrev pub withdrawn_after : Result Update Refusal → List ℕ → AddPath → List ℕ → List ℕ
-withdrawn_after u b mode store = withdrawn_filled u (section_of (withdrawn_of b) (max_of Ipv4) mode).rows store
+withdrawn_after u b mode store = filled (withdrawn_meaning u) (flat words (section_of (withdrawn_of b) (max_of Ipv4) mode).rows) store
 
 abbrev pub announced_after : Result Update Refusal → List ℕ → AddPath → List ℕ → List ℕ
-announced_after u b mode store = announced_filled u (section_of (announced_of b) (max_of Ipv4) mode).rows store
+announced_after u b mode store = filled (announced_meaning u) (flat words (section_of (announced_of b) (max_of Ipv4) mode).rows) store

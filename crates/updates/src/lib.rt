@@ -4,12 +4,8 @@
 
 ghost use Rattle.std.specs.Prelude.{◌≡◌, length};
 ghost use Rattle.wire.specs.Extent.{PartOf};
-ghost use Rattle.families.specs.Family.{max_of};
-ghost use Rattle.routes.specs.List.{section_of};
-ghost use Rattle.route_reader.specs.Pair.{read_pair};
-ghost use Rattle.families.specs.declared.Afi.TheVariants.{Ipv4};
 ghost use Rattle.updates.specs.Body.{parts_of, withdrawn_at, attributes_at, announced_at};
-ghost use Rattle.updates.specs.Update.{count_update, read_update, as_update, withdrawn_filled, announced_filled, withdrawn_after, announced_after};
+ghost use Rattle.updates.specs.Update.{count_update, read_update, withdrawn_after, announced_after};
 
 use families::{AddPath, Afi, octets};
 use routes::Routes;
@@ -106,25 +102,6 @@ pub fn count_bgp_update_message(body: &[u8], mode: AddPath) -> Result<Update, Re
     })
 }
 
-// Both sections into two lent stores.
-fn both_sections(
-    s: &[u8],
-    t: &[u8],
-    mode: AddPath,
-    withdrawn: &mut [u32],
-    announced: &mut [u32],
-) -> Result<Update, Refusal>
-    ensures answer { result ≡ as_update (read_pair s.now t.now (max_of Ipv4) mode (length withdrawn.old) (length announced.old)) }
-    ensures withdrawn { withdrawn.new ≡ withdrawn_filled result (section_of s.now (max_of Ipv4) mode).rows withdrawn.old }
-    ensures announced { announced.new ≡ announced_filled result (section_of t.now (max_of Ipv4) mode).rows announced.old }
-{
-    let both = route_reader::read_nlri_pair(s, t, Afi::Ipv4, mode, withdrawn, announced)?;
-    Ok(Update {
-        withdrawn: both.first,
-        announced: both.second,
-    })
-}
-
 // The routes of both sections into two lent stores: where either has no room for its rows, neither is touched.
 pub fn parse_bgp_update_message(
     body: &[u8],
@@ -137,11 +114,16 @@ pub fn parse_bgp_update_message(
     ensures announced { announced.new ≡ announced_after result body.now mode announced.old }
 {
     update_parts(body)?;
-    both_sections(
+    let both = route_reader::read_nlri_pair(
         withdrawn_part(body),
         announced_part(body),
+        Afi::Ipv4,
         mode,
         withdrawn,
         announced,
-    )
+    )?;
+    Ok(Update {
+        withdrawn: both.first,
+        announced: both.second,
+    })
 }

@@ -1,6 +1,6 @@
-use mathlib.Core.Path.{refl, sym, ap₂, ◌∙◌}
-use Rattle.std.proofs.lemmas.Result.{err_from_is_err_and}
+use mathlib.Core.Path.{refl, ap₂, ◌∙◌}
 use Rattle.families.specs.declared.Afi.TheVariants.{Ipv4}
+use Rattle.routes.proofs.PrefixLaws.{passed}
 use Rattle.routes.proofs.TableLaws.{count_section_family}
 use Rattle.updates.specs.Update.{update_of, count_update}
 use Rattle.updates.proofs.BodyLaws.{holds_withdrawn, holds_announced}
@@ -8,9 +8,7 @@ use Rattle.updates.proofs.count_bgp_update_message.Goals as goal
 
 pub returns-in_err-update_parts : goal.returns-in_err-update_parts
 unfolding count_update
-returns-in_err-update_parts c =
-    let p = err_from_is_err_and c.from_residual.result c.from_residual.ensures.1 in
-    rw (← c.in_err-update_parts.ensures, p.1, p.2) refl
+returns-in_err-update_parts c = passed _ _ c.from_residual.ensures.1 ∙ rw (← c.in_err-update_parts.ensures) refl
 
 pub returns : goal.returns
 unfolding count_update
