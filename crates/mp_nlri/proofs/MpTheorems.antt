@@ -9,10 +9,13 @@ use borrow.Author.Tests.{eqb-true}
 use lib.ListN.{length, get_or, take, drop, length-append, length-drop, take-append-drop}
 use lib.Seq.{take_at, drop_at, drop-drop, drop-cons, get_or_at, length-take-le}
 use lib.Dec.{eqb}
-use Rattle.wire.specs.Answer.{flag, answer_by}
+use Rattle.std.specs.Prelude.{Result, Ok, Err}
+use Rattle.wire.specs.Answer.{flag}
 use Rattle.wire.specs.Cutting.{Cutting}
 use Rattle.wire.specs.Number.{be_at}
-use Rattle.wire.specs.Refusal.{too_long, truncated, other_family, list_limit}
+use Rattle.wire.specs.Refusal.{list_limit}
+use Rattle.wire.specs.Verdict.{Verdict, fine, answer_by}
+use Rattle.wire.specs.declared.refusal.Refusal.{Refusal}
 use Rattle.wire.specs.Walk.{Reading, tally}
 use Rattle.wire.proofs.ChoiceLaws.{and_true}
 use Rattle.families.specs.Family.{max_of}
@@ -24,19 +27,17 @@ use Rattle.routes.specs.Prefix.{item_row, host_bits}
 use Rattle.routes.specs.Promises.{count_answer, read_answer, with_hosts, count_list, read_list}
 use Rattle.routes.specs.WellFormed.{WellFormed}
 use Rattle.routes.specs.declared.Row.{Row}
-use Rattle.routes.specs.declared.ListAnswer.{ListAnswer}
-use Rattle.routes.specs.declared.ListAnswer.TheVariants as L
-use Rattle.routes.specs.declared.RoutesAnswer.{RoutesAnswer}
+use Rattle.routes.specs.declared.Routes.{Routes}
+use Rattle.routes.proofs.PrefixLaws.{given_not_refused}
 use Rattle.routes.proofs.CuttingLaws.{cut_hosts}
 use Rattle.routes.proofs.ListLaws.{beside}
 use Rattle.route_writer.proofs.RouteTheorems as Lists
 use Rattle.mp_nlri.specs.Value.{is_pair, is_hop_size, hop_start, hop_size, reserved_at, pair_fault, head_of}
-use Rattle.mp_nlri.specs.Read.{ipv6, reach_list, unreach_list, rows_of, with_head, if_head, count_reach, read_reach, no_routes, count_unreach, read_unreach}
+use Rattle.mp_nlri.specs.Read.{ipv6, reach_list, unreach_list, rows_of, if_head, count_reach, read_reach, count_unreach, read_unreach}
 use Rattle.mp_nlri.specs.WellFormed.{HopSize, global, both, ReachFormed, RoutesFormed, ReachAccepted, UnreachAccepted}
-use Rattle.mp_nlri.specs.declared.HeadAnswer.{HeadAnswer}
-use Rattle.mp_nlri.specs.declared.HeadAnswer.TheVariants as H
-use Rattle.mp_nlri.specs.declared.ReachAnswer.TheVariants.{Reach}
-use Rattle.mp_nlri.proofs.ValueLaws.{Paired, Headed, pair_cases, pair_by, head_by, head_good, hop_cases}
+use Rattle.mp_nlri.specs.declared.Head.{Head}
+use Rattle.mp_nlri.specs.declared.Reach.{Reach}
+use Rattle.mp_nlri.proofs.ValueLaws.{Paired, Headed, head_with, pair_cases, pair_by, head_by, head_good, hop_cases}
 
 -- ---- the shape
 
@@ -127,12 +128,12 @@ one_shape hop hop' list list' v r r' h h' =
 
 -- ---- routes that are accepted
 
-abbrev pub rows_told : ℕ → ℕ → RoutesAnswer
-rows_told rows hosts = record { list = L.Rows rows; hosts = hosts }
+abbrev pub rows_told : ℕ → ℕ → Result Routes Refusal
+rows_told rows hosts = Ok (record { rows = rows; hosts = hosts })
 
-pub answer_is : (a : ListAnswer) (h rows hosts : ℕ) → with_hosts a h ≡ rows_told rows hosts → (a ≡ L.Rows rows) × (h ≡ hosts)
-answer_is (L.Rows n) h rows hosts e = (ap (λ (x : RoutesAnswer). x.list) e, ap (λ (x : RoutesAnswer). x.hosts) e)
-answer_is (L.Refused n) h rows hosts e = let f : L.Refused n ≡ L.Rows rows = ap (λ (x : RoutesAnswer). x.list) e in let z : ◌≡◌ {A = ℕ} 0 1 = cc in absurd (omega arith)
+pub answer_is : (a : Result ℕ Refusal) (h rows hosts : ℕ) → with_hosts a h ≡ rows_told rows hosts → (a ≡ Ok rows) × (h ≡ hosts)
+answer_is (Ok n) h rows hosts e = let p : n ≡ rows = cc in let q : h ≡ hosts = cc in (ap Ok p, q)
+answer_is (Err why) h rows hosts e = absurd (given_not_refused (sym e))
 
 module _ (form : Form) (mode : AddPath) (on : mode ≡ fixed form) (l : List ℕ) where
   reads : Lists.Reads (max_of Ipv6) form l (list_of l (max_of Ipv6) mode)
@@ -167,21 +168,21 @@ module _ (form : Form) (mode : AddPath) (on : mode ≡ fixed form) (l : List ℕ
 
 -- ---- MP_REACH_NLRI is accepted exactly if it has the shape and such routes
 
-with_head_is : (n m : ℕ) (f g : Bool) (x : ListAnswer) (hs rows hosts : ℕ) → with_head m g x hs ≡ Reach n f rows hosts → (H.Head m g ≡ H.Head n f) × (record { list = x; hosts = hs } ≡ rows_told rows hosts)
-with_head_is n m f g (L.Rows k) hs rows hosts e =
-    let p : m ≡ n = cc in
-    let q : g ≡ f = cc in
-    let r : k ≡ rows = cc in
-    let s : hs ≡ hosts = cc in
-    (ap₂ H.Head p q, ap₂ rows_told r s)
-with_head_is n m f g (L.Refused k) hs rows hosts e = let z : ◌≡◌ {A = ℕ} 0 1 = cc in absurd (omega arith)
+abbrev pub reach_told : ℕ → Bool → ℕ → ℕ → Result Reach Refusal
+reach_told n f rows hosts = Ok (record { next_hop = n; reserved = f; rows = rows; hosts = hosts })
 
-pub reach_is : (n : ℕ) (f : Bool) (rows hosts : ℕ) (x : HeadAnswer) (a : RoutesAnswer) → if_head x a ≡ Reach n f rows hosts → (x ≡ H.Head n f) × (a ≡ rows_told rows hosts)
-reach_is n f rows hosts (H.Head m g) a e = with_head_is n m f g a.list a.hosts rows hosts e
-reach_is n f rows hosts (H.Refused k) a e = let z : ◌≡◌ {A = ℕ} 0 1 = cc in absurd (omega arith)
+pub reach_is : (n : ℕ) (f : Bool) (rows hosts : ℕ) (x : Result Head Refusal) (a : Result Routes Refusal) → if_head x a ≡ reach_told n f rows hosts → (x ≡ Ok (head_with n f)) × (a ≡ rows_told rows hosts)
+reach_is n f rows hosts (Ok head) (Ok routes) e =
+    let p : head.next_hop ≡ n = cc in
+    let q : head.reserved ≡ f = cc in
+    let r : routes.rows ≡ rows = cc in
+    let s : routes.hosts ≡ hosts = cc in
+    (ap₂ (λ (k : ℕ) (g : Bool). Ok (head_with k g)) p q, ap₂ rows_told r s)
+reach_is n f rows hosts (Ok head) (Err why) e = absurd (given_not_refused (sym e))
+reach_is n f rows hosts (Err why) a e = absurd (given_not_refused (sym e))
 
 module _ (v : List ℕ) (form : Form) (mode : AddPath) (on : mode ≡ fixed form) (n : ℕ) (f : Bool) (rows hosts : ℕ) where
-  accepted_by : head_of v ≡ H.Head n f → RoutesFormed form (reach_list v) rows hosts → ReachAccepted form v n f rows hosts
+  accepted_by : head_of v ≡ Ok (head_with n f) → RoutesFormed form (reach_list v) rows hosts → ReachAccepted form v n f rows hosts
   accepted_by e h =
       let k = head_good v n f e in
       let formed = head_formed v n f k in
@@ -196,11 +197,11 @@ module _ (v : List ℕ) (form : Form) (mode : AddPath) (on : mode ≡ fixed form
         short = k.paired.short;
       }
 
-  pub reach_counted : count_reach v mode ≡ Reach n f rows hosts → ReachAccepted form v n f rows hosts
+  pub reach_counted : count_reach v mode ≡ reach_told n f rows hosts → ReachAccepted form v n f rows hosts
   unfolding count_reach
   reach_counted e = let p = reach_is n f rows hosts (head_of v) _ e in accepted_by p.0 (counted_formed form mode on (reach_list v) rows hosts p.1)
 
-  pub reach_read : (d : List ℕ) → read_reach v mode (length d) ≡ Reach n f rows hosts → ReachAccepted form v n f rows hosts × (rows ≤ length d / 6)
+  pub reach_read : (d : List ℕ) → read_reach v mode (length d) ≡ reach_told n f rows hosts → ReachAccepted form v n f rows hosts × (rows ≤ length d / 6)
   unfolding read_reach
   reach_read d e =
       let p = reach_is n f rows hosts (head_of v) _ e in
@@ -209,8 +210,8 @@ module _ (v : List ℕ) (form : Form) (mode : AddPath) (on : mode ≡ fixed form
 
   -- and such a value is
   module _ (h : ReachAccepted form v n f rows hosts) where
-    headed : head_of v ≡ H.Head n f
-    headed = head_by v _ _ (formed_head h.hop h.octet h.list v h.formed h.short) ∙ ap₂ H.Head (sym h.hop_told) (sym h.octet_told)
+    headed : head_of v ≡ Ok (head_with n f)
+    headed = head_by v _ _ (formed_head h.hop h.octet h.list v h.formed h.short) ∙ ap₂ (λ (k : ℕ) (g : Bool). Ok (head_with k g)) (sym h.hop_told) (sym h.octet_told)
 
     its_list : reach_list v ≡ h.list
     its_list = formed_list h.hop h.octet h.list v h.formed
@@ -221,11 +222,11 @@ module _ (v : List ℕ) (form : Form) (mode : AddPath) (on : mode ≡ fixed form
     its_length : length (reach_list v) ≤ list_limit
     its_length = omega (arith, length-drop (reserved_at v + 1) v, h.short)
 
-    pub accepted_counted : count_reach v mode ≡ Reach n f rows hosts
+    pub accepted_counted : count_reach v mode ≡ reach_told n f rows hosts
     unfolding count_reach
     accepted_counted = ap₂ if_head headed (formed_counted form mode on (reach_list v) rows hosts its_routes its_length)
 
-    pub accepted_read : (d : List ℕ) → rows ≤ length d / 6 → read_reach v mode (length d) ≡ Reach n f rows hosts
+    pub accepted_read : (d : List ℕ) → rows ≤ length d / 6 → read_reach v mode (length d) ≡ reach_told n f rows hosts
     unfolding read_reach
     accepted_read d room = ap₂ if_head headed (formed_read form mode on (reach_list v) rows hosts its_routes its_length d room)
 
@@ -237,12 +238,12 @@ module _ (v : List ℕ) (form : Form) (mode : AddPath) (on : mode ≡ fixed form
 -- ---- and MP_UNREACH_NLRI
 
 -- what is not refused by the pair
-pub unreach_is : (v : List ℕ) (a : RoutesAnswer) (rows hosts : ℕ) → answer_by (pair_fault v) a no_routes ≡ rows_told rows hosts → Paired v × (a ≡ rows_told rows hosts)
+pub unreach_is : (v : List ℕ) (a : Result Routes Refusal) (rows hosts : ℕ) → answer_by (pair_fault v) a Err ≡ rows_told rows hosts → Paired v × (a ≡ rows_told rows hosts)
 unreach_is v a rows hosts =
-    pair_cases v (λ k. answer_by k a no_routes ≡ rows_told rows hosts → Paired v × (a ≡ rows_told rows hosts)) (bad too_long) (bad truncated) (bad other_family) (λ h e. (h, e))
+    pair_cases v (λ k. answer_by k a Err ≡ rows_told rows hosts → Paired v × (a ≡ rows_told rows hosts)) bad bad bad (λ h e. (h, e))
   where
-    bad : (k : ℕ) → no_routes k ≡ rows_told rows hosts → Paired v × (a ≡ rows_told rows hosts)
-    bad k e = let f : L.Refused k ≡ L.Rows rows = ap (λ (x : RoutesAnswer). x.list) e in let z : ◌≡◌ {A = ℕ} 0 1 = cc in absurd (omega arith)
+    bad : {why : Refusal} → Err why ≡ rows_told rows hosts → Paired v × (a ≡ rows_told rows hosts)
+    bad e = absurd (given_not_refused (sym e))
 
 module _ (v : List ℕ) (form : Form) (mode : AddPath) (on : mode ≡ fixed form) (rows hosts : ℕ) where
   withdrawn_by : Paired v → RoutesFormed form (unreach_list v) rows hosts → UnreachAccepted form v rows hosts
@@ -260,7 +261,7 @@ module _ (v : List ℕ) (form : Form) (mode : AddPath) (on : mode ≡ fixed form
       (withdrawn_by p.0 h.0, h.1)
 
   module _ (h : UnreachAccepted form v rows hosts) where
-    no_fault : pair_fault v ≡ 0
+    no_fault : pair_fault v ≡ fine
     no_fault = pair_by v (octets_pair v h.list h.formed.octets h.short)
 
     withdrawn_list : unreach_list v ≡ h.list

@@ -1,6 +1,6 @@
 -- Two results that the promise of a call allows are equal, and so is what it leaves: of the ensures clauses themselves.
 use mathlib.Core.Path.{◌≡◌, sym, ap, ◌∙◌}
-use Rattle.wire.specs.Answer.{filled, write_meaning}
+use Rattle.wire.specs.Answer.{filled, count_meaning}
 use Rattle.wire.proofs.ExtentLaws.{one_part}
 use Rattle.mp_nlri.specs.Value.{reach_bytes, unreach_bytes}
 use Rattle.mp_nlri.specs.Read.{reach_after, unreach_after}
@@ -41,9 +41,9 @@ tight_parse_mp_unreach_nlri κs a z z' e e' p q =
 pub tight_encode_mp_reach_nlri : (κs : _) (a : _) (z z' : _) (e e' : _) → encode_mp_reach_nlri.Learnt κs a z e → encode_mp_reach_nlri.Learnt κs a z' e' → (z ≡ z') × (e.1.1.1.0.now ≡ e'.1.1.1.0.now)
 tight_encode_mp_reach_nlri κs a z z' e e' p q =
     let same : z ≡ z' = p.0 ∙ sym q.0 in
-    (same, p.1 ∙ ap (λ x. filled (write_meaning x) (reach_bytes a.0.now (route_bytes a.1.0.now a.1.1.0)) a.1.1.1.0.now) same ∙ sym q.1)
+    (same, p.1 ∙ ap (λ x. filled (count_meaning x) (reach_bytes a.0.now (route_bytes a.1.0.now a.1.1.0)) a.1.1.1.0.now) same ∙ sym q.1)
 
 pub tight_encode_mp_unreach_nlri : (κs : _) (a : _) (z z' : _) (e e' : _) → encode_mp_unreach_nlri.Learnt κs a z e → encode_mp_unreach_nlri.Learnt κs a z' e' → (z ≡ z') × (e.1.1.0.now ≡ e'.1.1.0.now)
 tight_encode_mp_unreach_nlri κs a z z' e e' p q =
     let same : z ≡ z' = p.0 ∙ sym q.0 in
-    (same, p.1 ∙ ap (λ x. filled (write_meaning x) (unreach_bytes (route_bytes a.0.now a.1.0)) a.1.1.0.now) same ∙ sym q.1)
+    (same, p.1 ∙ ap (λ x. filled (count_meaning x) (unreach_bytes (route_bytes a.0.now a.1.0)) a.1.1.0.now) same ∙ sym q.1)

@@ -14,8 +14,10 @@ use Rattle.wire.specs.Number as Number
 use Rattle.wire.specs.Refusal.{list_limit}
 use Rattle.wire.specs.Store.{laid}
 use Rattle.wire.specs.Walk.{flat}
-use Rattle.wire.specs.declared.WriteAnswer.{WriteAnswer}
-use Rattle.wire.specs.declared.WriteAnswer.TheVariants as W
+use Rattle.std.specs.Prelude.{Result, Ok}
+use Rattle.wire.specs.Verdict.{Verdict, fine}
+use Rattle.wire.specs.declared.refusal.Refusal.{Refusal}
+use Rattle.routes.proofs.PrefixLaws.{given_not_refused}
 use Rattle.wire.proofs.AnswerLaws.{limited_fits}
 use Rattle.wire.proofs.StoreLaws.{take_laid}
 use Rattle.families.specs.Family.{max_of}
@@ -38,7 +40,7 @@ use Rattle.mp_nlri.proofs.MpTheorems.{hop_formed, formed_hop, formed_length, for
 
 -- ---- what the writers put
 
-abbrev verdict : List ℕ → Form → ℕ
+abbrev verdict : List ℕ → Form → Verdict
 verdict ws form = (writing ws (max_of Ipv6) form).verdict
 
 -- a next hop and routes, with a reserved octet of 0
@@ -52,21 +54,21 @@ unreach_shape list = record { octets = refl }
 
 module _ (hop ws : List ℕ) (form : Form) (places : ℕ) where
   -- what is written had a next hop of such a length and rows that can be written, keeps the limit, and had room
-  pub reach_wrote : (n : ℕ) → write_reach (length hop) ws form places ≡ W.Bytes n
-      → HopSize (length hop) × (verdict ws form ≡ 0) × (length (reach_bytes hop (route_bytes ws form)) ≡ n) × (n ≤ list_limit) × (n ≤ places)
+  pub reach_wrote : (n : ℕ) → write_reach (length hop) ws form places ≡ Ok n
+      → HopSize (length hop) × (verdict ws form ≡ fine) × (length (reach_bytes hop (route_bytes ws form)) ≡ n) × (n ≤ list_limit) × (n ≤ places)
   unfolding write_reach
   reach_wrote n =
-      pick_told (λ (a : WriteAnswer). a ≡ W.Bytes n → HopSize (length hop) × (verdict ws form ≡ 0) × (length (reach_bytes hop (route_bytes ws form)) ≡ n) × (n ≤ list_limit) × (n ≤ places))
+      pick_told (λ (a : Result ℕ Refusal). a ≡ Ok n → HopSize (length hop) × (verdict ws form ≡ fine) × (length (reach_bytes hop (route_bytes ws form)) ≡ n) × (n ≤ list_limit) × (n ≤ places))
       (is_hop_size (length hop)) _ _
       (λ size e.
       let w = after_written (hop_start + length hop + 1) ws (max_of Ipv6) form places n e in
       let shape = reach_shape hop (route_bytes ws form) (hop_formed (length hop) size) in
       (hop_formed (length hop) size, w.0, formed_length hop 0 (route_bytes ws form) _ shape ∙ w.1, w.2, w.3))
-      (λ _ e. let z : ◌≡◌ {A = ℕ} 0 1 = cc in absurd (omega arith))
+      (λ _ e. absurd (given_not_refused (sym e)))
 
   -- and what keeps the limit is written, given room
-  pub reach_written_lem : HopSize (length hop) → verdict ws form ≡ 0 → length (reach_bytes hop (route_bytes ws form)) ≤ list_limit → length (reach_bytes hop (route_bytes ws form)) ≤ places
-      → write_reach (length hop) ws form places ≡ W.Bytes (length (reach_bytes hop (route_bytes ws form)))
+  pub reach_written_lem : HopSize (length hop) → verdict ws form ≡ fine → length (reach_bytes hop (route_bytes ws form)) ≤ list_limit → length (reach_bytes hop (route_bytes ws form)) ≤ places
+      → write_reach (length hop) ws form places ≡ Ok (length (reach_bytes hop (route_bytes ws form)))
   unfolding write_reach write_after
   reach_written_lem size good short room =
       let is = formed_length hop 0 (route_bytes ws form) _ (reach_shape hop (route_bytes ws form) size) in
@@ -77,17 +79,17 @@ module _ (ws : List ℕ) (form : Form) (places : ℕ) where
   unfolding unreach_bytes
   unreach_size = omega arith
 
-  pub unreach_wrote : (n : ℕ) → write_unreach ws form places ≡ W.Bytes n → (verdict ws form ≡ 0) × (length (unreach_bytes (route_bytes ws form)) ≡ n) × (n ≤ list_limit) × (n ≤ places)
+  pub unreach_wrote : (n : ℕ) → write_unreach ws form places ≡ Ok n → (verdict ws form ≡ fine) × (length (unreach_bytes (route_bytes ws form)) ≡ n) × (n ≤ list_limit) × (n ≤ places)
   unreach_wrote n e = let w = after_written 3 ws (max_of Ipv6) form places n e in (w.0, unreach_size ∙ w.1, w.2, w.3)
 
-  pub unreach_written_lem : verdict ws form ≡ 0 → length (unreach_bytes (route_bytes ws form)) ≤ list_limit → length (unreach_bytes (route_bytes ws form)) ≤ places
-      → write_unreach ws form places ≡ W.Bytes (length (unreach_bytes (route_bytes ws form)))
+  pub unreach_written_lem : verdict ws form ≡ fine → length (unreach_bytes (route_bytes ws form)) ≤ list_limit → length (unreach_bytes (route_bytes ws form)) ≤ places
+      → write_unreach ws form places ≡ Ok (length (unreach_bytes (route_bytes ws form)))
   unfolding write_after
   unreach_written_lem good short room = rw (good, unreach_size) (limited_fits list_limit _ places (omega (arith, unreach_size)) (omega (arith, unreach_size)))
 
 -- ---- what is written is read again
 
-module _ (ws : List ℕ) (form : Form) (wide : Words ws) (good : verdict ws form ≡ 0) where
+module _ (ws : List ℕ) (form : Form) (wide : Words ws) (good : verdict ws form ≡ fine) where
   -- how many of its routes have a host bit
   abbrev pub hosts_again : ℕ
   hosts_again = hosts_of (route_bytes ws form) (max_of Ipv6) (fixed form)
@@ -146,14 +148,14 @@ drop_bytes k v each i = rw (get_or-drop k v i 0) (each _)
 
 -- the rows of routes that were accepted, from their bytes
 module _ (form : Form) (list : List ℕ) (rows hosts : ℕ) (h : RoutesFormed form list rows hosts) (each : Number.Bytes list) where
-  routes_back : let ws = flat words (map (item_row form) h.items) in (verdict ws form ≡ 0) × (route_bytes ws form ≡ list)
+  routes_back : let ws = flat words (map (item_row form) h.items) in (verdict ws form ≡ fine) × (route_bytes ws form ≡ list)
   routes_back = Lists.items_bytes (max_of Ipv6) (max_small Ipv6) form list h.items each h.cut
 
 module _ (v : List ℕ) (form : Form) (n : ℕ) (f : Bool) (rows hosts : ℕ) (h : ReachAccepted form v n f rows hosts) (each : Number.Bytes v) where
   abbrev pub reach_rows : List ℕ
   reach_rows = flat words (map (item_row form) h.routes.items)
 
-  reach_list_back : (verdict reach_rows form ≡ 0) × (route_bytes reach_rows form ≡ h.list)
+  reach_list_back : (verdict reach_rows form ≡ fine) × (route_bytes reach_rows form ≡ h.list)
   reach_list_back = routes_back form h.list rows hosts h.routes (subst Number.Bytes (formed_list h.hop h.octet h.list v h.formed) (drop_bytes (reserved_at v + 1) v each))
 
   shape_back : ReachFormed h.hop 0 h.list (reach_bytes h.hop (route_bytes reach_rows form))
@@ -163,9 +165,9 @@ module _ (v : List ℕ) (form : Form) (n : ℕ) (f : Bool) (rows hosts : ℕ) (h
   same_length = formed_length h.hop 0 h.list _ shape_back ∙ sym (formed_length h.hop h.octet h.list v h.formed)
 
   -- its next hop and its rows are written in as many bytes
-  pub reach_back : (places : ℕ) → length v ≤ places → write_reach (length h.hop) reach_rows form places ≡ W.Bytes (length v)
+  pub reach_back : (places : ℕ) → length v ≤ places → write_reach (length h.hop) reach_rows form places ≡ Ok (length v)
   reach_back places room =
-      reach_written_lem h.hop reach_rows form places h.formed.sized reach_list_back.0 (omega (arith, same_length, h.short)) (omega (arith, same_length)) ∙ ap W.Bytes same_length
+      reach_written_lem h.hop reach_rows form places h.formed.sized reach_list_back.0 (omega (arith, same_length, h.short)) (omega (arith, same_length)) ∙ ap Ok same_length
 
   -- and in the same exactly if the reserved octet was 0
   pub back_same : f ≡ false → reach_bytes h.hop (route_bytes reach_rows form) ≡ v
@@ -182,20 +184,20 @@ module _ (v : List ℕ) (form : Form) (rows hosts : ℕ) (h : UnreachAccepted fo
   abbrev pub unreach_rows : List ℕ
   unreach_rows = flat words (map (item_row form) h.routes.items)
 
-  unreach_list_back : (verdict unreach_rows form ≡ 0) × (route_bytes unreach_rows form ≡ h.list)
+  unreach_list_back : (verdict unreach_rows form ≡ fine) × (route_bytes unreach_rows form ≡ h.list)
   unreach_list_back = routes_back form h.list rows hosts h.routes (subst Number.Bytes (ap (drop 3) h.formed.octets) (drop_bytes 3 v each))
 
   pub withdrawn_same : unreach_bytes (route_bytes unreach_rows form) ≡ v
   withdrawn_same = ap unreach_bytes unreach_list_back.1 ∙ (unreach_shape h.list).octets ∙ sym h.formed.octets
 
-  pub unreach_back : (places : ℕ) → length v ≤ places → write_unreach unreach_rows form places ≡ W.Bytes (length v)
+  pub unreach_back : (places : ℕ) → length v ≤ places → write_unreach unreach_rows form places ≡ Ok (length v)
   unreach_back places room =
       let size : length (unreach_bytes (route_bytes unreach_rows form)) ≡ length v = ap length withdrawn_same in
-      unreach_written_lem unreach_rows form places unreach_list_back.0 (omega (arith, size, h.short)) (omega (arith, size)) ∙ ap W.Bytes size
+      unreach_written_lem unreach_rows form places unreach_list_back.0 (omega (arith, size, h.short)) (omega (arith, size)) ∙ ap Ok size
 
 -- ---- no two writings share their bytes
 
-module _ (form : Form) (ws ws' : List ℕ) (wide : Words ws) (wide' : Words ws') (good : verdict ws form ≡ 0) (good' : verdict ws' form ≡ 0) where
+module _ (form : Form) (ws ws' : List ℕ) (wide : Words ws) (wide' : Words ws') (good : verdict ws form ≡ fine) (good' : verdict ws' form ≡ fine) where
   same_rows : route_bytes ws form ≡ route_bytes ws' form → ws ≡ ws'
   same_rows e = Lists.bytes_equal (max_of Ipv6) (max_small Ipv6) form ws ws' wide wide' good good' e
 

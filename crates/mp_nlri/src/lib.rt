@@ -2,12 +2,13 @@
 // parse_nlri in attr_14_15_nlri.rs, for this family pair alone.
 #![tactic(auto)]
 
-ghost use Rattle.std.specs.Prelude.{◌≡◌, true, ◌+◌, ◌≤◌, length, drop};
+ghost use Rattle.std.specs.Prelude.{◌≡◌, true, ◌+◌, ◌≤◌, length, Ok};
 ghost use Rattle.wire.specs.Answer.{filled, count_meaning};
 ghost use Rattle.wire.specs.Extent.{PartOf};
 ghost use Rattle.wire.specs.Store.{laid, placed};
+ghost use Rattle.wire.specs.Verdict.{fine};
 ghost use Rattle.mp_nlri.specs.Value.{pair_fault, is_hop_size, hop_start, head_of, next_hop_at, reach_head, reach_bytes, unreach_bytes};
-ghost use Rattle.mp_nlri.specs.Read.{as_reach, count_reach, read_reach, reach_after, count_unreach, read_unreach, unreach_after};
+ghost use Rattle.mp_nlri.specs.Read.{reach_list, unreach_list, as_reach, count_reach, read_reach, reach_after, count_unreach, read_unreach, unreach_after};
 ghost use Rattle.mp_nlri.specs.Write.{write_reach, write_unreach, route_bytes};
 
 use families::{AddPath, Afi, Form};
@@ -99,12 +100,20 @@ pub fn next_hop_part(value: &[u8]) -> &[u8]
     }
 }
 
-// The bytes from a place on.
-fn bytes_after(value: &[u8], start: usize) -> &[u8]
-    requires { start ≤ length value.now }
-    ensures { result.now ≡ drop start value.now }
+// The bytes of the routes of MP_REACH_NLRI, after what stands before them.
+fn routes_after_head(value: &[u8], head: Head) -> &[u8]
+    requires { Ok head ≡ head_of value.now }
+    ensures { result.now ≡ reach_list value.now }
 {
-    &value[start..]
+    &value[NEXT_HOP_OFFSET + head.next_hop + RESERVED_SIZE..]
+}
+
+// Those of MP_UNREACH_NLRI, after its pair.
+fn routes_after_pair(value: &[u8]) -> &[u8]
+    requires { fine ≡ pair_fault value.now }
+    ensures { result.now ≡ unreach_list value.now }
+{
+    &value[PAIR_SIZE..]
 }
 
 // What stands before the routes, and the routes, as one answer.
@@ -124,8 +133,7 @@ pub fn count_mp_reach_nlri(value: &[u8], mode: AddPath) -> Result<Reach, Refusal
     ensures { result ≡ count_reach value.now mode }
 {
     let head = mp_reach_head(value)?;
-    let list = bytes_after(value, NEXT_HOP_OFFSET + head.next_hop + RESERVED_SIZE);
-    let routes = routes::count_nlri_list(list, Afi::Ipv6, mode)?;
+    let routes = routes::count_nlri_list(routes_after_head(value, head), Afi::Ipv6, mode)?;
     Ok(as_reach(head, routes))
 }
 
@@ -135,7 +143,7 @@ pub fn parse_mp_reach_nlri(value: &[u8], mode: AddPath, store: &mut [u32]) -> Re
     ensures store { store.new ≡ reach_after result value.now mode store.old }
 {
     let head = mp_reach_head(value)?;
-    let list = bytes_after(value, NEXT_HOP_OFFSET + head.next_hop + RESERVED_SIZE);
+    let list = routes_after_head(value, head);
     let routes = route_reader::parse_nlri_list(list, Afi::Ipv6, mode, store)?;
     Ok(as_reach(head, routes))
 }
@@ -145,7 +153,7 @@ pub fn count_mp_unreach_nlri(value: &[u8], mode: AddPath) -> Result<Routes, Refu
     ensures { result ≡ count_unreach value.now mode }
 {
     check_pair(value)?;
-    routes::count_nlri_list(bytes_after(value, PAIR_SIZE), Afi::Ipv6, mode)
+    routes::count_nlri_list(routes_after_pair(value), Afi::Ipv6, mode)
 }
 
 // The routes of MP_UNREACH_NLRI into a lent store, six words a row.
@@ -158,7 +166,7 @@ pub fn parse_mp_unreach_nlri(
     ensures store { store.new ≡ unreach_after result value.now mode store.old }
 {
     check_pair(value)?;
-    route_reader::parse_nlri_list(bytes_after(value, PAIR_SIZE), Afi::Ipv6, mode, store)
+    route_reader::parse_nlri_list(routes_after_pair(value), Afi::Ipv6, mode, store)
 }
 
 // The next hop, at its place in an output that has room: one address, and where it has two the other, so that each is of a size that is known

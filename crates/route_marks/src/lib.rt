@@ -8,6 +8,9 @@ ghost use Rattle.route_marks.specs.Promises.{clear_answer, clear_after};
 use families::GUESSED;
 use wire::refusal::Refusal;
 
+// A row is so many words.
+const ROW_WORDS: usize = 6;
+
 // A row's first word with that one bit off, whatever else it holds.
 fn without_mark(first: u32) -> u32
     ensures { result ≡ unmarked first }
@@ -20,11 +23,11 @@ pub fn clear_guessed(store: &mut [u32]) -> Result<usize, Refusal>
     ensures answer { result ≡ clear_answer (length store.old) }
     ensures store { store.new ≡ clear_after store.old }
 {
-    if store.len() % 6 != 0 {
+    if store.len() % ROW_WORDS != 0 {
         return Err(Refusal::NotWritable);
     }
-    for at in (0..store.len()).step_by(6) {
+    for at in (0..store.len()).step_by(ROW_WORDS) {
         store[at] = without_mark(store[at]);
     }
-    Ok(store.len() / 6)
+    Ok(store.len() / ROW_WORDS)
 }
