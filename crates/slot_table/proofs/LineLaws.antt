@@ -1,16 +1,19 @@
 -- Laws of the lines: their digits, the most bytes that they take, and a line put at the front of an output.
 -- Assumes nothing.
 use Rattle.std.proofs.Common.{◌≡◌, ℕ, zero, suc, ◌+◌, ◌-◌, ◌*◌, ◌/◌, ◌%◌, ◌^◌, ◌<◌, ◌≤◌, Bool, true, false, ltb, leb, List, [], ◌∷◌, length, take, drop, set, sym, refl, ap, ◌∙◌, arith, length-append, length-set, drop-cons, get_or-set_same, take_at, drop-set-lt, le-ltb, lt-ltb, le-leb, leb-true}
+use Rattle.std.specs.Prelude.{Option, Some, None, Result}
 use native.Mathlib.Nat.{pow-succ'}
 use borrow.Author.Tests.{lt-leb}
 use Rattle.wire.specs.Choice.{pick}
 use Rattle.wire.specs.Store.{laid}
 use Rattle.wire.proofs.ChoiceLaws.{pick_any}
 use Rattle.wire.proofs.StoreLaws.{drop_laid_past}
-use Rattle.routes.specs.declared.RoutesAnswer.{RoutesAnswer}
+use Rattle.wire.specs.declared.refusal.Refusal.{Refusal}
+use Rattle.routes.specs.declared.Routes.{Routes}
 use Rattle.routes.specs.Promises.{rows_in, verdict_in}
 use Rattle.slot_table.specs.Line.{space, slash, state_text, digits, number, fields_text, section_text, heading_text, line_room, put_count, put_out}
 use Rattle.slot_table.specs.Private.{number_room, state_room, fields_room, section_room, Grown}
+use Rattle.slot_table.specs.declared.Text.{Text}
 use Rattle.slot_table.specs.declared.State.{State}
 use Rattle.slot_table.specs.declared.State.TheVariants.{Whole, Cut, Trailing}
 
@@ -58,10 +61,6 @@ digits_few (suc f) n acc =
 pub number_few : (n end : ℕ) → length (number n (end ∷ [])) ≤ number_room
 number_few n end = omega (arith, digits_few 20 n (end ∷ []))
 
--- so the place after a number that was put
-pub number_put : (n end : ℕ) {d d' : List ℕ} {at to : ℕ} → Grown d at (number n (end ∷ [])) d' to → to ≤ at + number_room
-number_put n end g = omega (arith, g.after, number_few n end)
-
 pub state_few : (state : State) → length (state_text state) ≤ state_room
 state_few Whole = omega arith
 state_few Cut = omega arith
@@ -72,7 +71,7 @@ unfolding fields_text
 fields_few kind claimed kept state =
     simp length-append (omega (arith, number_few kind space, number_few claimed space, number_few kept space, state_few state))
 
-pub section_few : (a : RoutesAnswer) → length (section_text a) ≤ section_room
+pub section_few : (a : Result Routes Refusal) → length (section_text a) ≤ section_room
 unfolding section_text
 section_few a = simp length-append (omega (arith, number_few (rows_in a) slash, number_few (verdict_in a) space))
 
@@ -83,26 +82,35 @@ heading_few = omega arith
 
 -- ---- a line at the front of an output
 
-pub put_fits : (line d d' : List ℕ) (r : ℕ) → line_room ≤ length d → Grown d 0 line d' r → (r ≡ put_count line (length d)) × (d' ≡ put_out line d)
+pub put_fits : (line : List ℕ) (t t' : Text) → line_room ≤ length t.out.now → t.at ≡ 0 → Grown t line t'
+    → (Some t'.at ≡ put_count line (length t.out.now)) × (t'.out.now ≡ put_out line t.out.now)
 unfolding put_count put_out
-put_fits line d d' r h g =
-    let r_is : r ≡ length line = omega (arith, g.after) in
-    rw (le-leb line_room (length d) h) (r_is, g.grown)
+put_fits line t t' h start g =
+    let at : t'.at ≡ length line = omega (arith, g.at, start) in
+    rw (le-leb line_room (length t.out.now) h) (ap Some at, g.grown ∙ ap (λ (k : ℕ). laid t.out.now k line) start)
 
-pub put_not : (line d : List ℕ) → length d < line_room → (0 ≡ put_count line (length d)) × (d ≡ put_out line d)
+pub put_not : (line d : List ℕ) → length d < line_room → (None ≡ put_count line (length d)) × (d ≡ put_out line d)
 unfolding put_count put_out
 put_not line d h = rw (lt-leb line_room (length d) h) (refl, refl)
 
+pub put_given : (line d : List ℕ) → line_room ≤ length d → put_count line (length d) ≡ Some (length line)
+unfolding put_count
+put_given line d h = rw (le-leb line_room (length d) h) refl
+
 -- the output begins with what is put
-pub put_front : (line d : List ℕ) → line_room ≤ length d → take (put_count line (length d)) (put_out line d) ≡ line
+pub put_front : (line d : List ℕ) (n : ℕ) → put_count line (length d) ≡ Some n → take n (put_out line d) ≡ line
 unfolding put_count put_out
-put_front line d h = rw (le-leb line_room (length d) h) (take_at line (drop (0 + length line) d) (length line) refl)
+put_front line d n = by (leb line_room (length d))
+  where
+    by : (t : Bool) → pick t (Some (length line)) None ≡ Some n → take n (pick t (laid d 0 line) d) ≡ line
+    by true e = let size : length line ≡ n = cc in take_at line (drop (0 + length line) d) n size
+    by false e = let z : ◌≡◌ {A = ℕ} 0 1 = cc in absurd (omega arith)
 
 -- what lies past it is as it was
-pub put_past : (line d : List ℕ) → length line ≤ line_room → drop (put_count line (length d)) (put_out line d) ≡ drop (put_count line (length d)) d
+pub put_past : (line d : List ℕ) (n : ℕ) → length line ≤ line_room → put_count line (length d) ≡ Some n → drop n (put_out line d) ≡ drop n d
 unfolding put_count put_out
-put_past line d few = by (leb line_room (length d)) refl
+put_past line d n few = by (leb line_room (length d)) refl
   where
-    by : (t : Bool) → leb line_room (length d) ≡ t → drop (pick t (length line) 0) (pick t (laid d 0 line) d) ≡ drop (pick t (length line) 0) d
-    by true e = drop_laid_past d 0 line (length line) (omega arith) (omega (arith, few, leb-true line_room (length d) e))
-    by false e = refl
+    by : (t : Bool) → leb line_room (length d) ≡ t → pick t (Some (length line)) None ≡ Some n → drop n (pick t (laid d 0 line) d) ≡ drop n d
+    by true e s = let size : length line ≡ n = cc in drop_laid_past d 0 line n (omega (arith, size)) (omega (arith, few, leb-true line_room (length d) e))
+    by false e s = refl

@@ -19,12 +19,13 @@ use Rattle.slots.proofs.BlockLaws.{decided}
 use Rattle.slot_table.specs.Line.{space, line_end, line_of, stop_text, line_room}
 use Rattle.slot_table.specs.Private.{Grown}
 use Rattle.slot_table.specs.Table.{next, kept_bytes, row_by, lines_of, Listing, ended, ahead, listing_by, listing_from, listing, listed_of, ending_text}
+use Rattle.slot_table.specs.declared.Text.{Text}
 use Rattle.slot_table.specs.declared.Then.{Then}
 use Rattle.slot_table.specs.declared.Then.TheVariants.{Write, Read, Whole, Stop}
 use Rattle.slot_table.specs.declared.Listed.{Listed}
 use Rattle.slot_table.specs.declared.Ending.{Ending}
 use Rattle.slot_table.specs.declared.Ending.TheVariants as E
-use Rattle.slot_table.proofs.Growth.{grow}
+use Rattle.slot_table.proofs.Growth.{grow, grown_long}
 use Rattle.slot_table.proofs.LineLaws.{number_few}
 
 -- ---- a block, record by record
@@ -88,32 +89,42 @@ kept_part block used kept =
 -- ---- the loop that puts it
 
 -- at its head: the lines of the records before `used` are put, and the listing goes on from there
-pub record Going (block : List ℕ) (last : Bool) (first : ℕ) (d₀ d : List ℕ) (used put nth : ℕ) : Type 0 where
+pub record Going (block : List ℕ) (last : Bool) (first : ℕ) (start text : Text) (used nth : ℕ) : Type 0 where
   pub lines : List ℕ
-  pub grown : Grown d₀ 0 lines d put
+  pub grown : Grown start lines text
   pub within : used ≤ length block
-  pub listing_is : listing last first (length d₀) block ≡ ahead lines used (listing last nth (length d₀ - put) (drop used block))
+  pub listing_is : listing last first (length start.out.now) block ≡ ahead lines used (listing last nth (length start.out.now - text.at) (drop used block))
 
-module _ (block : List ℕ) (last : Bool) (first : ℕ) (d₀ : List ℕ) where
-  pub going_start : Going block last first d₀ d₀ 0 0 first
+module _ (block : List ℕ) (last : Bool) (first : ℕ) (start : Text) (front : start.at ≡ 0) where
+  pub going_start : Going block last first start start 0 first
   going_start = record {
     lines = [];
-    grown = record { grown = refl; after = refl; room = omega arith };
+    grown = record { grown = sym (laid_nil start.out.now start.at); at = sym (add-zero start.at); room = omega (arith, front); same = refl };
     within = omega arith;
-    listing_is = ap (λ (k : ℕ). listing last first k block) (sym (sub-zero (length d₀))) ∙ sym (ahead_none (listing last first (length d₀ - 0) block));
+    listing_is =
+        ap (λ (k : ℕ). listing last first k block) (sym (sub-zero (length start.out.now)) ∙ ap (λ (k : ℕ). length start.out.now - k) (sym front))
+        ∙ sym (ahead_none (listing last first (length start.out.now - start.at) block));
   }
 
-  module _ (d : List ℕ) (used put nth : ℕ) (g : Going block last first d₀ d used put nth) where
+  module _ (text : Text) (used nth : ℕ) (g : Going block last first start text used nth) where
+    -- the output keeps its length, and what is put lies in it
+    pub going_long : length text.out.now ≡ length start.out.now
+    going_long = grown_long g.grown
+
+    -- the listing goes on with what is left, by the room that is left
+    left : Listing
+    left = listing last nth (length start.out.now - text.at) (drop used block)
+
     -- a record's line is put
-    pub going_on : (d' : List ℕ) (kept put' : ℕ) (mode : AddPath) → line_room ≤ length d₀ - put → slot_of (drop used block) last ≡ S.Slot kept mode
-        → Grown d put (line_of nth (take (used + record_size + kept - (used + record_size)) (drop (used + record_size) block)) mode) d' put'
-        → Going block last first d₀ d' (used + record_size + kept) put' (next nth)
-    going_on d' kept put' mode room e p =
+    pub going_on : (text' : Text) (kept : ℕ) (mode : AddPath) → line_room ≤ length text.out.now - text.at → slot_of (drop used block) last ≡ S.Slot kept mode
+        → Grown text (line_of nth (take (used + record_size + kept - (used + record_size)) (drop (used + record_size) block)) mode) text'
+        → Going block last first start text' (used + record_size + kept) (next nth)
+    going_on text' kept mode room e p =
         let line : List ℕ = line_of nth (kept_bytes kept (drop used block)) mode in
-        let q : Grown d put line d' put' = subst (λ (t : List ℕ). Grown d put (line_of nth t mode) d' put') (kept_part block used kept) p in
+        let q : Grown text line text' = subst (λ (t : List ℕ). Grown text (line_of nth t mode) text') (kept_part block used kept) p in
         let fits = slot_fits (drop used block) last kept mode e in
-        let left = length-drop used block in
-        let to : length d₀ - put - length line ≡ length d₀ - put' = omega (arith, q.after) in
+        let past = length-drop used block in
+        let to : length start.out.now - text.at - length line ≡ length start.out.now - text'.at = omega (arith, q.at) in
         let from : drop (record_size + kept) (drop used block) ≡ drop (used + record_size + kept) block =
         drop-drop (record_size + kept) used block ∙ ap (λ (k : ℕ). drop k block) (sym (add_assoc used record_size kept)) in
         record {
@@ -122,7 +133,7 @@ module _ (block : List ℕ) (last : Bool) (first : ℕ) (d₀ : List ℕ) where
           within = omega arith;
           listing_is =
               g.listing_is
-              ∙ ap (ahead g.lines used) (listing_slot last nth (length d₀ - put) (drop used block) room kept mode e)
+              ∙ ap (ahead g.lines used) (listing_slot last nth (length start.out.now - text.at) (drop used block) (omega (arith, room, going_long)) kept mode e)
               ∙ ahead_ahead line _
               ∙ ap₂ (λ (k : ℕ) (t : List ℕ). ahead (g.lines ++ line) (used + record_size + kept) (listing last (next nth) k t)) to from;
         }
@@ -132,21 +143,40 @@ module _ (block : List ℕ) (last : Bool) (first : ℕ) (d₀ : List ℕ) where
             ap₂ (λ (t : List ℕ) (k : ℕ). record { lines = t; used = k; nth = l.nth; then = l.then })
             (sym (append_assoc g.lines line l.lines)) (omega arith)
 
-    -- the listing ends, with the lines that are put last
-    pub going_done : (d' : List ℕ) (more : List ℕ) (put' : ℕ) (then : Then)
-        → listing last nth (length d₀ - put) (drop used block) ≡ ended more nth then → Grown d put more d' put'
-        → (record { used = used; put = put'; nth = nth; then = then } ≡ listed_of (listing last first (length d₀) block))
-        × (d' ≡ laid d₀ 0 (listing last first (length d₀) block).lines)
-    going_done d' more put' then e q =
-        let all : listing last first (length d₀) block ≡ ahead g.lines used (ended more nth then) = g.listing_is ∙ ap (ahead g.lines used) e in
-        let w = grow g.grown q in (
-          ap₂ (λ (u p : ℕ). record { used = u; put = p; nth = nth; then = then }) (omega arith) (omega (arith, w.after)) ∙ sym (ap listed_of all),
-          w.grown ∙ sym (ap (λ (l : Listing). laid d₀ 0 l.lines) all),
-        )
+    -- what is answered where the listing ends, with the text that is put last
+    pub record Done (text' : Text) (then : Then) : Type 0 where
+      pub answer : record { used = used; put = text'.at; nth = nth; then = then } ≡ listed_of (listing last first (length start.out.now) block)
+      pub output : text'.out.now ≡ laid start.out.now 0 (listing last first (length start.out.now) block).lines
+      pub same : text'.out.ghost_name ≡ start.out.ghost_name
 
--- nothing more is put
-pub put_nothing : (d : List ℕ) (put : ℕ) → put ≤ length d → Grown d put [] d put
-put_nothing d put h = record { grown = sym (laid_nil d put); after = sym (add-zero put); room = h }
+    going_done : (text' : Text) (more : List ℕ) (then : Then) → left ≡ ended more nth then → Grown text more text' → Done text' then
+    unfolding left
+    going_done text' more then e q =
+        let all : listing last first (length start.out.now) block ≡ ahead g.lines used (ended more nth then) = g.listing_is ∙ ap (ahead g.lines used) e in
+        let w = grow g.grown q in
+        record {
+          answer = ap₂ (λ (u p : ℕ). record { used = u; put = p; nth = nth; then = then }) (omega arith) (omega (arith, w.at, front)) ∙ sym (ap listed_of all);
+          output = w.grown ∙ ap (λ (k : ℕ). laid start.out.now k (g.lines ++ more)) front ∙ sym (ap (λ (l : Listing). laid start.out.now 0 l.lines) all);
+          same = w.same;
+        }
+
+    -- nothing more is put
+    put_nothing : Grown text [] text
+    put_nothing = record { grown = sym (laid_nil text.out.now text.at); at = sym (add-zero text.at); room = omega (arith, g.grown.room, going_long); same = refl }
+
+    pub going_full : length text.out.now - text.at < line_room → Done text Write
+    unfolding left
+    going_full full = going_done text [] Write (listing_full last nth _ (drop used block) (omega (arith, full, going_long))) put_nothing
+
+    pub going_ends : (found : SlotAnswer) (then : Then) → line_room ≤ length text.out.now - text.at → slot_of (drop used block) last ≡ found
+        → ((go : List ℕ → List ℕ → Listing) → listing_by found nth (drop used block) go ≡ ended [] nth then) → Done text then
+    unfolding left
+    going_ends found then room e ends = going_done text [] then (listing_ends last nth _ (drop used block) (omega (arith, room, going_long)) found [] then e ends) put_nothing
+
+    pub going_stops : (text' : Text) → line_room ≤ length text.out.now - text.at → slot_of (drop used block) last ≡ S.Stop → Grown text (stop_text nth) text' → Done text' Stop
+    unfolding left
+    going_stops text' room e q =
+        going_done text' (stop_text nth) Stop (listing_ends last nth _ (drop used block) (omega (arith, room, going_long)) S.Stop (stop_text nth) Stop e (λ go. refl)) q
 
 -- ---- blocks, one after another
 

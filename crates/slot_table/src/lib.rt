@@ -2,7 +2,7 @@
 // records, block by block.
 #![tactic(auto)]
 
-ghost use Rattle.std.specs.Prelude.{◌≡◌, ◌++◌, [], ◌∷◌, length, drop, ◌≤◌};
+ghost use Rattle.std.specs.Prelude.{◌≡◌, ◌-◌, ◌≤◌, [], ◌∷◌, ◌++◌, length, drop};
 ghost use Rattle.wire.specs.Refusal.{number_of};
 ghost use Rattle.wire.specs.Store.{laid};
 ghost use Rattle.messages.specs.Header.{kind_number};

@@ -1,16 +1,19 @@
+use Rattle.std.proofs.Common.{rules, refl}
 use Rattle.slot_table.specs.Line.{heading_text}
 use Rattle.slot_table.proofs.LineLaws.{put_fits, put_not}
+use Rattle.slot_table.proofs.Growth.{held}
 use Rattle.slot_table.proofs.put_heading.Goals as goal
 
-pub returns-then-out-lt-LINE_ROOM : goal.returns-then-out-lt-LINE_ROOM
-returns-then-out-lt-LINE_ROOM c =
-    let both = put_not heading_text c.args.out.now c.if-out-lt-LINE_ROOM.true in
-    record { answer = both.0; output = both.1 }
+pub returns-then-out-lt-LINE_ROOM-clause-answer : goal.returns-then-out-lt-LINE_ROOM-clause-answer
+returns-then-out-lt-LINE_ROOM-clause-answer c = (put_not heading_text c.args.out.now c.if-out-lt-LINE_ROOM.true).0
 
-pub returns : goal.returns
+pub returns-then-out-lt-LINE_ROOM-clause-output : goal.returns-then-out-lt-LINE_ROOM-clause-output
+returns-then-out-lt-LINE_ROOM-clause-output c = (put_not heading_text c.args.out.now c.if-out-lt-LINE_ROOM.true).1
+
+pub returns-clause-answer : goal.returns-clause-answer
 unfolding heading_text
-returns c =
-    let both =
-    let a = c.args in
-    put_fits heading_text a.out.now _ _ c.if-out-lt-LINE_ROOM.false c.put_text.ensures in
-    record { answer = both.0; output = both.1 }
+returns-clause-answer c = (put_fits heading_text _ _ c.if-out-lt-LINE_ROOM.false refl c.put.ensures).0
+
+pub returns-clause-output : goal.returns-clause-output
+unfolding heading_text
+returns-clause-output c = held (put_fits heading_text _ _ c.if-out-lt-LINE_ROOM.false refl c.put.ensures).1 (search rules)

@@ -2,8 +2,8 @@ use Rattle.std.proofs.Common.{◌-◌, length}
 use Rattle.slot_table.proofs.TableLaws.{Going}
 use Rattle.slot_table.proofs.put_records.Given as goal
 
-abbrev pub invariant-loop-out : goal.invariant-loop-out
-invariant-loop-out l = Going l.block l.last l.first l.initial.out l.out l.used l.put l.nth
+abbrev pub invariant-loop-kept : goal.invariant-loop-kept
+invariant-loop-kept l = Going l.block l.last l.first l.initial.text l.text l.used l.nth
 
-abbrev pub decreases-loop-out : goal.decreases-loop-out
-decreases-loop-out l = length l.block - l.used
+abbrev pub decreases-loop-kept : goal.decreases-loop-kept
+decreases-loop-kept l = length l.block - l.used
