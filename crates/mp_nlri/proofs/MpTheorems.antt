@@ -14,7 +14,7 @@ use Rattle.wire.specs.Answer.{flag}
 use Rattle.wire.specs.Cutting.{Cutting}
 use Rattle.wire.specs.Number.{be_at}
 use Rattle.wire.specs.Refusal.{list_limit}
-use Rattle.wire.specs.Verdict.{Verdict, fine, answer_by}
+use Rattle.wire.specs.Verdict.{fine, answer_by}
 use Rattle.wire.specs.declared.refusal.Refusal.{Refusal}
 use Rattle.wire.specs.Walk.{Reading, tally}
 use Rattle.wire.proofs.ChoiceLaws.{and_true}
@@ -128,11 +128,15 @@ one_shape hop hop' list list' v r r' h h' =
 
 -- ---- routes that are accepted
 
+-- what is given is one value
+given_same : {X : Type 0} (x y : X) → ◌≡◌ {A = Result X Refusal} (Ok x) (Ok y) → x ≡ y
+given_same x y e = cc
+
 abbrev pub rows_told : ℕ → ℕ → Result Routes Refusal
 rows_told rows hosts = Ok (record { rows = rows; hosts = hosts })
 
 pub answer_is : (a : Result ℕ Refusal) (h rows hosts : ℕ) → with_hosts a h ≡ rows_told rows hosts → (a ≡ Ok rows) × (h ≡ hosts)
-answer_is (Ok n) h rows hosts e = let p : n ≡ rows = cc in let q : h ≡ hosts = cc in (ap Ok p, q)
+answer_is (Ok n) h rows hosts e = let same = given_same _ _ e in (ap (λ (r : Routes). Ok r.rows) same, ap (λ (r : Routes). r.hosts) same)
 answer_is (Err why) h rows hosts e = absurd (given_not_refused (sym e))
 
 module _ (form : Form) (mode : AddPath) (on : mode ≡ fixed form) (l : List ℕ) where
@@ -173,11 +177,8 @@ reach_told n f rows hosts = Ok (record { next_hop = n; reserved = f; rows = rows
 
 pub reach_is : (n : ℕ) (f : Bool) (rows hosts : ℕ) (x : Result Head Refusal) (a : Result Routes Refusal) → if_head x a ≡ reach_told n f rows hosts → (x ≡ Ok (head_with n f)) × (a ≡ rows_told rows hosts)
 reach_is n f rows hosts (Ok head) (Ok routes) e =
-    let p : head.next_hop ≡ n = cc in
-    let q : head.reserved ≡ f = cc in
-    let r : routes.rows ≡ rows = cc in
-    let s : routes.hosts ≡ hosts = cc in
-    (ap₂ (λ (k : ℕ) (g : Bool). Ok (head_with k g)) p q, ap₂ rows_told r s)
+    let same = given_same _ _ e in
+    (ap (λ (r : Reach). Ok (head_with r.next_hop r.reserved)) same, ap (λ (r : Reach). rows_told r.rows r.hosts) same)
 reach_is n f rows hosts (Ok head) (Err why) e = absurd (given_not_refused (sym e))
 reach_is n f rows hosts (Err why) a e = absurd (given_not_refused (sym e))
 
