@@ -25,6 +25,7 @@ use Rattle.paths.specs.Segment.{Segment, Rule, known_type, rule_of, segment_at, 
 use Rattle.paths.specs.WellFormed.{Known, WellFormed}
 use Rattle.paths.specs.declared.PathRule.{PathRule}
 use Rattle.paths.specs.declared.PathRule.TheVariants.{Crate}
+use Rattle.paths.specs.declared.Path.{Path}
 use Rattle.paths.proofs.FormedLaws.{ruled, decides}
 use Rattle.paths.proofs.PromiseLaws.{pairs_length, read_path, path_stores}
 use Rattle.paths.proofs.count_as_path.Reads as count_as_path
@@ -47,7 +48,6 @@ use Rattle.as4.proofs.PlanLaws.{answer_alone, built_absent, built_good}
 use Rattle.as4.proofs.standing_aggregator.Reads as standing_aggregator
 use Rattle.as4.proofs.count_merged_as_path.Reads as count_merged_as_path
 use Rattle.as4.proofs.merge_as_path.Reads as merge_as_path
-use Rattle.demands.specs.Paths.{path_with}
 
 -- ---- the words of the statements
 
@@ -169,26 +169,27 @@ module _ (path four one two : List ℕ) (bytes : Bytes path) (bytes' : Bytes fou
 -- so it is written at width 4 wherever its bytes, two and four a number for each segment, are at most 65,535, given room
 module _ (κs : _) (given : _) (answer : _) (exit : _) (call : merge_as_path.Learnt κs given answer exit)
     (κs' : _) (given' : _) (answer' : _) (exit' : _) (call' : encode_as_path.Learnt κs' given' answer' exit') where
-  pub merged_written : (m n : ℕ) → answer ≡ Ok (path_with m n) → Bytes (as_path given) → Bytes (as4_path given)
-      → given'.0.now ≡ take (2 * m) (pairs exit) → given'.1.0.now ≡ take n (numbers exit) → given'.1.1.0 ≡ Bits32 → given'.1.1.1.0 ≡ Crate
-      → 2 * m + 4 * n ≤ list_limit → 2 * m + 4 * n ≤ length given'.1.1.1.1.0.now
-      → (answer' ≡ Ok (2 * m + 4 * n))
+  pub merged_written : (path : Path) → answer ≡ Ok path → Bytes (as_path given) → Bytes (as4_path given)
+      → given'.0.now ≡ take (2 * path.segments) (pairs exit) → given'.1.0.now ≡ take path.numbers (numbers exit) → given'.1.1.0 ≡ Bits32 → given'.1.1.1.0 ≡ Crate
+      → 2 * path.segments + 4 * path.numbers ≤ list_limit → 2 * path.segments + 4 * path.numbers ≤ length given'.1.1.1.1.0.now
+      → (answer' ≡ Ok (2 * path.segments + 4 * path.numbers))
       × (exit'.1.1.1.1.0.now ≡ laid given'.1.1.1.1.0.now 0 (path_bytes 4 (built_of (as_path given) (as4_path given) (first given) (second given)).rows))
   unfolding lent_bytes
-  merged_written m n said bytes bytes' p q width rule short room =
+  merged_written path said bytes bytes' p q width rule short room =
       let r = built_of (as_path given) (as4_path given) (first given) (second given) in
       let out : List ℕ = given'.1.1.1.1.0.now in
       let heads : List ℕ = flat pair_of r.rows in
       let asns : List ℕ = flat asns_of r.rows in
       let alike = as_read r (pairs given) (numbers given) in
       let accepted = sym alike.0 ∙ sym call.0 ∙ said in
-      let h = read_path [] r m n (length (pairs given)) (length (numbers given)) accepted in
-      let stores = path_stores [] r (pairs given) (numbers given) m n accepted in
-      let two : length heads ≡ 2 * m = pairs_length r.rows ∙ ap (λ (k : ℕ). 2 * k) h.2 in
-      let lent_heads : given'.0.now ≡ heads = p ∙ ap (take (2 * m)) (call.1.0 ∙ alike.1.0 ∙ stores.0) ∙ take_at heads _ (2 * m) two in
-      let lent_asns : given'.1.0.now ≡ asns = q ∙ ap (take n) (call.1.1 ∙ alike.1.1 ∙ stores.1) ∙ take_at asns _ n h.3 in
+      let h = read_path [] r path (length (pairs given)) (length (numbers given)) accepted in
+      let stores = path_stores [] r (pairs given) (numbers given) path accepted in
+      let two : length heads ≡ 2 * path.segments = pairs_length r.rows ∙ ap (λ (x : Path). 2 * x.segments) h.2 in
+      let many : length asns ≡ path.numbers = ap (λ (x : Path). x.numbers) h.2 in
+      let lent_heads : given'.0.now ≡ heads = p ∙ ap (take (2 * path.segments)) (call.1.0 ∙ alike.1.0 ∙ stores.0) ∙ take_at heads _ (2 * path.segments) two in
+      let lent_asns : given'.1.0.now ≡ asns = q ∙ ap (take path.numbers) (call.1.1 ∙ alike.1.1 ∙ stores.1) ∙ take_at asns _ path.numbers many in
       let w = lend known_type 4 r.rows (built_writable (as_path given) (as4_path given) (first given) (second given) bytes bytes' h.1) in
-      let size : length heads + span 4 (length asns) ≡ 2 * m + 4 * n = omega (arith, two, h.3, span_is 4 (length asns)) in
+      let size : length heads + span 4 (length asns) ≡ 2 * path.segments + 4 * path.numbers = omega (arith, two, many, span_is 4 (length asns)) in
       let good : (lent_path known_type 4 heads asns).verdict ≡ fine = ap (λ (x : Reading Segment). x.verdict) w.0 in
       let written = all_written known_type 4 heads asns (length out) w.1 (sym good) (omega (arith, size, short)) (omega (arith, size, room)) in
       let same : (f : Rule → ℕ → List ℕ → List ℕ → List ℕ) → f (rule_of given'.1.1.1.0) (width_of given'.1.1.0) given'.0.now given'.1.0.now ≡ f known_type 4 heads asns =

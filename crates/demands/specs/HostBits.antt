@@ -20,7 +20,7 @@ use Rattle.routes.specs.declared.Routes.{Routes}
 use Rattle.routes.specs.declared.Route.{Route}
 use Rattle.routes.proofs.CuttingLaws.{cut_hosts}
 use Rattle.routes.proofs.BitLaws.{route_bits}
-use Rattle.routes.proofs.ListLaws.{fair, hosts_few, count_rows, read_rows, section_counted}
+use Rattle.routes.proofs.ListLaws.{fair, hosts_few, count_rows, read_rows, section_counted, told_list}
 use Rattle.routes.proofs.try_parse_prefix.Reads as try_parse_prefix
 use Rattle.routes.proofs.count_nlri_list.Reads as count_nlri_list
 use Rattle.routes.proofs.count_nlri.Reads as count_nlri
@@ -29,7 +29,7 @@ use Rattle.route_reader.proofs.read_nlri.Reads as read_nlri
 use Rattle.route_writer.proofs.RouteTheorems.{guess_hosts}
 use Rattle.updates.specs.declared.Update.{Update}
 use Rattle.updates.proofs.count_bgp_update_message.Reads as count_bgp_update_message
-use Rattle.demands.specs.Routes.{bytes, family, setting, store, told, told_counted, Cut, off_items, list_guess, list_count_guess}
+use Rattle.demands.specs.Routes.{bytes, family, setting, store, told, Cut, off_items, list_guess, list_count_guess}
 
 -- ---- 1. One route
 
@@ -62,7 +62,7 @@ host_rows_lem : (afi : Afi) (form : Form) (s : List ℕ) (mode : AddPath) → mo
     → ((n : ℕ) → a ≡ Ok n → length (list_of s (max_of afi) mode).rows ≡ n) → HostRows afi form s answer
 host_rows_lem afi form s mode on a answer e many =
     let all : ℕ = hosts_of s (max_of afi) mode in
-    let is : (n : ℕ) → told answer ≡ Ok n → a ≡ Ok n = λ n f. sym (told_counted a all answer e) ∙ f in
+    let is : (n : ℕ) → told answer ≡ Ok n → a ≡ Ok n = λ n f. sym (told_list a all answer e) ∙ f in
     let told_all : (n : ℕ) → told answer ≡ Ok n → hosts_in answer ≡ all = λ n f. ap hosts_in (e ∙ ap (λ (x : Result ℕ Refusal). with_hosts x all) (is n f)) in
     record {
       none = λ why f. ap hosts_in f;
@@ -105,7 +105,7 @@ module _ (κs : _) (given : _) (answer : _) (exit : _) (call : read_nlri.Learnt 
 same_hosts : (a a' : Result ℕ Refusal) (answer answer' : Result Routes Refusal) (h h' : ℕ) → answer ≡ with_hosts a h → answer' ≡ with_hosts a' h' → told answer ≡ told answer' → h ≡ h'
     → hosts_in answer ≡ hosts_in answer'
 same_hosts a a' answer answer' h h' e e' same alike =
-    ap hosts_in (e ∙ ap₂ with_hosts (sym (told_counted a h answer e) ∙ same ∙ told_counted a' h' answer' e') alike ∙ sym e')
+    ap hosts_in (e ∙ ap₂ with_hosts (sym (told_list a h answer e) ∙ same ∙ told_list a' h' answer' e') alike ∙ sym e')
 
 module _ (κs : _) (given : _) (answer : _) (exit : _) (call : count_nlri_list.Learnt κs given answer exit)
     (κs' : _) (given' : _) (answer' : _) (exit' : _) (call' : count_nlri_list.Learnt κs' given' answer' exit') where

@@ -1,7 +1,7 @@
 -- An index beside a list of routes (document 02, K9), of the calls themselves: what building answers and leaves, and which route is found, by the list's own
 -- index and by any other.
 -- Assumes nothing.
-use Rattle.std.specs.Prelude.{ℕ, ◌+◌, ◌*◌, ◌/◌, ◌%◌, ◌≤◌, ◌<◌, ◌≡◌, Bool, true, false, length, get_or, take, drop, Result, Ok, Err}
+use Rattle.std.specs.Prelude.{ℕ, ◌+◌, ◌*◌, ◌/◌, ◌%◌, ◌≤◌, ◌<◌, ◌≡◌, true, false, length, get_or, take, drop, Result, Ok, Err}
 use Rattle.std.proofs.Math.Path.{refl, sym, ap₂}
 use Rattle.std.proofs.Common.{ap, ◌∙◌, arith}
 use mathlib.Core.List.{List, [], map}
@@ -18,8 +18,8 @@ use Rattle.families.specs.declared.Form.{Form}
 use Rattle.routes.specs.List.{Reader, up_to, fixed, list_of, hosts_of}
 use Rattle.routes.specs.Prefix.{words}
 use Rattle.routes.specs.Promises.{count_answer}
-use Rattle.routes.specs.declared.Row.{Row}
-use Rattle.routes.proofs.ListLaws.{fair, read_stored}
+use Rattle.routes.specs.declared.Route.{Route}
+use Rattle.routes.proofs.ListLaws.{fair, read_stored, told_list}
 use Rattle.routes.proofs.count_nlri_list.Reads as count_nlri_list
 use Rattle.route_reader.proofs.parse_nlri_list.Reads as parse_nlri_list
 use Rattle.route_index.specs.Index.{items_by, index_by, is_index, item_route, no_route, route_by}
@@ -28,7 +28,7 @@ use Rattle.route_index.proofs.OwnLaws as Own
 use Rattle.route_index.proofs.count_index.Reads as count_index
 use Rattle.route_index.proofs.build_index.Reads as build_index
 use Rattle.route_index.proofs.route_at.Reads as route_at
-use Rattle.demands.specs.Routes.{bytes, family, setting, form_asked, store, told, told_counted}
+use Rattle.demands.specs.Routes.{bytes, family, setting, form_asked, store, told}
 
 -- ---- the words of the statements
 
@@ -56,7 +56,7 @@ module _ (κs : _) (given : _) (answer : _) (exit : _) (call : count_index.Learn
     (same : bytes lent ≡ bytes given) (alike : family lent ≡ family given) (on : setting lent ≡ fixed (form_asked given)) where
   counted : told rows ≡ count_answer (bytes given) (list_of (bytes given) (max_of (family given)) (fixed (form_asked given)))
   counted =
-      told_counted _ (hosts_of (bytes lent) (max_of (family lent)) (setting lent)) rows list
+      told_list _ (hosts_of (bytes lent) (max_of (family lent)) (setting lent)) rows list
       ∙ ap₂ (λ (s : List ℕ) (afi : Afi). count_answer s (list_of s (max_of afi) (setting lent))) same alike
       ∙ ap (λ (mode : AddPath). count_answer (bytes given) (list_of (bytes given) (max_of (family given)) mode)) on
 
@@ -106,15 +106,15 @@ module _ (κs : _) (given : _) (answer : _) (exit : _) (call : build_index.Learn
           × (take (6 * m) (store exit'') ≡ flat words (list_of (bytes given) (max_of afi) (fixed form)).rows)
       rows_stored =
           let r = list_of (bytes lent) (max_of (family lent)) (setting lent) in
-          let is = read_stored (bytes lent) r (store lent) m (sym (told_counted _ (hosts_of (bytes lent) (max_of (family lent)) (setting lent)) rows list.0) ∙ read) in
+          let is = read_stored (bytes lent) r (store lent) m (sym (told_list _ (hosts_of (bytes lent) (max_of (family lent)) (setting lent)) rows list.0) ∙ read) in
           let whole = ap₂ (λ (s : List ℕ) (a : Afi). list_of s (max_of a) (setting lent)) same'' alike'' ∙ ap (list_of (bytes given) (max_of afi)) on in
           (ap (λ x. length x.rows) (sym whole) ∙ is.0, ap (take (6 * m)) list.1 ∙ is.2 ∙ ap (λ x. flat words x.rows) whole)
 
-      pub own_row : number asked < m → (used : ℕ) × (row : Row) × (host : Bool) × (route ≡ Ok (record { prefix = record { used = used; row = row }; host = host }))
-          × (take 6 (drop (6 * number asked) (take (6 * m) (store exit''))) ≡ words row)
+      pub own_row : number asked < m → (found : Route) × (route ≡ Ok found)
+          × (take 6 (drop (6 * number asked) (take (6 * m) (store exit''))) ≡ words found.prefix.row)
       own_row lt =
           let r = Own.route_row (up_to (max_of afi)) (fair (max_of afi)) (bytes given) form (number asked) (omega (arith, lt, rows_stored.0)) in
-          (r.0, r.1, r.2, own_route_lem ∙ r.3, ap (λ (l : List ℕ). take 6 (drop (6 * number asked) l)) rows_stored.1 ∙ r.4)
+          (r.0, own_route_lem ∙ r.1, ap (λ (l : List ℕ). take 6 (drop (6 * number asked) l)) rows_stored.1 ∙ r.2)
 
       pub own_none : m ≤ number asked → route ≡ Err NoSuchRoute
       own_none le = own_route_lem ∙ Own.route_none (up_to (max_of afi)) (fair (max_of afi)) (bytes given) form (number asked) (omega (arith, le, rows_stored.0))

@@ -28,10 +28,9 @@ use Rattle.routes.specs.Promises.{count_answer, read_answer, routes_meaning}
 use Rattle.routes.specs.declared.Row.{Row}
 use Rattle.routes.specs.declared.Routes.{Routes}
 use Rattle.routes.specs.declared.Route.{Route}
-use Rattle.routes.proofs.ListLaws.{count_rows, count_short, read_rows, read_stored, section_counted}
+use Rattle.routes.proofs.ListLaws.{count_rows, count_short, read_rows, read_stored, section_counted, told_list}
 use Rattle.routes.proofs.try_parse_prefix.Reads as try_parse_prefix
 use Rattle.route_reader.proofs.parse_nlri_list.Reads as parse_nlri_list
-use Rattle.route_reader.specs.Pair.{section_meaning}
 use Rattle.route_reader.proofs.read_nlri.Reads as read_nlri
 use Rattle.route_marks.specs.Marks.{has_mark, unmarked, bare, by_guess, forms_taken, step_before, cleared}
 use Rattle.route_marks.specs.Promises.{clear_answer, clear_after}
@@ -61,7 +60,7 @@ use Rattle.updates.proofs.Sections.{counted_sections, read_is_count}
 use Rattle.updates.proofs.parse_bgp_update_message.Reads as parse_bgp_update_message
 use Rattle.update_writer.specs.Body.{body_answer}
 use Rattle.update_writer.proofs.encode_bgp_update_message.Reads as encode_bgp_update_message
-use Rattle.demands.specs.Routes.{bytes, family, setting, store, rows, form_asked, output, told, told_counted}
+use Rattle.demands.specs.Routes.{bytes, family, setting, store, rows, form_asked, output, told}
 use Rattle.demands.specs.MpNlri as Mp
 
 -- ---- the words of the statements
@@ -103,7 +102,7 @@ marked_rows afi mode s d d' r is left = record {
 
 module _ (κs : _) (given : _) (answer : _) (exit : _) (call : parse_nlri_list.Learnt κs given answer exit) where
   read_list_lem : told answer ≡ read_answer (bytes given) (list_of (bytes given) (max_of (family given)) (setting given)) (length (store given))
-  read_list_lem = told_counted _ (hosts_of (bytes given) (max_of (family given)) (setting given)) answer call.0
+  read_list_lem = told_list _ (hosts_of (bytes given) (max_of (family given)) (setting given)) answer call.0
 
   pub list_marks : (n : ℕ) → told answer ≡ Ok n → MarkedRows (family given) (setting given) (bytes given) (store given) (store exit)
   list_marks n said =
@@ -114,15 +113,14 @@ module _ (κs : _) (given : _) (answer : _) (exit : _) (call : read_nlri.Learnt 
   pub section_marks : (n : ℕ) → told answer ≡ Ok n → MarkedRows (family given) (setting given) (bytes given) (store given) (store exit)
   section_marks n said =
       let r = section_of (bytes given) (max_of (family given)) (setting given) in
-      let e = sym (told_counted _ (hosts_of (bytes given) (max_of (family given)) (setting given)) answer call.0) ∙ said in
+      let e = sym (told_list _ (hosts_of (bytes given) (max_of (family given)) (setting given)) answer call.0) ∙ said in
       marked_rows (family given) (setting given) (bytes given) (store given) (store exit) r
       (section_counted (up_to (max_of (family given))) (bytes given) (setting given) n (read_rows (bytes given) r n (length (store given)) e).0)
       (call.1 ∙ (read_stored (bytes given) r (store given) n e).1)
 
 -- what a section, and a list, that is good leaves
-told_filled : (z : Result Routes Refusal) (n : ℕ) (values d : List ℕ) → told z ≡ Ok n → filled (section_meaning z) values d ≡ laid d 0 values
-told_filled (Ok r) n values d good = refl
-told_filled (Err why) n values d good = let z : ◌≡◌ {A = ℕ} 0 1 = cc in absurd (omega arith)
+told_filled : (a : Result ℕ Refusal) (n : ℕ) (values d : List ℕ) → a ≡ Ok n → filled (count_meaning a) values d ≡ laid d 0 values
+told_filled a n values d good = ap (λ (x : Result ℕ Refusal). filled (count_meaning x) values d) good
 
 told_routes : (z : Result Routes Refusal) (n : ℕ) (values d : List ℕ) → told z ≡ Ok n → filled (routes_meaning z) values d ≡ laid d 0 values
 told_routes (Ok r) n values d good = refl
@@ -141,11 +139,11 @@ module _ (κs : _) (given : _) (answer : _) (exit : _) (call : parse_bgp_update_
 
   -- the rows of one that is good, in its store
   one_section : (s d d' : List ℕ) (z : Result Routes Refusal) → counted s mode ≡ z → (n : ℕ) → told z ≡ Ok n
-      → d' ≡ filled (section_meaning z) (flat words (section_of s (max_of Ipv4) mode).rows) d → MarkedRows Ipv4 mode s d d'
+      → d' ≡ filled (count_meaning (told z)) (flat words (section_of s (max_of Ipv4) mode).rows) d → MarkedRows Ipv4 mode s d d'
   one_section s d d' z is n good left =
       let r = section_of s (max_of Ipv4) mode in
-      let e : count_answer s r ≡ Ok n = sym (told_counted (count_answer s r) (hosts_of s (max_of Ipv4) mode) z (sym is)) ∙ good in
-      marked_rows Ipv4 mode s d d' r (section_counted (up_to (max_of Ipv4)) s mode n e) (left ∙ told_filled z n (flat words r.rows) d good)
+      let e : count_answer s r ≡ Ok n = sym (told_list (count_answer s r) (hosts_of s (max_of Ipv4) mode) z (sym is)) ∙ good in
+      marked_rows Ipv4 mode s d d' r (section_counted (up_to (max_of Ipv4)) s mode n e) (left ∙ told_filled (told z) n (flat words r.rows) d good)
 
   pub withdrawn_marks : (n : ℕ) → told update.withdrawn ≡ Ok n → MarkedRows Ipv4 mode (withdrawn_of body) given.1.1.0.now exit.1.1.0.now
   withdrawn_marks n good =
@@ -172,7 +170,7 @@ module _ (κs : _) (given : _) (answer : _) (exit : _) (call : parse_mp_unreach_
 -- the call for one route, which is told its form, sets none
 module _ (κs : _) (given : _) (answer : _) (exit : _) (call : try_parse_prefix.Learnt κs given answer exit) where
   pub route_unmarked : (route : Route) → answer ≡ Ok route → has_mark route.prefix.row.first ≡ false
-  route_unmarked route said = Laws.route_unmarked (bytes given) (max_of given.1.0) (max_small given.1.0) given.1.1.0 answer call route said
+  route_unmarked route said = Laws.route_unmarked (bytes given) (max_of given.1.0) (max_small given.1.0) given.1.1.0 route (sym call ∙ said)
 
 -- ---- 3. Taking the marks off
 

@@ -79,35 +79,35 @@ heads items = flat head_of items
 abbrev pub asns : AsnLength → List (List ℕ) → List ℕ
 asns asn_length items = flat (as_numbers (width_of asn_length)) items
 
--- of so many segments and numbers
-abbrev pub path_with : ℕ → ℕ → Path
-path_with segments numbers = record { segments = segments; numbers = numbers }
+-- the path that is told of a cutting: so many segments, and so many numbers
+abbrev pub told_of : AsnLength → List (List ℕ) → Path
+told_of asn_length items = record { segments = length items; numbers = length (asns asn_length items) }
 
 -- ---- 1. Bytes are accepted, given room, exactly if they can be cut into segments that are well-formed by the rule.
 -- A call that accepts has a cutting, with as many items as segments and as many numbers, within the limit and with room; a cutting within the limit
 -- and with room is accepted.
 
 module _ (κs : _) (given : _) (answer : _) (exit : _) (call : parse_as_path.Learnt κs given answer exit) where
-  pub path_accepted : (m n : ℕ) → answer ≡ Ok (path_with m n)
-      → (items : List (List ℕ)) × Cut (rule given) (width given) (bytes given) items × (length items ≡ m) × (length (asns (width given) items) ≡ n)
-      × (length (bytes given) ≤ list_limit) × (m ≤ length (pairs given) / 2) × (n ≤ length (numbers given))
-  path_accepted m n said =
-      Laws.accepted_cut (rule_of (rule given)) (Allowed (rule given)) (ruled (rule given)) (width_of (width given)) (bytes given) (length (pairs given)) (length (numbers given)) m n (sym call.0 ∙ said)
+  pub path_accepted : (path : Path) → answer ≡ Ok path
+      → (items : List (List ℕ)) × Cut (rule given) (width given) (bytes given) items × (length items ≡ path.segments) × (length (asns (width given) items) ≡ path.numbers)
+      × (length (bytes given) ≤ list_limit) × (path.segments ≤ length (pairs given) / 2) × (path.numbers ≤ length (numbers given))
+  path_accepted path said =
+      Laws.accepted_cut (rule_of (rule given)) (Allowed (rule given)) (ruled (rule given)) (width_of (width given)) (bytes given) (length (pairs given)) (length (numbers given)) path (sym call.0 ∙ said)
 
   pub path_cut : (items : List (List ℕ)) → Cut (rule given) (width given) (bytes given) items → length (bytes given) ≤ list_limit
       → length items ≤ length (pairs given) / 2 → length (asns (width given) items) ≤ length (numbers given)
-      → answer ≡ Ok (path_with (length items) (length (asns (width given) items)))
+      → answer ≡ Ok (told_of (width given) items)
   path_cut items cut short room space =
       call.0 ∙ Laws.cut_accepted (rule_of (rule given)) (Allowed (rule given)) (ruled (rule given)) (width_of (width given)) (bytes given) items cut (length (pairs given)) (length (numbers given)) short room space
 
 -- counting needs no room
 module _ (κs : _) (given : _) (answer : _) (exit : _) (call : count_as_path.Learnt κs given answer exit) where
-  pub path_counted : (m n : ℕ) → answer ≡ Ok (path_with m n)
-      → (items : List (List ℕ)) × Cut (rule given) (width given) (bytes given) items × (length items ≡ m) × (length (asns (width given) items) ≡ n) × (length (bytes given) ≤ list_limit)
-  path_counted m n said = Laws.counted_cut (rule_of (rule given)) (Allowed (rule given)) (ruled (rule given)) (width_of (width given)) (bytes given) m n (sym call ∙ said)
+  pub path_counted : (path : Path) → answer ≡ Ok path
+      → (items : List (List ℕ)) × Cut (rule given) (width given) (bytes given) items × (length items ≡ path.segments) × (length (asns (width given) items) ≡ path.numbers) × (length (bytes given) ≤ list_limit)
+  path_counted path said = Laws.counted_cut (rule_of (rule given)) (Allowed (rule given)) (ruled (rule given)) (width_of (width given)) (bytes given) path (sym call ∙ said)
 
   pub path_cut_counted : (items : List (List ℕ)) → Cut (rule given) (width given) (bytes given) items → length (bytes given) ≤ list_limit
-      → answer ≡ Ok (path_with (length items) (length (asns (width given) items)))
+      → answer ≡ Ok (told_of (width given) items)
   path_cut_counted items cut short = call ∙ Laws.cut_counted (rule_of (rule given)) (Allowed (rule given)) (ruled (rule given)) (width_of (width given)) (bytes given) items cut short
 
 -- ---- 2. There is one cutting.
@@ -118,24 +118,24 @@ one_cutting path_rule asn_length = Laws.one_cutting (rule_of path_rule) (Allowed
 -- ---- 3. What is read are its items: as many segments and numbers, and the stores at exit hold them from their fronts.
 
 module _ (κs : _) (given : _) (answer : _) (exit : _) (call : parse_as_path.Learnt κs given answer exit) where
-  pub path_rows : (m n : ℕ) → answer ≡ Ok (path_with m n) → (items : List (List ℕ)) → Cut (rule given) (width given) (bytes given) items
-      → (m ≡ length items) × (n ≡ length (asns (width given) items))
+  pub path_rows : (path : Path) → answer ≡ Ok path → (items : List (List ℕ)) → Cut (rule given) (width given) (bytes given) items
+      → (path ≡ told_of (width given) items)
       × (pairs exit ≡ laid (pairs given) 0 (heads items)) × (numbers exit ≡ laid (numbers given) 0 (asns (width given) items))
-  path_rows m n said items cut =
-      let r = Laws.cut_stores (rule_of (rule given)) (Allowed (rule given)) (ruled (rule given)) (width_of (width given)) (bytes given) items cut (pairs given) (numbers given) m n (sym call.0 ∙ said) in
-      (r.0, r.1, call.1.0 ∙ r.2, call.1.1 ∙ r.3)
+  path_rows path said items cut =
+      let r = Laws.cut_stores (rule_of (rule given)) (Allowed (rule given)) (ruled (rule given)) (width_of (width given)) (bytes given) items cut (pairs given) (numbers given) path (sym call.0 ∙ said) in
+      (r.0, call.1.0 ∙ r.1, call.1.1 ∙ r.2)
 
 -- ---- 4. Writing what was read, by the same rule, gives the bytes, at the front of any output that has room for them.
 
 module _ (κs : _) (given : _) (answer : _) (exit : _) (call : parse_as_path.Learnt κs given answer exit)
     (κs' : _) (given' : _) (answer' : _) (exit' : _) (call' : encode_as_path.Learnt κs' given' answer' exit') where
-  pub written_back : (m n : ℕ) → answer ≡ Ok (path_with m n) → width given ≡ width_asked given' → rule given ≡ rule_asked given'
-      → pairs_lent given' ≡ take (2 * m) (pairs exit) → numbers_lent given' ≡ take n (numbers exit) → Bytes (bytes given) → length (bytes given) ≤ length (output given')
+  pub written_back : (path : Path) → answer ≡ Ok path → width given ≡ width_asked given' → rule given ≡ rule_asked given'
+      → pairs_lent given' ≡ take (2 * path.segments) (pairs exit) → numbers_lent given' ≡ take path.numbers (numbers exit) → Bytes (bytes given) → length (bytes given) ≤ length (output given')
       → (answer' ≡ Ok (length (bytes given))) × (output exit' ≡ laid (output given') 0 (bytes given))
-  written_back m n said alike by back after each room =
-      let r = Laws.read_written (rule_of (rule given)) (Allowed (rule given)) (ruled (rule given)) (width_of (width given)) (bytes given) each (pairs given) (numbers given) m n (sym call.0 ∙ said) (output given') room in
-      let p = back ∙ ap (take (2 * m)) call.1.0 in
-      let q = after ∙ ap (take n) call.1.1 in (
+  written_back path said alike by back after each room =
+      let r = Laws.read_written (rule_of (rule given)) (Allowed (rule given)) (ruled (rule given)) (width_of (width given)) (bytes given) each (pairs given) (numbers given) path (sym call.0 ∙ said) (output given') room in
+      let p = back ∙ ap (take (2 * path.segments)) call.1.0 in
+      let q = after ∙ ap (take path.numbers) call.1.1 in (
         call'.0
             ∙ ap₂ (λ (u : PathRule) (v : AsnLength). encode_answer (rule_of u) (width_of v) (pairs_lent given') (numbers_lent given') (length (output given'))) (sym by) (sym alike)
             ∙ ap₂ (λ (x y : List ℕ). encode_answer (rule_of (rule given)) (width_of (width given)) x y (length (output given'))) p q
@@ -177,43 +177,43 @@ module _ (κs : _) (given : _) (answer : _) (exit : _) (call : encode_as_path.Le
 -- reading into stores
 module _ (value : _) (asn_length : _) (stores : _) (κs : _) (answer : _) (exit : _) (strict : parse_as_path.Learnt κs (value, (asn_length, (Strict, stores))) answer exit)
     (κs' : _) (answer' : _) (exit' : _) (lax : parse_as_path.Learnt κs' (value, (asn_length, (Crate, stores))) answer' exit') where
-  pub strict_is_crate : (m n : ℕ) → answer ≡ Ok (path_with m n) → (answer' ≡ Ok (path_with m n)) × (pairs exit' ≡ pairs exit) × (numbers exit' ≡ numbers exit)
-  strict_is_crate m n said =
+  pub strict_is_crate : (path : Path) → answer ≡ Ok path → (answer' ≡ Ok path) × (pairs exit' ≡ pairs exit) × (numbers exit' ≡ numbers exit)
+  strict_is_crate path said =
       let s : List ℕ = value.now in
       let p : List ℕ = stores.0.now in
       let q : List ℕ = stores.1.0.now in
-      let same = read_alike Strict (width_of asn_length) s m n (length p) (length q) (sym strict.0 ∙ said) in (
+      let same = read_alike Strict (width_of asn_length) s path (length p) (length q) (sym strict.0 ∙ said) in (
         lax.0 ∙ ap (λ (r : Reading Segment). read_answer s r (length p) (length q)) same ∙ sym strict.0 ∙ said,
         lax.1.0 ∙ ap (λ (r : Reading Segment). pairs_after s r p (length q)) same ∙ sym strict.1.0,
         lax.1.1 ∙ ap (λ (r : Reading Segment). numbers_after s r (length p) q) same ∙ sym strict.1.1,
       )
 
-  module _ (m n : ℕ) (accepted : answer' ≡ Ok (path_with m n)) (items : List (List ℕ)) (cut : Cut Crate asn_length value.now items) where
+  module _ (path : Path) (accepted : answer' ≡ Ok path) (items : List (List ℕ)) (cut : Cut Crate asn_length value.now items) where
     read_short : length value.now ≤ list_limit
-    read_short = (read_path value.now _ m n _ _ (sym lax.0 ∙ accepted)).0
+    read_short = (read_path value.now _ path _ _ (sym lax.0 ∙ accepted)).0
 
     pub empty_is_refused : Some Empty items → answer ≡ Err EmptySegment
     empty_is_refused some = strict.0 ∙ empty_read (width_of asn_length) value.now read_short items cut _ _ some
 
     pub refused_is_empty : (k : Refusal) → answer ≡ Err k → Some Empty items × (k ≡ EmptySegment)
-    refused_is_empty k said = read_empty (width_of asn_length) value.now read_short items cut _ _ m n k (sym lax.0 ∙ accepted) (sym strict.0 ∙ said)
+    refused_is_empty k said = read_empty (width_of asn_length) value.now read_short items cut _ _ path k (sym lax.0 ∙ accepted) (sym strict.0 ∙ said)
 
 -- counting
 module _ (value : _) (asn_length : _) (κs : _) (answer : _) (exit : _) (strict : count_as_path.Learnt κs (value, (asn_length, (Strict, tt))) answer exit)
     (κs' : _) (answer' : _) (exit' : _) (lax : count_as_path.Learnt κs' (value, (asn_length, (Crate, tt))) answer' exit') where
-  pub strict_count_is_crate : (m n : ℕ) → answer ≡ Ok (path_with m n) → answer' ≡ Ok (path_with m n)
-  strict_count_is_crate m n said =
-      lax ∙ ap (count_answer value.now) (counted_alike Strict (width_of asn_length) value.now m n (sym strict ∙ said)) ∙ sym strict ∙ said
+  pub strict_count_is_crate : (path : Path) → answer ≡ Ok path → answer' ≡ Ok path
+  strict_count_is_crate path said =
+      lax ∙ ap (count_answer value.now) (counted_alike Strict (width_of asn_length) value.now path (sym strict ∙ said)) ∙ sym strict ∙ said
 
-  module _ (m n : ℕ) (accepted : answer' ≡ Ok (path_with m n)) (items : List (List ℕ)) (cut : Cut Crate asn_length value.now items) where
+  module _ (path : Path) (accepted : answer' ≡ Ok path) (items : List (List ℕ)) (cut : Cut Crate asn_length value.now items) where
     count_short : length value.now ≤ list_limit
-    count_short = (count_path value.now _ m n (sym lax ∙ accepted)).0
+    count_short = (count_path value.now _ path (sym lax ∙ accepted)).0
 
     pub empty_is_not_counted : Some Empty items → answer ≡ Err EmptySegment
     empty_is_not_counted some = strict ∙ empty_counted (width_of asn_length) value.now count_short items cut some
 
     pub not_counted_is_empty : (k : Refusal) → answer ≡ Err k → Some Empty items × (k ≡ EmptySegment)
-    not_counted_is_empty k said = counted_empty (width_of asn_length) value.now count_short items cut m n k (sym lax ∙ accepted) (sym strict ∙ said)
+    not_counted_is_empty k said = counted_empty (width_of asn_length) value.now count_short items cut path k (sym lax ∙ accepted) (sym strict ∙ said)
 
 -- writing
 module _ (lent_pairs : _) (lent_numbers : _) (asn_length : _) (out : _) (κs : _) (answer : _) (exit : _)

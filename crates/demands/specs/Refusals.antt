@@ -31,7 +31,7 @@ use Rattle.routes.specs.Promises.{count_answer, read_answer, store_after, with_h
 use Rattle.routes.specs.declared.Row.{Row}
 use Rattle.routes.specs.declared.Routes.{Routes}
 use Rattle.routes.specs.declared.Route.{Route}
-use Rattle.routes.proofs.ListLaws.{Fair, fair, counted_places, read_places, store_by}
+use Rattle.routes.proofs.ListLaws.{Fair, fair, counted_places, read_places, store_by, told_list}
 use Rattle.route_reader.specs.Pair.{first_meaning, second_meaning, read_pair, read_pair_first, read_pair_second}
 use Rattle.route_reader.specs.declared.Sections.{Sections}
 use Rattle.route_reader.proofs.PairLaws.{pair_counted}
@@ -121,7 +121,7 @@ use Rattle.firmware.proofs.aggregator.doorbramble_encode_aggregator.Reads as c_e
 use Rattle.firmware.proofs.message.doorbramble_encode_bgp_message.Reads as c_encode_bgp_message
 use Rattle.firmware.proofs.update.doorbramble_parse_bgp_update_message.Reads as c_parse_bgp_update_message
 use Rattle.firmware.proofs.update.doorbramble_encode_bgp_update_message.Reads as c_encode_bgp_update_message
-use Rattle.demands.specs.Routes.{told, told_counted}
+use Rattle.demands.specs.Routes.{told}
 use Rattle.demands.specs.MpNlri.{rows_told}
 
 -- ---- what a call leaves of a lent list, by its answer as document 01 has it and the places that it counts
@@ -163,7 +163,7 @@ with_hosts_kept (Err n) before after k = k
 
 routes_kept : (s : List ℕ) (r : Reading Row) (hosts : ℕ) (before after : List ℕ) (z : Result Routes Refusal) → z ≡ with_hosts (read_answer s r (length before)) hosts → after ≡ store_after s r before
     → Kept (routes_meaning z) (6 * rows_in z) before after
-routes_kept s r hosts before after z e f = with_hosts_kept z before after (list_kept s r before after (told z) (told_counted (read_answer s r (length before)) hosts z e) f)
+routes_kept s r hosts before after z e f = with_hosts_kept z before after (list_kept s r before after (told z) (told_list (read_answer s r (length before)) hosts z e) f)
 
 module _ (κs : _) (lent : _) (answer : _) (exit : _) where
   pub parse_nlri_list_kept : parse_nlri_list.Learnt κs lent answer exit → Kept (routes_meaning answer) (6 * rows_in answer) lent.1.1.1.0.now exit.1.1.1.0.now
@@ -450,10 +450,10 @@ module _ (κs : _) (lent : _) (answer : _) (exit : _) (call : read_asns.Learnt �
   read_asns_past = ap (drop lent.1.0) call ∙ asns_past (width_of lent.1.1.0) lent.0.now lent.1.0 lent.1.1.1.0.now
 
 -- a section that was counted, in a store
-section_kept : (s : List ℕ) (r : Reading Row) (a : Result Routes Refusal) (before after : List ℕ) → count_answer s r ≡ told a → after ≡ filled (section_meaning a) (flat words r.rows) before
-    → Kept (section_meaning a) (6 * value_in 0 (section_meaning a)) before after
+section_kept : (s : List ℕ) (r : Reading Row) (a : Result Routes Refusal) (before after : List ℕ) → count_answer s r ≡ told a → after ≡ filled (count_meaning (told a)) (flat words r.rows) before
+    → Kept (count_meaning (told a)) (6 * value_in 0 (count_meaning (told a))) before after
 section_kept s r (Ok a) before after e f =
-    kept (section_meaning (Ok a)) (λ x. 6 * value_in 0 x) (flat words r.rows) before after (λ n. refl) (λ fields g. counted_places s r (Ok a.rows) fields e g) f
+    kept (count_meaning (Ok a.rows)) (λ x. 6 * value_in 0 x) (flat words r.rows) before after (λ n. refl) (λ fields g. counted_places s r (Ok a.rows) fields e g) f
 section_kept s r (Err why) before after e f = refusal_kept (number_of why) before after f
 
 -- the sections of an UPDATE in their stores, by its definitions
@@ -462,14 +462,14 @@ module _ (body : List ℕ) (mode : AddPath) (places places' : ℕ) (before after
       → Kept (withdrawn_meaning u) (6 * value_in 0 (withdrawn_meaning u)) before after
   withdrawn_kept (Ok u) e f =
       section_kept (withdrawn_of body) (section_of (withdrawn_of body) (max_of Ipv4) mode) u.withdrawn before after
-      (sym (told_counted _ (hosts_of (withdrawn_of body) (max_of Ipv4) mode) u.withdrawn (sym (counted_sections body mode u (read_is_count body mode places places' u (sym e))).0))) f
+      (sym (told_list _ (hosts_of (withdrawn_of body) (max_of Ipv4) mode) u.withdrawn (sym (counted_sections body mode u (read_is_count body mode places places' u (sym e))).0))) f
   withdrawn_kept (Err n) e f = refusal_kept (number_of n) before after f
 
   announced_kept : (u : Result Update Refusal) → u ≡ read_update body mode places places' → after ≡ announced_after u body mode before
       → Kept (announced_meaning u) (6 * value_in 0 (announced_meaning u)) before after
   announced_kept (Ok u) e f =
       section_kept (announced_of body) (section_of (announced_of body) (max_of Ipv4) mode) u.announced before after
-      (sym (told_counted _ (hosts_of (announced_of body) (max_of Ipv4) mode) u.announced (sym (counted_sections body mode u (read_is_count body mode places places' u (sym e))).1))) f
+      (sym (told_list _ (hosts_of (announced_of body) (max_of Ipv4) mode) u.announced (sym (counted_sections body mode u (read_is_count body mode places places' u (sym e))).1))) f
   announced_kept (Err n) e f = refusal_kept (number_of n) before after f
 
 -- each section by itself: a malformed one leaves its own store as it was, and a refusal of the UPDATE both
@@ -486,14 +486,14 @@ module _ (s t : List ℕ) (max : ℕ) (mode : AddPath) (places places' : ℕ) (b
       → Kept (first_meaning p) (6 * value_in 0 (first_meaning p)) before after
   unfolding read_pair
   first_kept (Ok p) e f =
-      section_kept s (section_of s max mode) p.first before after (sym (told_counted _ (hosts_of s max mode) p.first (sym (pair_counted _ _ places places' p (sym e)).0))) f
+      section_kept s (section_of s max mode) p.first before after (sym (told_list _ (hosts_of s max mode) p.first (sym (pair_counted _ _ places places' p (sym e)).0))) f
   first_kept (Err n) e f = refusal_kept (number_of n) before after f
 
   second_kept : (p : Result Sections Refusal) → p ≡ read_pair s t max mode places places' → after ≡ read_pair_second p (section_of t max mode) before
       → Kept (second_meaning p) (6 * value_in 0 (second_meaning p)) before after
   unfolding read_pair
   second_kept (Ok p) e f =
-      section_kept t (section_of t max mode) p.second before after (sym (told_counted _ (hosts_of t max mode) p.second (sym (pair_counted _ _ places places' p (sym e)).1))) f
+      section_kept t (section_of t max mode) p.second before after (sym (told_list _ (hosts_of t max mode) p.second (sym (pair_counted _ _ places places' p (sym e)).1))) f
   second_kept (Err n) e f = refusal_kept (number_of n) before after f
 
 module _ (κs : _) (lent : _) (answer : _) (exit : _) (call : read_nlri_pair.Learnt κs lent answer exit) where

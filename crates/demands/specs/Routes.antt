@@ -20,8 +20,9 @@ use Rattle.families.proofs.FamilyLaws.{max_small}
 use Rattle.routes.specs.List.{fixed, step_of, list_of, hosts_of, section_of}
 use Rattle.routes.specs.Prefix.{item_row, words}
 use Rattle.routes.specs.WellFormed.{WellFormed, NoZeroFirst}
-use Rattle.routes.specs.Promises.{count_answer, read_answer, with_hosts}
+use Rattle.routes.specs.Promises.{rows_alone, count_answer, read_answer}
 use Rattle.routes.specs.declared.Routes.{Routes}
+use Rattle.routes.proofs.ListLaws.{told_list}
 use Rattle.routes.proofs.count_nlri_list.Reads as count_nlri_list
 use Rattle.routes.proofs.count_nlri.Reads as count_nlri
 use Rattle.route_reader.proofs.parse_nlri_list.Reads as parse_nlri_list
@@ -59,8 +60,7 @@ output given = given.1.1.1.0.now
 
 -- what a reading call answers of its rows, or its refusal: of these are the statements here, and of the rows with a host bit those of HostBits
 abbrev pub told : Result Routes Refusal → Result ℕ Refusal
-told (Ok answer) = Ok answer.rows
-told (Err why) = Err why
+told = rows_alone
 
 -- a cutting of bytes into well-formed routes of a family, in a form
 abbrev pub Cut : Afi → Form → List ℕ → List (List ℕ) → Type 0
@@ -70,26 +70,22 @@ Cut afi form = Cutting (WellFormed (max_of afi) form)
 abbrev pub off_items : Afi → List ℕ → List (List ℕ)
 off_items afi = pieces (step_of (max_of afi) Off) Plain
 
-pub told_counted : (a : Result ℕ Refusal) (hosts : ℕ) (answer : Result Routes Refusal) → answer ≡ with_hosts a hosts → told answer ≡ a
-told_counted (Ok n) hosts answer e = ap told e
-told_counted (Err why) hosts answer e = ap told e
-
 -- what each promise says of the answer
 module _ (κs : _) (given : _) (answer : _) (exit : _) where
   read_list_lem : parse_nlri_list.Learnt κs given answer exit → told answer ≡ read_answer (bytes given) (list_of (bytes given) (max_of (family given)) (setting given)) (length (store given))
-  read_list_lem call = told_counted _ (hosts_of (bytes given) (max_of (family given)) (setting given)) answer call.0
+  read_list_lem call = told_list _ (hosts_of (bytes given) (max_of (family given)) (setting given)) answer call.0
 
 module _ (κs : _) (given : _) (answer : _) (exit : _) where
   read_section_lem : read_nlri.Learnt κs given answer exit → told answer ≡ read_answer (bytes given) (section_of (bytes given) (max_of (family given)) (setting given)) (length (store given))
-  read_section_lem call = told_counted _ (hosts_of (bytes given) (max_of (family given)) (setting given)) answer call.0
+  read_section_lem call = told_list _ (hosts_of (bytes given) (max_of (family given)) (setting given)) answer call.0
 
 module _ (κs : _) (given : _) (answer : _) (exit : _) where
   count_list_lem : count_nlri_list.Learnt κs given answer exit → told answer ≡ count_answer (bytes given) (list_of (bytes given) (max_of (family given)) (setting given))
-  count_list_lem call = told_counted _ (hosts_of (bytes given) (max_of (family given)) (setting given)) answer call
+  count_list_lem call = told_list _ (hosts_of (bytes given) (max_of (family given)) (setting given)) answer call
 
 module _ (κs : _) (given : _) (answer : _) (exit : _) where
   count_section_lem : count_nlri.Learnt κs given answer exit → told answer ≡ count_answer (bytes given) (section_of (bytes given) (max_of (family given)) (setting given))
-  count_section_lem call = told_counted _ (hosts_of (bytes given) (max_of (family given)) (setting given)) answer call
+  count_section_lem call = told_list _ (hosts_of (bytes given) (max_of (family given)) (setting given)) answer call
 
 -- ---- 1. Bytes are accepted, given room, exactly if they can be cut into well-formed routes.
 -- A call that accepts has a cutting, with as many items as rows, within the limit and with room; a cutting within the limit and with room is accepted.

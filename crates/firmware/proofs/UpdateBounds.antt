@@ -15,13 +15,13 @@ use Rattle.wire.specs.declared.refusal.Refusal.{Refusal}
 use Rattle.wire.specs.declared.refusal.Refusal.TheVariants.{TooLong, NoRoom}
 use Rattle.wire.proofs.ChoiceLaws.{pick_any}
 use Rattle.families.specs.Family.{max_of}
-use Rattle.route_reader.specs.Pair.{room_for, read_pair_by, read_pair}
+use Rattle.route_reader.specs.Pair.{read_pair_by, read_pair}
 use Rattle.route_reader.specs.declared.Sections.{Sections}
 use Rattle.families.specs.declared.AddPath.{AddPath}
 use Rattle.families.specs.declared.Form.{Form}
 use Rattle.families.specs.declared.Afi.TheVariants.{Ipv4}
 use Rattle.routes.specs.List.{hosts_of, section_of}
-use Rattle.routes.specs.Promises.{rows_in, hosts_in, count_answer}
+use Rattle.routes.specs.Promises.{rows_in, hosts_in, rows_alone, has_room, count_answer}
 use Rattle.routes.proofs.ListLaws.{beside_rows}
 use Rattle.routes.specs.declared.Row.{Row}
 use Rattle.routes.specs.declared.Routes.{Routes}
@@ -58,8 +58,8 @@ pair_narrow : (a b : Result Routes Refusal) (places places' : ℕ) → Small a �
 unfolding read_pair_by
 pair_narrow a b places places' h k =
     let Fine : Result Sections Refusal → Type 0 = λ p. Narrow (update_fields (as_update p)) in
-    pick_any Fine (room_for a places) _ (Err NoRoom)
-    (pick_any Fine (room_for b places') (Ok (record { first = a; second = b })) (Err NoRoom) (update_narrow a b h k) (refused_narrow _))
+    pick_any Fine (has_room (rows_alone a) places) _ (Err NoRoom)
+    (pick_any Fine (has_room (rows_alone b) places') (Ok (record { first = a; second = b })) (Err NoRoom) (update_narrow a b h k) (refused_narrow _))
     (refused_narrow _)
 
 if_narrow : (p : Result Parts Refusal) (u : Result Update Refusal) → Narrow (update_fields u) → Narrow (update_fields (if_parts p u))
