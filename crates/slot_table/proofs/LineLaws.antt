@@ -1,7 +1,7 @@
 -- Laws of the lines: their digits, the most bytes that they take, and a line put at the front of an output.
 -- Assumes nothing.
 use Rattle.std.proofs.Common.{◌≡◌, ℕ, zero, suc, ◌+◌, ◌-◌, ◌*◌, ◌/◌, ◌%◌, ◌^◌, ◌<◌, ◌≤◌, Bool, true, false, ltb, leb, List, [], ◌∷◌, length, take, drop, set, sym, refl, ap, ◌∙◌, arith, length-append, length-set, drop-cons, get_or-set_same, take_at, drop-set-lt, le-ltb, lt-ltb, le-leb, leb-true}
-use Rattle.std.specs.Prelude.{Option, Some, None, Result}
+use Rattle.std.specs.Prelude.{◌==◌, Some, None, Result}
 use native.Mathlib.Nat.{pow-succ'}
 use borrow.Author.Tests.{lt-leb}
 use Rattle.wire.specs.Choice.{pick}
@@ -9,6 +9,9 @@ use Rattle.wire.specs.Store.{laid}
 use Rattle.wire.proofs.ChoiceLaws.{pick_any}
 use Rattle.wire.proofs.StoreLaws.{drop_laid_past}
 use Rattle.wire.specs.declared.refusal.Refusal.{Refusal}
+use Rattle.messages.specs.Header.{update_kind, kind_number}
+use Rattle.messages.specs.declared.kind.Kind.{Kind}
+use Rattle.messages.specs.declared.kind.Kind.TheVariants as K
 use Rattle.routes.specs.declared.Routes.{Routes}
 use Rattle.routes.specs.Promises.{rows_in, verdict_in}
 use Rattle.slot_table.specs.Line.{space, slash, state_text, digits, number, fields_text, section_text, heading_text, line_room, put_count, put_out}
@@ -16,6 +19,15 @@ use Rattle.slot_table.specs.Private.{number_room, state_room, fields_room, secti
 use Rattle.slot_table.specs.declared.Text.{Text}
 use Rattle.slot_table.specs.declared.State.{State}
 use Rattle.slot_table.specs.declared.State.TheVariants.{Whole, Cut, Trailing}
+
+-- ---- a type that is not UPDATE
+
+pub other_kind : (kind : Kind) → (kind ≡ K.Update → ⊥) → (kind_number kind == update_kind) ≡ false
+other_kind K.Open h = refl
+other_kind K.Update h = absurd (h refl)
+other_kind K.Notification h = refl
+other_kind K.Keepalive h = refl
+other_kind K.RouteRefresh h = refl
 
 -- ---- digits
 

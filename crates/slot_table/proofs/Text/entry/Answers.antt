@@ -1,6 +1,6 @@
-use Rattle.std.proofs.Common.{ℕ, ◌+◌, ap, ◌∙◌, arith}
+use Rattle.std.proofs.Common.{arith}
 use Rattle.messages.specs.Header.{update_kind}
-use Rattle.slot_table.specs.Line.{entry_text, fields_text}
+use Rattle.slot_table.specs.Line.{entry_text}
 use Rattle.slot_table.proofs.LineLaws.{fields_few, section_few}
 use Rattle.slot_table.proofs.Growth.{grow, grown_few}
 use Rattle.slot_table.proofs.Text.entry.Goals as goal

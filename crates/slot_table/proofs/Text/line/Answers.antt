@@ -1,5 +1,5 @@
 use Rattle.std.proofs.Common.{arith}
-use Rattle.slot_table.specs.Line.{space, line_of}
+use Rattle.slot_table.specs.Line.{space, line_of, entry_text}
 use Rattle.slot_table.proofs.LineLaws.{number_few}
 use Rattle.slot_table.proofs.Growth.{grow, grown_few}
 use Rattle.slot_table.proofs.Text.line.Goals as goal
@@ -15,5 +15,5 @@ unfolding line_of
 returns-in-Ok c = rw (← c.of.ensures, c.in-Ok.is) (grow c.number.ensures c.entry.ensures)
 
 pub returns-in-Err : goal.returns-in-Err
-unfolding line_of
+unfolding line_of entry_text
 returns-in-Err c = rw (← c.of.ensures, c.in-Err.is) (grow c.number.ensures c.refused.ensures)

@@ -1,4 +1,3 @@
-use Rattle.std.proofs.Common.{◌∙◌}
 use Rattle.slot_table.proofs.Growth.{grow}
 use Rattle.slot_table.proofs.Text.refused.Goals as goal
 
