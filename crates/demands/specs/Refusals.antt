@@ -319,7 +319,7 @@ module _ (κs : _) (lent : _) (answer : _) (exit : _) (call : encode_nlri_pair.L
   encode_nlri_pair_past sizes e =
       let a : ℕ = sizes.first in
       let b : ℕ = sizes.second in
-      let fits = write_pair_fits start between _ (length out) a b _ _ _ _ (sym call.0 ∙ e) in
+      let fits = write_pair_fits start between _ (length out) sizes _ _ _ _ (sym call.0 ∙ e) in
       let m : length first_bytes ≡ a = (measured_bytes _ _ _ a fits.first).1 in
       let n : length second_bytes ≡ b = (measured_bytes _ _ _ b fits.second).1 in
       let end : ℕ = write_pair_end start between a b in
@@ -403,8 +403,8 @@ module _ (κs : _) (lent : _) (answer : _) (exit : _) where
 path_lengths : (value : List ℕ) (path : Reading Segment) (places places' : ℕ) (a : Result Path Refusal) (fields : List ℕ) → Paths.read_answer value path places places' ≡ a → path_meaning a ≡ given fields
     → (length (flat pair_of path.rows) ≡ 2 * value_in 0 (path_meaning a)) × (length (flat asns_of path.rows) ≡ value_in 1 (path_meaning a))
 path_lengths value path places places' (Ok p) fields e f =
-    let h = read_path value path p.segments p.numbers places places' e in
-    (pairs_length path.rows ∙ ap (λ (k : ℕ). 2 * k) h.2, h.3)
+    let h = read_path value path p places places' e in
+    (pairs_length path.rows ∙ ap (λ (x : Path). 2 * x.segments) h.2, ap (λ (x : Path). x.numbers) h.2)
 path_lengths value path places places' (Err m) fields e f = let z : ◌≡◌ {A = ℕ} 0 1 = cc in absurd (omega arith)
 
 module _ (value : List ℕ) (path : Reading Segment) (pairs numbers : List ℕ) (a : Result Path Refusal) (e : a ≡ Paths.read_answer value path (length pairs) (length numbers)) (after : List ℕ) where
@@ -597,7 +597,7 @@ module _ (κs : _) (lent : _) (word : _) (exit : _) (call : c_parse_mp_reach_nlr
 
 module _ (κs : _) (lent : _) (word : _) (exit : _) where
   pub c_parse_mp_unreach_nlri_kept : c_parse_mp_unreach_nlri.Learnt κs lent word exit → WordKept word (λ a. 6 * value_in 0 a) lent.1.1.0.now exit.1.1.0.now
-  c_parse_mp_unreach_nlri_kept call = word_kept word _ (λ a. 6 * value_in 0 a) _ _ call.0 (unreach_kept _ _ _ _ _ _ refl call.1)
+  c_parse_mp_unreach_nlri_kept call = word_kept word _ (λ a. 6 * value_in 0 a) _ _ call.0 (unreach_kept _ _ _ _ _ refl call.1)
 
 module _ (κs : _) (lent : _) (word : _) (exit : _) where
   pub c_encode_mp_reach_nlri_kept : c_encode_mp_reach_nlri.Learnt κs lent word exit → WordKept word (value_in 0) lent.1.1.1.0.now exit.1.1.1.0.now

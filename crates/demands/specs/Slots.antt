@@ -2,8 +2,9 @@
 -- blocks; a line is put whole or not at all; and however the input is cut into blocks and the output into writes, what is put in all is the table of
 -- the whole input.
 -- Assumes nothing.
-use Rattle.std.specs.Prelude.{ℕ, ◌+◌, ◌-◌, ◌^◌, ◌≤◌, ◌<◌, ◌≡◌, List, [], ◌++◌, Bool, true, false, length, take, drop}
-use Rattle.std.proofs.Common.{sym, ap, ap₂, ◌∙◌, subst, append_assoc, append-nil}
+use Rattle.std.specs.Prelude.{ℕ, ◌+◌, ◌-◌, ◌^◌, ◌≤◌, ◌<◌, ◌≡◌, List, [], ◌++◌, Bool, true, false, length, take, drop, Option, Some, None}
+use Rattle.std.proofs.Common.{sym, ap, ap₂, ◌∙◌, subst, append_assoc, append-nil, lt_of_not-le}
+use Rattle.std.proofs.Math.Decide.{dec_le}
 use Rattle.std.proofs.lemmas.Bool.{false≢true}
 use Rattle.wire.specs.Number.{Bytes}
 use Rattle.wire.specs.Store.{laid}
@@ -23,7 +24,7 @@ use Rattle.firmware.specs.Fields.{slot_record, slot_fields, kept_limit}
 use Rattle.firmware.proofs.SlotBounds.{more_short}
 use Rattle.firmware.proofs.slot.doorbramble_next_slot.Reads as c_next_slot
 use Rattle.slot_table.specs.Line.{number, numeral, heading_text, line_room, put_count, put_out}
-use Rattle.slot_table.proofs.LineLaws.{heading_few, put_not, put_front, put_past}
+use Rattle.slot_table.proofs.LineLaws.{heading_few, put_not, put_given, put_front, put_past}
 use Rattle.slot_table.proofs.TableLaws.{ending_few}
 use Rattle.slot_table.proofs.NumeralLaws.{number_value}
 use Rattle.slot_table.proofs.put_heading.Reads as put_heading
@@ -89,27 +90,38 @@ settings_read = SettingsLaws.settings_read
 -- ---- lines
 
 -- an output with too few places is as it was, and no byte is counted
-abbrev pub NotPut : ℕ → List ℕ → List ℕ → Type 0
-NotPut answer before after = (answer ≡ 0) × (after ≡ before)
+abbrev pub NotPut : Option ℕ → List ℕ → List ℕ → Type 0
+NotPut answer before after = (answer ≡ None) × (after ≡ before)
 
--- what lies past the counted bytes is as it was
-abbrev pub PastKept : ℕ → List ℕ → List ℕ → Type 0
-PastKept answer before after = drop answer after ≡ drop answer before
+-- what lies past the counted bytes is as it was, and all where none are counted
+abbrev pub PastKept : Option ℕ → List ℕ → List ℕ → Type 0
+PastKept (Some n) before after = drop n after ≡ drop n before
+PastKept None before after = after ≡ before
 
-module _ (line before after : List ℕ) (answer : ℕ) (e : answer ≡ put_count line (length before)) (f : after ≡ put_out line before) where
+put_kept : (line before : List ℕ) → length line ≤ line_room → PastKept (put_count line (length before)) before (put_out line before)
+put_kept line before few =
+    let Kept : Option ℕ → Type 0 = λ a. PastKept a before (put_out line before) in
+    elim (dec_le line_room (length before)) [
+      | yes room ↦ (let g = put_given line before room in subst Kept (sym g) (put_past line before (length line) few g))
+      | no short ↦ (let n = put_not line before (lt_of_not-le short) in subst Kept n.0 (sym n.1))
+    ]
+
+module _ (line before after : List ℕ) (answer : Option ℕ) (e : answer ≡ put_count line (length before)) (f : after ≡ put_out line before) where
   not_put : length before < line_room → NotPut answer before after
   not_put h = let n = put_not line before h in (e ∙ sym n.0, f ∙ sym n.1)
 
   past_kept : length line ≤ line_room → PastKept answer before after
-  past_kept few = ap₂ drop e f ∙ put_past line before few ∙ ap (λ (n : ℕ). drop n before) (sym e)
+  past_kept few = rw (e, f) (put_kept line before few)
 
 module _ (κs : _) (given : _) (answer : _) (exit : _) (call : put_heading.Learnt κs given answer exit) where
   pub heading_not_put : length given.0.now < line_room → NotPut answer given.0.now exit.0.now
   heading_not_put = not_put heading_text _ _ answer call.0 call.1
 
   -- where there is room, the output begins with it
-  pub heading_put : line_room ≤ length given.0.now → take answer exit.0.now ≡ heading_text
-  heading_put room = ap₂ take call.0 call.1 ∙ put_front heading_text given.0.now room
+  pub heading_put : line_room ≤ length given.0.now → (n : ℕ) × (answer ≡ Some n) × (take n exit.0.now ≡ heading_text)
+  heading_put room =
+      let g = put_given heading_text given.0.now room in
+      (length heading_text, call.0 ∙ g, ap (take (length heading_text)) call.1 ∙ put_front heading_text given.0.now (length heading_text) g)
 
   pub heading_past : PastKept answer given.0.now exit.0.now
   heading_past = past_kept heading_text _ _ answer call.0 call.1 heading_few
@@ -217,7 +229,8 @@ module _ (κs : _) (given : _) (answer : _) (exit : _) (call : to_front.Learnt �
 
 -- so the heading, given room, and then a run from the start: the table of the whole input
 pub run_table : (κs : _) (given : _) (answer : _) (exit : _) → put_heading.Learnt κs given answer exit → line_room ≤ length given.0.now
-    → (input written : List ℕ) → Run false 1 [] input written → take answer exit.0.now ++ written ≡ table_of input
+    → (input written : List ℕ) → Run false 1 [] input written → (n : ℕ) × (answer ≡ Some n) × (take n exit.0.now ++ written ≡ table_of input)
 unfolding table_of
 run_table κs given answer exit call room input written run =
-    ap₂ ◌++◌ (heading_put κs given answer exit call room) (run_lines false 1 [] input written (λ e. absurd (false≢true e)) run)
+    let h = heading_put κs given answer exit call room in
+    (h.0, h.1, ap₂ ◌++◌ h.2 (run_lines false 1 [] input written (λ e. absurd (false≢true e)) run))
