@@ -86,13 +86,13 @@ from_few max form zero s =
     (prefix_cases s max form (λ a. value_in 0 (route_meaning (with_host form s a)) ≤ length s)
     (omega arith)
     (omega arith)
-    (λ item t. t.room))
+    (λ used row t. t.room))
 from_few max form (suc n) s =
     unless_few s _
     (prefix_cases s max form (λ a. value_in 0 (route_meaning (past_item a (λ used. route_from (up_to max) form n (drop used s)))) ≤ length s)
     (omega arith)
     (omega arith)
-    (λ item t. omega (arith, from_few max form n (drop item.used s), length-drop item.used s)))
+    (λ used row t. omega (arith, from_few max form n (drop used s), length-drop used s)))
 
 pub route_few : (max : ℕ) (form : Form) (s index : List ℕ) (n : ℕ) → value_in 0 (route_meaning (route_by (up_to max) form s index n)) ≤ list_limit
 unfolding route_by

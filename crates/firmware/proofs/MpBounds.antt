@@ -36,8 +36,8 @@ with_head_lem head (Err r) few h = record { a = omega arith; b = omega arith; c 
 reach_narrow : (v : List ℕ) (a : Result Routes Refusal) → Narrow (in_fields (routes_meaning a)) → Narrow (reach_fields (if_head (head_of v) a))
 reach_narrow v a h =
     head_cases v (λ (x : Result Head Refusal). Narrow (reach_fields (if_head x a)))
-    (λ r _. record { a = omega arith; b = omega arith; c = omega arith })
-    (λ head k. with_head_lem head a (hop_few head.next_hop k.sized) h)
+    (λ r. record { a = omega arith; b = omega arith; c = omega arith })
+    (λ hop reserved k. with_head_lem _ a (hop_few hop k.sized) h)
 
 module _ (v : List ℕ) (mode : AddPath) where
   pub count_reach_narrow : Narrow (reach_fields (count_reach v mode))
