@@ -105,12 +105,8 @@ pub fn doorbramble_parse_bgp_update_message(
     ensures withdrawn { withdrawn.new ≡ withdrawn_after (read_update body.now (mode_of settings) (length withdrawn.old) (length announced.old)) body.now (mode_of settings) withdrawn.old }
     ensures announced { announced.new ≡ announced_after (read_update body.now (mode_of settings) (length withdrawn.old) (length announced.old)) body.now (mode_of settings) announced.old }
 {
-    update_word(updates::parse_bgp_update_message(
-        body,
-        AddPath::from(settings),
-        withdrawn,
-        announced,
-    ))
+    let mode = AddPath::from(settings);
+    update_word(updates::parse_bgp_update_message(body, mode, withdrawn, announced))
 }
 
 // Rows to withdraw, attribute bytes and rows to announce as an UPDATE body.
