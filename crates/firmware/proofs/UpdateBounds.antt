@@ -8,7 +8,6 @@ use lib.ListN.{length}
 use lib.Dec.{leb}
 use Rattle.std.specs.Prelude.{Result, Ok, Err}
 use Rattle.wire.specs.Answer.{value_in, filled, count_meaning}
-use Rattle.wire.specs.Extent.{Extent}
 use Rattle.wire.specs.Refusal.{list_limit}
 use Rattle.wire.specs.Walk.{Reading}
 use Rattle.wire.specs.declared.refusal.Refusal.{Refusal}
@@ -35,19 +34,15 @@ use Rattle.update_writer.specs.Body.{body_bytes, body_answer}
 use Rattle.update_writer.proofs.RoundTrip.{body_cases}
 use Rattle.words.specs.Word.{in_fields, word_of, Narrow}
 use Rattle.words.proofs.WordLaws.{refused_narrow, number_narrow}
-use Rattle.firmware.specs.Fields.{part_fields, update_fields, body_rows}
+use Rattle.firmware.specs.Fields.{update_fields, body_rows}
 use Rattle.firmware.proofs.Bounds.{answer_any, verdict_low}
 use Rattle.firmware.proofs.ListBounds.{section_few, Small, count_small}
 
 -- ---- where the sections stand
 
--- a section that ends in the body, as an answer told the lengths
-pub part_narrow : (section : Result Parts Refusal → Extent) (b : List ℕ) (p : Parts)
-    → (section (Ok p)).start + (section (Ok p)).size ≤ p.withdrawn + p.attributes + p.announced + 4 → Ok p ≡ parts_of b
-    → Narrow (part_fields section (Ok p))
-part_narrow section b p inside e =
-    let h = parts_add_up b p (sym e) in
-    record { a = omega (arith, inside, h.0, h.1); b = omega (arith, inside, h.0, h.1); c = omega arith }
+-- all three sections are shorter than a body
+pub parts_few : (b : List ℕ) (p : Parts) → Ok p ≡ parts_of b → p.withdrawn + p.attributes + p.announced ≤ body_rows
+parts_few b p e = let h = parts_add_up b p (sym e) in omega (arith, h.0, h.1)
 
 -- ---- their routes
 
