@@ -24,7 +24,6 @@ use Rattle.routes.specs.List.{up_to, fixed, step_of, list_by, list_of}
 use Rattle.routes.specs.Promises.{count_answer}
 use Rattle.routes.proofs.ListLaws.{fair, sound}
 use Rattle.routes.proofs.PrefixLaws.{prefix_cases}
-use Rattle.routes.specs.declared.Row.{Row}
 use Rattle.routes.specs.declared.Route.{Route}
 use Rattle.route_index.specs.Index.{items_by, index_by, is_index, past_item, unless_none, route_from, route_by}
 use Rattle.route_index.specs.Promises.{places_for, count_index, room_for, build_index}

@@ -9,11 +9,10 @@ use native.Mathlib.Nat.{mul-zero, mul-add, mul_comm, min-le_right}
 use native.Mathlib.Omega.{arith}
 use lib.ListN.{length, length-take, get_or, drop}
 use lib.Dec.{leb, eqb}
-use Rattle.std.specs.Prelude.{Result, Ok, Err}
+use Rattle.std.specs.Prelude.{Ok, Err}
 use Rattle.wire.specs.Refusal.{list_limit}
 use Rattle.wire.specs.Walk.{read_all, tally, flat}
 use Rattle.wire.specs.Verdict.{Verdict, fine, unless}
-use Rattle.wire.specs.declared.refusal.Refusal.{Refusal}
 use Rattle.wire.proofs.AnswerLaws.{refused_not_fine, either_none}
 use Rattle.wire.proofs.ChoiceLaws.{pick_any, pick_eqb}
 use Rattle.wire.proofs.Turn.{Light, tally_few}

@@ -1,7 +1,7 @@
 -- The fields of every answer of the module update are of 16 bits; how many rows a body has at most; and what reading and writing one told.
 -- Assumes nothing.
 use Prim.Native.Nat.{ℕ, ◌+◌, ◌≤◌}
-use mathlib.Core.Path.{◌≡◌, refl, sym, ap, ap₂, ◌∙◌}
+use mathlib.Core.Path.{◌≡◌, refl, sym}
 use mathlib.Core.List.{List}
 use native.Mathlib.Omega.{arith}
 use lib.ListN.{length}
@@ -20,7 +20,7 @@ use Rattle.families.specs.declared.AddPath.{AddPath}
 use Rattle.families.specs.declared.Form.{Form}
 use Rattle.families.specs.declared.Afi.TheVariants.{Ipv4}
 use Rattle.routes.specs.List.{hosts_of, section_of}
-use Rattle.routes.specs.Promises.{rows_in, hosts_in, rows_alone, has_room, count_answer}
+use Rattle.routes.specs.Promises.{rows_in, rows_alone, has_room, count_answer}
 use Rattle.routes.proofs.ListLaws.{beside_rows}
 use Rattle.routes.specs.declared.Row.{Row}
 use Rattle.routes.specs.declared.Routes.{Routes}
