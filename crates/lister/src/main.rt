@@ -33,11 +33,12 @@ fn write<W: Write>(to: &mut W, out: &[u8], n: usize) -> Result<()> {
 // The end of a table where no more can be read after those bytes and those in hand.
 fn unread(byte: u64, have: usize) -> Ending {
     Ending::Unread {
-        byte: std::num::wrapping_add_u64(byte, have as u64),
+        byte: byte.wrapping_add(have as u64),
     }
 }
 
-// The lines of all records, block by block. A turn uses or reads a byte or ends, so that the turns never run out. An error is of a write.
+// The lines of all records, block by block: the bytes in hand are those of the input from `at` up to `have`. A turn uses or reads a byte or ends, so that
+// the turns never run out. An error is of a write.
 fn list<R: Read, W: Write>(
     from: &mut R,
     to: &mut W,
@@ -49,26 +50,23 @@ fn list<R: Read, W: Write>(
     let mut last = false;
     let mut nth: u64 = 1;
     let mut byte: u64 = 0;
-    let mut turns: u64 = 18446744073709551615;
-    while 0 < turns {
-        turns = turns - 1;
+    for _ in 0..u64::MAX {
         let block = slot_table::put_records(&input[at..have], last, nth, out);
         write(to, out, block.put)?;
-        at = at + block.used;
-        byte = std::num::wrapping_add_u64(byte, block.used as u64);
+        at += block.used;
+        byte = byte.wrapping_add(block.used as u64);
         nth = block.nth;
-        let then = block.then;
-        match then {
+        match block.then {
             Then::Write => {}
             Then::Read => {
                 copies::to_front(input, at, have);
-                have = have - at;
+                have -= at;
                 at = 0;
                 let Ok(more) = read_after(from, input, have) else {
                     return Ok(unread(byte, have));
                 };
                 last = more == 0;
-                have = have + more;
+                have += more;
             }
             Then::Whole => return Ok(Ending::Whole),
             Then::Stop => return Ok(Ending::Stop { nth, byte }),
@@ -84,8 +82,9 @@ fn table<R: Read, W: Write>(
     input: &mut [u8],
     out: &mut [u8],
 ) -> Result<Ending> {
-    let heading = slot_table::put_heading(out);
-    write(to, out, heading)?;
+    if let Some(heading) = slot_table::put_heading(out) {
+        write(to, out, heading)?;
+    }
     list(from, to, input, out)
 }
 
@@ -108,7 +107,8 @@ fn main(rt: HostRuntime) -> ExitCode {
             Ending::Unwritten
         }
     };
-    let told = slot_table::put_ending(ending, &mut out);
-    io::write_all(TOLD, wire::part(&out, 0, told));
+    if let Some(told) = slot_table::put_ending(ending, &mut out) {
+        io::write_all(TOLD, wire::part(&out, 0, told));
+    }
     ExitCode::SUCCESS
 }
