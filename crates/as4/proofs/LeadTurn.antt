@@ -10,7 +10,7 @@ use native.Mathlib.Decide.{dec_le}
 use native.Mathlib.Nat.{lt_of_not-le, not-suc-le-zero}
 use native.Mathlib.Omega.{arith}
 use lib.ListN.{length, get_or, take, drop, length-append}
-use lib.Seq.{take_at}
+use lib.Seq.{take_at, get_or-drop}
 use lib.Dec.{leb, ltb}
 use Rattle.wire.specs.Walk.{took, Reading, more, flat}
 use Rattle.wire.specs.Verdict.{fine}
@@ -30,6 +30,7 @@ use Rattle.as4.specs.Merge.{confed_sequence, is_confed, route_len, leading, spli
 use Rattle.as4.specs.Promises.{old_path}
 use Rattle.as4.specs.declared.Leading.{Leading}
 use Rattle.as4.specs.Private.{route_count, goes_on, split_at, Leads}
+use Rattle.as4.proofs.FrontLaws.{split_some}
 use Rattle.as4.proofs.SegmentLaws.{route_is, flat_join}
 use Rattle.as4.proofs.MergeLaws.{either_true, neither, lead_whole, lead_split, lead_ends}
 
@@ -55,11 +56,10 @@ fewer_numbers n k t le =
     ap (λ (j : ℕ). take n (numbers_of 2 j t)) sum ∙ ap (take n) (numbers_add 2 n (k - n) t) ∙ take_at (numbers_of 2 n t) _ n (length_numbers 2 n t)
 
 split_is : (s : List ℕ) (at n : ℕ) → 0 < n → n ≤ get_or s (at + 1) 0 → split_at s at n ≡ split n (here s at) ∷ []
-unfolding split_at
-split_is s at zero pos le = absurd (not-suc-le-zero pos)
-split_is s at (suc n) pos le =
-    ap₂ (λ (k : ℕ) (l : List ℕ). record { kind = k; asns = l } ∷ []) (sym (kind_is 2 s at))
-    (sym (ap (take (suc n)) (asns_is 2 s at) ∙ fewer_numbers (suc n) (get_or s (at + 1) 0) (drop (at + 2) s) le))
+unfolding segment_at
+split_is s at n pos le =
+    let t : List ℕ = drop at s in
+    split_some s at n pos ∙ ap (λ (l : List ℕ). record { kind = get_or t 0 0; asns = l } ∷ []) (sym (fewer_numbers n (get_or t 1 0) (drop 2 t) (omega (arith, le, get_or-drop at s 1 0))))
 
 -- nothing is left
 ended : (n : ℕ) {r : Reading Segment} → r ≡ record { rows = []; verdict = fine } → leading n r.rows ≡ []

@@ -21,7 +21,6 @@ use Rattle.wire.proofs.WalkLaws.{all_nil}
 use Rattle.paths.specs.Segment.{Segment, known_type, segment_of, path_of, asns_of}
 use Rattle.paths.specs.Promises.{counts, answer_of, count_answer}
 use Rattle.paths.specs.declared.Path.{Path}
-use Rattle.paths.proofs.SegmentLaws.{length_numbers}
 use Rattle.as4.specs.Standing.{sizes_fault, ignored}
 use Rattle.as4.specs.Merge.{is_confed, route_len, route_len_of, kept, leading, joint, merged, Comes}
 use Rattle.as4.specs.Promises.{old_path, new_path, fault_of, both_of, built_of}
@@ -34,7 +33,7 @@ use Rattle.as4.proofs.MergeLaws.{either_true, neither, confed_none}
 use Rattle.as4.proofs.MergedLaws.{alone_comes, merged_comes}
 use Rattle.as4.proofs.PromiseLaws.{no_fault, weight_says}
 use Rattle.as4.proofs.WeighTurn.{kept_few}
-use Rattle.as4.proofs.FrontLaws.{split_length, split_asns}
+use Rattle.as4.proofs.FrontLaws.{split_length, split_numbers}
 
 -- ---- what a reading answers
 
@@ -171,9 +170,8 @@ module _ (path : List ℕ) (lead : Leading) (f : Front path lead) (more : List S
   front_numbers n e =
       let whole : List Segment = (old_path (take lead.end path)).rows in
       let part : List Segment = split_at path lead.end lead.split in
-      let split_numbers : length (flat asns_of part) ≡ lead.split = ap length (split_asns path lead.end lead.split) ∙ length_numbers 2 lead.split _ in
       ap length (flat_join asns_of (whole ++ part) more) ∙ length-append (flat asns_of (whole ++ part)) (flat asns_of more)
-      ∙ ap₂ ◌+◌ (ap length (flat_join asns_of whole part) ∙ length-append (flat asns_of whole) (flat asns_of part) ∙ ap₂ ◌+◌ f.numbers split_numbers) e
+      ∙ ap₂ ◌+◌ (ap length (flat_join asns_of whole part) ∙ length-append (flat asns_of whole) (flat asns_of part) ∙ ap₂ ◌+◌ f.numbers (split_numbers path lead.end lead.split)) e
 
 -- ---- a path that is built, by what AS4_PATH weighs
 
