@@ -61,8 +61,8 @@ module _ (emit : Segment → List ℕ) (whole part more : List Segment) (d : Lis
   all_fit =
       omega (arith, fits, first, ap length places, length-append (flat emit whole) (flat emit part ++ flat emit more), length-append (flat emit part) (flat emit more))
 
-  pub part_room : (a ≤ length d) × (length (flat emit part) ≤ length (take (length d - a) (drop a d)))
-  part_room = (omega (arith, all_fit), omega (arith, all_fit, part_length d a))
+  pub part_fits : (a ≤ length d) × (length (flat emit part) ≤ length (take (length d - a) (drop a d)))
+  part_fits = (omega (arith, all_fit), omega (arith, all_fit, part_length d a))
 
   module _ (b : ℕ) (second : a + length (flat emit part) ≡ b) (m : List ℕ) (put : m ≡ laid (take (length d - a) (drop a d)) 0 (flat emit part)) where
     abbrev with_part : List ℕ
@@ -74,8 +74,8 @@ module _ (emit : Segment → List ℕ) (whole part more : List Segment) (d : Lis
     part_long : length with_part ≡ length d
     part_long = ap length part_put ∙ length_laid d a (flat emit part) (omega (arith, all_fit))
 
-    pub more_room : (b ≤ length with_part) × (length (flat emit more) ≤ length (take (length with_part - b) (drop b with_part)))
-    more_room = (omega (arith, all_fit, second, part_long), omega (arith, all_fit, second, part_long, part_length with_part b))
+    pub more_fits : (b ≤ length with_part) × (length (flat emit more) ≤ length (take (length with_part - b) (drop b with_part)))
+    more_fits = (omega (arith, all_fit, second, part_long), omega (arith, all_fit, second, part_long, part_length with_part b))
 
     module _ (last : List ℕ) (put_more : last ≡ laid (take (length with_part - b) (drop b with_part)) 0 (flat emit more)) where
       abbrev with_more : List ℕ
@@ -89,8 +89,8 @@ module _ (emit : Segment → List ℕ) (whole part more : List Segment) (d : Lis
           ∙ ap (λ (k : ℕ). laid (laid d a (flat emit part)) k (flat emit more)) (sym second)
           ∙ laid_laid d a (flat emit part) (flat emit more) all_fit
 
-      pub whole_room : length (flat emit whole) ≤ length with_more
-      whole_room = omega (arith, all_fit, first, ap length more_put, length_laid d a (flat emit part ++ flat emit more) (omega (arith, all_fit, length-append (flat emit part) (flat emit more))))
+      pub whole_fits : length (flat emit whole) ≤ length with_more
+      whole_fits = omega (arith, all_fit, first, ap length more_put, length_laid d a (flat emit part ++ flat emit more) (omega (arith, all_fit, length-append (flat emit part) (flat emit more))))
 
       pub all_put : (d' : List ℕ) → d' ≡ laid with_more 0 (flat emit whole) → d' ≡ laid d 0 (flat emit ((whole ++ part) ++ more))
       all_put d' e =
@@ -101,7 +101,7 @@ module _ (emit : Segment → List ℕ) (whole part more : List Segment) (d : Lis
 
 -- ---- a path that is built: a front of AS_PATH, and what follows it
 
-module _ (path : List ℕ) (lead : Leading) (front : Front path lead) (more : List Segment) (p n : List ℕ) (room : Room (front_of path lead ++ more) p n) where
+module _ {path : List ℕ} {lead : Leading} (front : Front path lead) (more : List Segment) {p n : List ℕ} (room : Room (front_of path lead ++ more) p n) where
   abbrev whole : List Segment
   whole = (old_path (take lead.end path)).rows
 
@@ -117,13 +117,13 @@ module _ (path : List ℕ) (lead : Leading) (front : Front path lead) (more : Li
   pairs_first : length (flat pair_of whole) ≡ pair
   pairs_first = pairs_length whole ∙ ap (λ (k : ℕ). 2 * k) front.segments
 
-  pub split_room_both : (pair ≤ length p) × (to ≤ length n) × Room part (take (length p - pair) (drop pair p)) (take (length n - to) (drop to n))
-  split_room_both =
-      let a = part_room pair_of whole part more p pair pairs_first room.pairs in
-      let b = part_room asns_of whole part more n to front.numbers room.numbers in
+  pub part_room : (pair ≤ length p) × (to ≤ length n) × Room part (take (length p - pair) (drop pair p)) (take (length n - to) (drop to n))
+  part_room =
+      let a = part_fits pair_of whole part more p pair pairs_first room.pairs in
+      let b = part_fits asns_of whole part more n to front.numbers room.numbers in
       (a.0, b.0, record { pairs = a.1; numbers = b.1 })
 
-  module _ (count : ℕ) (is : count ≡ pick (leb 1 lead.split) 1 0) (p₁ n₁ : List ℕ) (put : Put part (take (length p - pair) (drop pair p)) (take (length n - to) (drop to n)) p₁ n₁) where
+  module _ {count : ℕ} (is : count ≡ pick (leb 1 lead.split) 1 0) {p₁ n₁ : List ℕ} (put : Put part (take (length p - pair) (drop pair p)) (take (length n - to) (drop to n)) p₁ n₁) where
     abbrev split_p : List ℕ
     split_p = take pair p ++ (p₁ ++ drop (length p - pair) (drop pair p))
 
@@ -142,28 +142,28 @@ module _ (path : List ℕ) (lead : Leading) (front : Front path lead) (more : Li
     numbers_second : to + length (flat asns_of part) ≡ more_to
     numbers_second = omega (arith, split_numbers path lead.end lead.split)
 
-    pub more_room_both : (more_pair ≤ length split_p) × (more_to ≤ length split_n)
+    pub more_room : (more_pair ≤ length split_p) × (more_to ≤ length split_n)
         × Room more (take (length split_p - more_pair) (drop more_pair split_p)) (take (length split_n - more_to) (drop more_to split_n))
-    more_room_both =
-        let a = more_room pair_of whole part more p pair pairs_first room.pairs more_pair pairs_second p₁ put.pairs in
-        let b = more_room asns_of whole part more n to front.numbers room.numbers more_to numbers_second n₁ put.numbers in
+    more_room =
+        let a = more_fits pair_of whole part more p pair pairs_first room.pairs more_pair pairs_second p₁ put.pairs in
+        let b = more_fits asns_of whole part more n to front.numbers room.numbers more_to numbers_second n₁ put.numbers in
         (a.0, b.0, record { pairs = a.1; numbers = b.1 })
 
-    module _ (p₂ n₂ : List ℕ) (put_more : Put more (take (length split_p - more_pair) (drop more_pair split_p)) (take (length split_n - more_to) (drop more_to split_n)) p₂ n₂) where
+    module _ {p₂ n₂ : List ℕ} (put_more : Put more (take (length split_p - more_pair) (drop more_pair split_p)) (take (length split_n - more_to) (drop more_to split_n)) p₂ n₂) where
       abbrev more_p : List ℕ
       more_p = take more_pair split_p ++ (p₂ ++ drop (length split_p - more_pair) (drop more_pair split_p))
 
       abbrev more_n : List ℕ
       more_n = take more_to split_n ++ (n₂ ++ drop (length split_n - more_to) (drop more_to split_n))
 
-      pub whole_room_both : Room whole more_p more_n
-      whole_room_both = record {
-        pairs = whole_room pair_of whole part more p pair pairs_first room.pairs more_pair pairs_second p₁ put.pairs p₂ put_more.pairs;
-        numbers = whole_room asns_of whole part more n to front.numbers room.numbers more_to numbers_second n₁ put.numbers n₂ put_more.numbers;
+      pub whole_room : Room whole more_p more_n
+      whole_room = record {
+        pairs = whole_fits pair_of whole part more p pair pairs_first room.pairs more_pair pairs_second p₁ put.pairs p₂ put_more.pairs;
+        numbers = whole_fits asns_of whole part more n to front.numbers room.numbers more_to numbers_second n₁ put.numbers n₂ put_more.numbers;
       }
 
-      pub built_put : (p₃ n₃ : List ℕ) → Put whole more_p more_n p₃ n₃ → Put (front_of path lead ++ more) p n p₃ n₃
-      built_put p₃ n₃ put_whole = record {
+      pub built_put : {p₃ n₃ : List ℕ} → Put whole more_p more_n p₃ n₃ → Put (front_of path lead ++ more) p n p₃ n₃
+      built_put {p₃} {n₃} put_whole = record {
         pairs = all_put pair_of whole part more p pair pairs_first room.pairs more_pair pairs_second p₁ put.pairs p₂ put_more.pairs p₃ put_whole.pairs;
         numbers = all_put asns_of whole part more n to front.numbers room.numbers more_to numbers_second n₁ put.numbers n₂ put_more.numbers n₃ put_whole.numbers;
       }

@@ -3,73 +3,37 @@ use Rattle.as4.proofs.PutLaws as put
 use Rattle.as4.proofs.fill_built.Goals as goal
 
 pub slice_bounds-put_split-count : goal.slice_bounds-put_split-count
-slice_bounds-put_split-count c =
-    let a = c.args in
-    let r = c.requires in
-    omega (arith, put.split_room_both a.as_path.now a.front r.front _ a.pairs.now a.numbers.now r.room)
+slice_bounds-put_split-count c = let r = c.requires in omega (arith, put.part_room r.front _ r.room)
 
 pub slice_bounds-put_split-start : goal.slice_bounds-put_split-start
-slice_bounds-put_split-start c =
-    let a = c.args in
-    let r = c.requires in
-    omega (arith, put.split_room_both a.as_path.now a.front r.front _ a.pairs.now a.numbers.now r.room)
+slice_bounds-put_split-start c = let r = c.requires in omega (arith, put.part_room r.front _ r.room)
 
 pub slice_bounds-put_split-count-2 : goal.slice_bounds-put_split-count-2
-slice_bounds-put_split-count-2 c =
-    let a = c.args in
-    let r = c.requires in
-    omega (arith, put.split_room_both a.as_path.now a.front r.front _ a.pairs.now a.numbers.now r.room)
+slice_bounds-put_split-count-2 c = let r = c.requires in omega (arith, put.part_room r.front _ r.room)
 
 pub slice_bounds-put_split-start-2 : goal.slice_bounds-put_split-start-2
-slice_bounds-put_split-start-2 c =
-    let a = c.args in
-    let r = c.requires in
-    omega (arith, put.split_room_both a.as_path.now a.front r.front _ a.pairs.now a.numbers.now r.room)
+slice_bounds-put_split-start-2 c = let r = c.requires in omega (arith, put.part_room r.front _ r.room)
 
 pub put_split-requires : goal.put_split-requires
-put_split-requires c =
-    let a = c.args in
-    let r = c.requires in
-    record { front = r.front; room = (put.split_room_both a.as_path.now a.front r.front _ a.pairs.now a.numbers.now r.room).2 }
+put_split-requires c = let r = c.requires in record { front = r.front; room = (put.part_room r.front _ r.room).2 }
 
 pub slice_bounds-fill_kept-count : goal.slice_bounds-fill_kept-count
-slice_bounds-fill_kept-count c =
-    let a = c.args in
-    let r = c.requires in
-    omega (arith, put.more_room_both a.as_path.now a.front r.front _ a.pairs.now a.numbers.now r.room _ c.split_count.ensures _ _ c.put_split.ensures)
+slice_bounds-fill_kept-count c = let r = c.requires in omega (arith, put.more_room r.front _ r.room c.split_count.ensures c.put_split.ensures)
 
 pub slice_bounds-fill_kept-start : goal.slice_bounds-fill_kept-start
-slice_bounds-fill_kept-start c =
-    let a = c.args in
-    let r = c.requires in
-    omega (arith, put.more_room_both a.as_path.now a.front r.front _ a.pairs.now a.numbers.now r.room _ c.split_count.ensures _ _ c.put_split.ensures)
+slice_bounds-fill_kept-start c = let r = c.requires in omega (arith, put.more_room r.front _ r.room c.split_count.ensures c.put_split.ensures)
 
 pub slice_bounds-fill_kept-count-2 : goal.slice_bounds-fill_kept-count-2
-slice_bounds-fill_kept-count-2 c =
-    let a = c.args in
-    let r = c.requires in
-    omega (arith, put.more_room_both a.as_path.now a.front r.front _ a.pairs.now a.numbers.now r.room _ c.split_count.ensures _ _ c.put_split.ensures)
+slice_bounds-fill_kept-count-2 c = let r = c.requires in omega (arith, put.more_room r.front _ r.room c.split_count.ensures c.put_split.ensures)
 
 pub slice_bounds-fill_kept-start-2 : goal.slice_bounds-fill_kept-start-2
-slice_bounds-fill_kept-start-2 c =
-    let a = c.args in
-    let r = c.requires in
-    omega (arith, put.more_room_both a.as_path.now a.front r.front _ a.pairs.now a.numbers.now r.room _ c.split_count.ensures _ _ c.put_split.ensures)
+slice_bounds-fill_kept-start-2 c = let r = c.requires in omega (arith, put.more_room r.front _ r.room c.split_count.ensures c.put_split.ensures)
 
 pub fill_kept-requires : goal.fill_kept-requires
-fill_kept-requires c =
-    let a = c.args in
-    let r = c.requires in
-    record { good = r.good; room = (put.more_room_both a.as_path.now a.front r.front _ a.pairs.now a.numbers.now r.room _ c.split_count.ensures _ _ c.put_split.ensures).2 }
+fill_kept-requires c = let r = c.requires in record { good = r.good; room = (put.more_room r.front _ r.room c.split_count.ensures c.put_split.ensures).2 }
 
 pub put_front-requires-clause-room : goal.put_front-requires-clause-room
-put_front-requires-clause-room c =
-    let a = c.args in
-    let r = c.requires in
-    put.whole_room_both a.as_path.now a.front r.front _ a.pairs.now a.numbers.now r.room _ c.split_count.ensures _ _ c.put_split.ensures _ _ c.fill_kept.ensures
+put_front-requires-clause-room c = let r = c.requires in put.whole_room r.front _ r.room c.split_count.ensures c.put_split.ensures c.fill_kept.ensures
 
 pub returns : goal.returns
-returns c =
-    let a = c.args in
-    let r = c.requires in
-    put.built_put a.as_path.now a.front r.front _ a.pairs.now a.numbers.now r.room _ c.split_count.ensures _ _ c.put_split.ensures _ _ c.fill_kept.ensures _ _ c.put_front.ensures
+returns c = let r = c.requires in put.built_put r.front _ r.room c.split_count.ensures c.put_split.ensures c.fill_kept.ensures c.put_front.ensures
