@@ -1,7 +1,7 @@
 -- The loop that fills the stores from AS4_PATH: what holds at its head, and what a turn makes of it, but for confederation segments.
 -- Assumes nothing.
 use Prim.Native.Nat.{ℕ, ◌+◌, ◌-◌, ◌≤◌, ◌<◌}
-use mathlib.Core.Path.{◌≡◌, sym, ap, ap₂, subst, ◌∙◌}
+use mathlib.Core.Path.{◌≡◌, sym, ap, subst, ◌∙◌}
 use mathlib.Core.List.{List, [], ◌∷◌, ◌++◌}
 use mathlib.Core.Bool.{true, false}
 use native.Mathlib.Nat.{add-zero}
@@ -20,9 +20,9 @@ use Rattle.paths.proofs.SegmentLaws.{segment_sound, length_numbers}
 use Rattle.paths.proofs.PathTurn.{good_taken}
 use Rattle.as4.specs.Merge.{confed_sequence, is_confed, kept}
 use Rattle.as4.specs.Promises.{new_path}
-use Rattle.as4.specs.Private.{kept_of, kept_by, first_of, Room, Put}
-use Rattle.as4.proofs.SegmentLaws.{all_kept, all_dropped, flat_kept}
-use Rattle.as4.proofs.PutLaws.{flat_one, part_length}
+use Rattle.as4.specs.Private.{kept_by, first_of, Room, Put}
+use Rattle.as4.proofs.SegmentLaws.{all_kept, all_dropped, flat_kept, flat_one}
+use Rattle.as4.proofs.PutLaws.{part_length}
 
 abbrev step : NoState → List ℕ → Step NoState Segment
 step = segment_of known_type 4

@@ -10,6 +10,7 @@ use borrow.Author.Tests.{le-leb, lt-leb, lt-ltb, ltb-true, ltb-false, eqb-true, 
 use lib.ListN.{length, length-append, take}
 use lib.Dec.{leb, ltb, eqb}
 use Rattle.std.specs.Prelude.{Result, Ok, Err}
+use Rattle.std.proofs.lemmas.Bool.{or_cases, or_parts}
 use Rattle.wire.specs.Choice.{pick}
 use Rattle.wire.specs.Refusal.{list_limit}
 use Rattle.wire.specs.Verdict.{Verdict, fine, unless, either}
@@ -29,7 +30,7 @@ use Rattle.as4.specs.declared.Weight.{Weight}
 use Rattle.as4.specs.declared.Leading.{Leading}
 use Rattle.as4.specs.declared.Plan.{Plan}
 use Rattle.as4.proofs.SegmentLaws.{flat_join}
-use Rattle.as4.proofs.MergeLaws.{either_true, neither, confed_none}
+use Rattle.as4.proofs.MergeLaws.{confed_none}
 use Rattle.as4.proofs.MergedLaws.{alone_comes, merged_comes}
 use Rattle.as4.proofs.PromiseLaws.{no_fault, weight_says}
 use Rattle.as4.proofs.WeighTurn.{kept_few}
@@ -59,7 +60,7 @@ module _ {X : Type 0} (m old new : ℕ) (o b : X) where
   choose_alone : (t : Bool) → alone t m old new ≡ true → pick t o (pick (ltb 0 m && leb new old) b o) ≡ o
   choose_alone true e = refl
   choose_alone false e =
-      ⊎_elim (λ (none : eqb m 0 ≡ true). rw (eqb-true m 0 none) refl) (λ (more : ltb old new ≡ true). rw (lt-leb new old (ltb-true old new more)) (none_of (ltb 0 m))) (either_true _ _ e)
+      ⊎_elim (λ (none : eqb m 0 ≡ true). rw (eqb-true m 0 none) refl) (λ (more : ltb old new ≡ true). rw (lt-leb new old (ltb-true old new more)) (none_of (ltb 0 m))) (or_cases _ _ e)
     where
       none_of : (t : Bool) → pick (t && false) b o ≡ o
       none_of true = refl
@@ -68,7 +69,7 @@ module _ {X : Type 0} (m old new : ℕ) (o b : X) where
   choose_built : (t : Bool) → alone t m old new ≡ false → (pick t o (pick (ltb 0 m && leb new old) b o) ≡ b) × (new ≤ old)
   choose_built true e = let z : ◌≡◌ {A = ℕ} 0 1 = cc in absurd (omega (arith, z))
   choose_built false e =
-      let n : (eqb m 0 ≡ false) × (ltb old new ≡ false) = neither _ _ e in
+      let n : (eqb m 0 ≡ false) × (ltb old new ≡ false) = or_parts _ _ e in
       let le : new ≤ old = ltb-false old new n.1 in
       let some : (m ≡ 0 → ⊥) = eqb-false m 0 n.0 in
       (rw (lt-ltb 0 m (omega (arith, some)), le-leb new old le), le)

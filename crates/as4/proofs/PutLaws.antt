@@ -1,7 +1,7 @@
 -- Segments put into the two stores: one, a split, whole ones, and all of a path that is built.
 -- Assumes nothing.
 use Prim.Native.Nat.{ℕ, ◌+◌, ◌-◌, ◌*◌, ◌≤◌}
-use mathlib.Core.Path.{◌≡◌, refl, sym, ap, ◌∙◌}
+use mathlib.Core.Path.{◌≡◌, sym, ap, ◌∙◌}
 use mathlib.Core.List.{List, [], ◌∷◌, ◌++◌, append_assoc, append-nil}
 use native.Mathlib.Omega.{arith}
 use lib.ListN.{length, get_or, take, drop, set, length-append, length-drop}
@@ -19,14 +19,10 @@ use Rattle.paths.proofs.SegmentLaws.{length_numbers}
 use Rattle.as4.specs.Promises.{old_path}
 use Rattle.as4.specs.Private.{first_of, split_at, front_of, Front, Room, Put}
 use Rattle.as4.specs.declared.Leading.{Leading}
-use Rattle.as4.proofs.SegmentLaws.{flat_join}
+use Rattle.as4.proofs.SegmentLaws.{flat_join, flat_one}
 use Rattle.as4.proofs.FrontLaws.{split_length, split_numbers}
 
 -- ---- one segment
-
-pub flat_one : (emit : Segment → List ℕ) (g : Segment) → flat emit (g ∷ []) ≡ emit g
-unfolding flat
-flat_one emit g = append-nil (emit g)
 
 pub room_one : {g : Segment} {p n : List ℕ} → Room (g ∷ []) p n → (2 ≤ length p) × (length (asns_of g) ≤ length n)
 unfolding flat

@@ -2,7 +2,7 @@
 -- Assumes nothing.
 use Prim.Native.Nat.{ℕ, ◌+◌, ◌≤◌}
 use mathlib.Core.Path.{◌≡◌, refl, sym, ap, ap₂, ◌∙◌}
-use mathlib.Core.List.{List, [], ◌∷◌, ◌++◌, append_assoc}
+use mathlib.Core.List.{List, [], ◌∷◌, ◌++◌, append_assoc, append-nil}
 use mathlib.Core.Bool.{Bool, true, false}
 use native.Mathlib.Omega.{arith}
 use lib.ListN.{length}
@@ -77,6 +77,11 @@ pub flat_join : {A : Type 0} (emit : A → List ℕ) (rows more : List A) → fl
 unfolding flat
 flat_join emit [] more = refl
 flat_join emit (a ∷ rows) more = ap (λ (l : List ℕ). emit a ++ l) (flat_join emit rows more) ∙ sym (append_assoc (emit a) (flat emit rows) (flat emit more))
+
+-- of one
+pub flat_one : (emit : Segment → List ℕ) (g : Segment) → flat emit (g ∷ []) ≡ emit g
+unfolding flat
+flat_one emit g = append-nil (emit g)
 
 -- ---- a path without confederation segments
 
