@@ -19,14 +19,6 @@ use Rattle.as4.specs.Private.{kept_count, kept_of, kept_by, route_count}
 
 module _ (kind : ℕ) where
   module _ (n : ℕ) where
-    pub count_kept : leb confed_sequence kind ≡ false → kept_count kind n ≡ n
-    unfolding kept_count
-    count_kept e = rw e
-
-    pub count_dropped : leb confed_sequence kind ≡ true → kept_count kind n ≡ 0
-    unfolding kept_count
-    count_dropped e = rw e
-
     pub count_most : kept_count kind n ≤ n
     unfolding kept_count
     count_most = pick_any (λ (k : ℕ). k ≤ n) (leb confed_sequence kind) 0 n (omega arith) (omega arith)

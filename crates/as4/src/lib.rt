@@ -2,17 +2,17 @@
 // bytes, and AS4_PATH, with numbers of four, make together.
 #![tactic(auto)]
 
-ghost use Rattle.std.specs.Prelude.{◌≡◌, ◌+◌, ◌≤◌, ◌<◌, [], ◌∷◌, ◌++◌, length, get_or, drop, leb};
+ghost use Rattle.std.specs.Prelude.{◌≡◌, ◌+◌, ◌≤◌, [], ◌∷◌, ◌++◌, length, leb};
 ghost use Rattle.wire.specs.Choice.{pick};
 ghost use Rattle.wire.specs.Extent.{PartOf};
 ghost use Rattle.wire.specs.Refusal.{list_limit};
 ghost use Rattle.wire.specs.Verdict.{fine};
 ghost use Rattle.asns.specs.Asn.{width_of, span};
-ghost use Rattle.paths.specs.Segment.{numbers_of, known_type, path_of, pair_of, asns_of};
+ghost use Rattle.paths.specs.Segment.{known_type, path_of};
 ghost use Rattle.paths.specs.Promises.{answer_of};
 ghost use Rattle.as4.specs.Standing.{size_fault, sizes_fault, both_there, has_as_trans, standing, ignored, owner_of, handed_back};
-ghost use Rattle.as4.specs.Merge.{confed_sequence, route_len_of, kept};
-ghost use Rattle.as4.specs.Promises.{old_path, new_path, fault_of, both_of, built_of, merge_answer, merged_pairs, merged_numbers};
+ghost use Rattle.as4.specs.Merge.{confed_sequence, kept};
+ghost use Rattle.as4.specs.Promises.{old_path, new_path, built_of, merge_answer, merged_pairs, merged_numbers};
 ghost use Rattle.as4.specs.Private.{kept_count, route_count, weighed, goes_on, first_of, split_at, front_of, Front, Leads, Room, Put, alone, Planned};
 
 use asns::AsnLength;
@@ -40,6 +40,7 @@ pub enum Standing {
 }
 
 // Whether a value of n bytes is absent, or has its one size.
+#[tactic(auto, unfolding(crate::specs::Standing::size_fault))]
 fn size_fault(n: usize, size: usize) -> Result<(), Refusal>
     ensures { result ≡ size_fault n size }
 {
@@ -94,6 +95,7 @@ pub fn standing_aggregator<'a>(aggregator: &'a [u8], as4_aggregator: &'a [u8]) -
 }
 
 // Whether AS4_PATH is ignored: AGGREGATOR stands though both are there.
+#[tactic(auto, unfolding(crate::specs::Standing::ignored))]
 fn ignores_as4_path(aggregator: &[u8], as4_aggregator: &[u8]) -> bool
     ensures { result ≡ ignored aggregator.now as4_aggregator.now }
 {
@@ -133,6 +135,7 @@ fn is_confed(kind: u8) -> bool
 }
 
 // n, and 0 for a segment of a confederation.
+#[tactic(auto, unfolding(crate::specs::Private::kept_count))]
 fn kept_count(kind: u8, n: usize) -> usize
     ensures { result ≡ kept_count kind n }
 {
@@ -238,7 +241,13 @@ fn fill_kept(as4_path: &[u8], pairs: &mut [u32], numbers: &mut [u32])
         if is_confed(s[0]) {
             continue;
         }
-        put_segment(s, n, AsnLength::Bits32, &mut pairs[pair..], &mut numbers[to..]);
+        put_segment(
+            s,
+            n,
+            AsnLength::Bits32,
+            &mut pairs[pair..],
+            &mut numbers[to..],
+        );
         pair += 2;
         to += usize::from(n);
     }
