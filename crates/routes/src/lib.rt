@@ -191,7 +191,6 @@ pub fn form_size(s: &[u8], counts: &[u8; 256], form: Form) -> Result<Item, Refus
 
 // A step of the guess at place n: the item is tried with an id, and else the same place is read without. Each branch makes its own part of s, so that
 // the load of a first byte adds its place itself.
-#[inline(always)]
 fn guess_at(s: &[u8], n: usize, counts: &[u8; 256], form: Form) -> Result<Item, Refusal>
     requires { n < length s.now }
     ensures { result ≡ sized (step_by (by_table counts.now) AddPath.Guess form (drop n s.now)) }
@@ -214,7 +213,6 @@ fn guess_at(s: &[u8], n: usize, counts: &[u8; 256], form: Form) -> Result<Item, 
 }
 
 // A step under a setting, at place n.
-#[inline(always)]
 pub fn item_step(
     s: &[u8],
     n: usize,
