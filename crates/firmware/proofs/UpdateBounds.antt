@@ -20,7 +20,7 @@ use Rattle.families.specs.declared.AddPath.{AddPath}
 use Rattle.families.specs.declared.Form.{Form}
 use Rattle.families.specs.declared.Afi.TheVariants.{Ipv4}
 use Rattle.routes.specs.List.{hosts_of, section_of}
-use Rattle.routes.specs.Promises.{rows_in, rows_alone, has_room, count_answer}
+use Rattle.routes.specs.Promises.{rows_in, hosts_in, rows_alone, has_room, count_answer}
 use Rattle.routes.proofs.ListLaws.{beside_rows}
 use Rattle.routes.specs.declared.Row.{Row}
 use Rattle.routes.specs.declared.Routes.{Routes}
@@ -76,17 +76,18 @@ module _ (b : List ℕ) (mode : AddPath) where
   unfolding read_update read_pair
   read_update_narrow places places' = if_narrow (parts_of b) _ (pair_narrow _ _ places places' both_small.0 both_small.1)
 
--- of what is counted
-pub counted_small : (b : List ℕ) (mode : AddPath) (u : Update) → count_update b mode ≡ Ok u → Small u.withdrawn × Small u.announced
+-- so few rows of what is counted have a host bit
+pub hosts_few : (b : List ℕ) (mode : AddPath) (u : Update) → Ok u ≡ count_update b mode → (hosts_in u.withdrawn ≤ list_limit) × (hosts_in u.announced ≤ list_limit)
 unfolding count_update
-counted_small b mode u = by (parts_of b)
+hosts_few b mode u = by (parts_of b)
   where
-    by : (p : Result Parts Refusal) → if_parts p (update_of (counted (withdrawn_of b) mode) (counted (announced_of b) mode)) ≡ Ok u → Small u.withdrawn × Small u.announced
+    by : (p : Result Parts Refusal) → Ok u ≡ if_parts p (update_of (counted (withdrawn_of b) mode) (counted (announced_of b) mode))
+        → (hosts_in u.withdrawn ≤ list_limit) × (hosts_in u.announced ≤ list_limit)
     by (Ok p) e =
-        let one : counted (withdrawn_of b) mode ≡ u.withdrawn = cc in
-        let two : counted (announced_of b) mode ≡ u.announced = cc in
+        let one : u.withdrawn ≡ counted (withdrawn_of b) mode = cc in
+        let two : u.announced ≡ counted (announced_of b) mode = cc in
         let both = both_small b mode in
-        (rw one at both.0, rw two at both.1)
+        (rw one both.0.hosts, rw two both.1.hosts)
     by (Err r) e = let z : ◌≡◌ {A = ℕ} 0 1 = cc in absurd (omega arith)
 
 -- ---- how many rows a body has

@@ -18,10 +18,10 @@ pub(super) fn path_word(a: Result<Path, Refusal>) -> u64
     requires { Narrow (in_fields (Paths.path_meaning a)) }
     ensures { result ≡ word_of (in_fields (Paths.path_meaning a)) }
 {
-    match a {
-        Ok(path) => word(path.segments as u16, path.numbers as u16, 0, 0),
-        Err(why) => refused(why),
-    }
+    a.map_or_else(
+        refused,
+        |path| word(path.segments as u16, path.numbers as u16, 0, 0),
+    )
 }
 
 // How many segments and numbers an AS_PATH has, as the crate does it.
