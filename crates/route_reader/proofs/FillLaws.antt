@@ -45,7 +45,7 @@ pub record Held (max : ℕ) (mode : AddPath) (st₀ : Form) (s d₀ left : List 
 -- what a turn leaves of the item that it takes, in a form: `after` is carried from then on, m octets of it are the item's
 pub record Left (max : ℕ) (mode : AddPath) (st₀ : Form) (s d₀ left : List ℕ) (n to : ℕ) (d : List ℕ) (form : Form) (after : List ℕ) (m : ℕ) : Type 0 where
   pub less : length after - m < length left - n
-  pub spot : (most : ℕ) → octets max ≤ most → Octets most m after
+  pub spot : Octets (octets max) m after
   -- its head is put, then its address, and the turn is done
   pub next : (mark : ℕ) → mark ≡ guess_mark mode form → (d₁ d₂ : List ℕ) → d₁ ≡ laid d to (head_words mark form (from left n)) → d₂ ≡ laid d₁ (to + 2) (address_words (take m after)) → Held max mode st₀ s d₀ after m form (to + 6) d₂
 
@@ -95,7 +95,7 @@ module _ (max : ℕ) (mode : AddPath) (st₀ : Form) (s d₀ : List ℕ) where
           more = λ mark₁ d₁ e. omega (arith, fits.2, ap length e, length_laid d to (head_words mark₁ form here) (omega (arith, fits.2)));
           leaves = record {
             less = omega (arith, bytes, within, ap length (rest left (n + b)), length-drop (n + b) left);
-            spot = λ most enough. record {
+            spot = record {
               few = omega (arith, item.size, item.fits);
               there = omega (arith, within, ap length (rest left (n + b)), length-drop (n + b) left);
             };

@@ -5,7 +5,7 @@ use lib.ListN.{length-take}
 use lib.Seq.{length-take-le}
 use Rattle.wire.specs.Store.{laid}
 use Rattle.route_reader.proofs.WordsLaws.{address_first}
-use Rattle.route_reader.proofs.put_short.Goals as goal
+use Rattle.route_reader.proofs.ShortAddress.put.Goals as goal
 
 pub slice_bounds-put_exact-end : goal.slice_bounds-put_exact-end
 slice_bounds-put_exact-end c = sym (length-take-le c.args.n c.args.s.now c.requires.octets.there)
