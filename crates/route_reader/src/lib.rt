@@ -208,16 +208,16 @@ impl<A: Address> Filler<'_, A> {
         requires { Fitting (list_of s.now (max_of A.afi) (fixed form)) store.old }
         ensures { store.new ≡ laid store.old 0 (flat words (list_of s.now (max_of A.afi) (fixed form)).rows) }
     {
-        let b = families::id_size(form) + 1;
+        let k = families::id_size(form);
         let mut rest = s;
         let mut n: usize = 0;
         let mut to: usize = 0;
         while n < rest.len() {
-            let next = octets::after(self.counts, rest[n + families::id_size(form)]) as usize;
+            let next = octets::after(self.counts, rest[n + k]);
             put_head(store, to, &rest[n..], form, 0);
-            rest = &rest[n + b..];
-            self.address.put(store, to + 2, rest, next);
-            n = next;
+            rest = &rest[n + k + 1..];
+            n = usize::from(next);
+            self.address.put(store, to + 2, rest, n);
             to += 6;
         }
     }
@@ -236,22 +236,16 @@ impl<A: Address> Filler<'_, A> {
                 return;
             };
             form = item.form;
+            let b = families::id_size(form) + 1;
             put_head(store, to, &rest[n..], form, families::guess_mark(form));
-            match form {
-                Form::Plain => {
-                    rest = &rest[n + 1..];
-                    n = item.used - 1;
-                }
-                Form::Tagged => {
-                    rest = &rest[n + 5..];
-                    n = item.used - 5;
-                }
-            }
+            rest = &rest[n + b..];
+            n = item.used - b;
             self.address.put(store, to + 2, rest, n);
             to += 6;
         }
     }
 
+    // Items under a setting.
     fn fill(&self, s: &[u8], mode: AddPath, store: &mut [u32])
         requires { Fitting (list_of s.now (max_of A.afi) mode) store.old }
         ensures { store.new ≡ laid store.old 0 (flat words (list_of s.now (max_of A.afi) mode).rows) }
@@ -264,25 +258,42 @@ impl<A: Address> Filler<'_, A> {
     }
 }
 
-// The rows of a good list that has room, from the front of a store.
-fn fill_rows(s: &[u8], afi: Afi, mode: AddPath, counts: &[u8; 256], store: &mut [u32])
-    requires fitting { Fitting (list_of s.now (max_of afi) mode) store.old }
-    requires counts_value { counts.now ≡ table_of (max_of afi) }
-    ensures { store.new ≡ laid store.old 0 (flat words (list_of s.now (max_of afi) mode).rows) }
-{
-    let whole = &s[..];
-    match afi {
-        Afi::Ipv4 => {
-            let filler = Filler {
-                counts,
-                address: Short,
-            };
-            filler.fill(whole, mode, store)
+// How lists are read: of which family, whose table is lent, and under which setting.
+#[derive(Clone, Copy)]
+struct Kind<'a> {
+    afi: Afi,
+    mode: AddPath,
+    counts: &'a [u8; 256],
+    ghost family: { counts.now ≡ table_of (max_of afi) },
+}
+
+impl Kind<'_> {
+    // The rows of a good list that has room, from the front of a store.
+    fn fill(&self, s: &[u8], store: &mut [u32])
+        requires { Fitting (list_of s.now (max_of self.now.afi) self.now.mode) store.old }
+        ensures { store.new ≡ laid store.old 0 (flat words (list_of s.now (max_of self.now.afi) self.now.mode).rows) }
+    {
+        let counts = self.counts;
+        match self.afi {
+            Afi::Ipv4 => {
+                let address = Short;
+                Filler { counts, address }.fill(s, self.mode, store)
+            }
+            Afi::Ipv6 => {
+                let address = Long { masks: MASKS };
+                Filler { counts, address }.fill(s, self.mode, store)
+            }
         }
-        Afi::Ipv6 => {
-            let address = Long { masks: MASKS };
-            let filler = Filler { counts, address };
-            filler.fill(whole, mode, store)
+    }
+
+    // The rows of a section that was counted, into a store that has room; nothing of one that was refused.
+    fn fill_counted(&self, s: &[u8], counted: Result<Routes, Refusal>, store: &mut [u32])
+        requires counted_value { counted ≡ count_section (up_to (max_of self.now.afi)) s.now self.now.mode }
+        requires store_value { rows_in counted ≤ length store.old / 6 }
+        ensures { store.new ≡ filled (count_meaning (rows_alone counted)) (flat words (section_of s.now (max_of self.now.afi) self.now.mode).rows) store.old }
+    {
+        if counted.is_ok() {
+            self.fill(s, store);
         }
     }
 }
@@ -304,7 +315,12 @@ pub fn parse_nlri_list(
     if store.len() / 6 < found.rows {
         return Err(Refusal::NoRoom);
     }
-    fill_rows(s, afi, mode, &counts, store);
+    let kind = Kind {
+        afi,
+        mode,
+        counts: &counts,
+    };
+    kind.fill(s, store);
     Ok(found)
 }
 
@@ -324,25 +340,6 @@ pub fn read_nlri(s: &[u8], afi: Afi, mode: AddPath, store: &mut [u32]) -> Result
 pub struct Sections {
     pub first: Result<Routes, Refusal>,
     pub second: Result<Routes, Refusal>,
-}
-
-// The rows of a section that was counted, into a store that has room; nothing of one that was refused.
-fn fill_counted(
-    s: &[u8],
-    afi: Afi,
-    mode: AddPath,
-    counts: &[u8; 256],
-    counted: Result<Routes, Refusal>,
-    store: &mut [u32],
-)
-    requires counts_value { counts.now ≡ table_of (max_of afi) }
-    requires counted_value { counted ≡ count_section (up_to (max_of afi)) s.now mode }
-    requires store_value { rows_in counted ≤ length store.old / 6 }
-    ensures { store.new ≡ filled (count_meaning (rows_alone counted)) (flat words (section_of s.now (max_of afi) mode).rows) store.old }
-{
-    if counted.is_ok() {
-        fill_rows(s, afi, mode, counts, store);
-    }
 }
 
 // Two sections of an UPDATE into two lent stores: where either has rows and no room for them, neither store is touched.
@@ -365,8 +362,13 @@ pub fn read_nlri_pair(
     if first.len() / 6 < routes::rows_in(one) || second.len() / 6 < routes::rows_in(two) {
         return Err(Refusal::NoRoom);
     }
-    fill_counted(s, afi, mode, &counts, one, first);
-    fill_counted(t, afi, mode, &counts, two, second);
+    let kind = Kind {
+        afi,
+        mode,
+        counts: &counts,
+    };
+    kind.fill_counted(s, one, first);
+    kind.fill_counted(t, two, second);
     Ok(Sections {
         first: one,
         second: two,
