@@ -115,9 +115,15 @@ module _ (max : ℕ) (form : Form) (s d₀ left : List ℕ) (n to : ℕ) (d : Li
   item_here : n < length left → (used : ℕ) × (row : Row) × (step_of max (fixed form) form (drop n left) ≡ took used row form) × Took (drop n left) max form used (item_row form (take used (drop n left)))
   item_here lt =
       let x = fill_takes (step_of max (fixed form)) (sound max (fixed form)) words form s d₀ form h.at to d h.filled (omega (arith, lt, behind_long s left n h.at h.behind)) in
-      let step : step_of max (fixed form) form (drop n left) ≡ took x.0 x.1 x.2 = ap (step_of max (fixed form) form) h.behind.is ∙ x.3 in
-      let same : x.2 ≡ form = sym (step_form (up_to max) (fixed form) form x.2 (drop n left) x.0 x.1 step) ∙ fixed_form (up_to max) form form (drop n left) in
-      (x.0, x.1, step ∙ ap (took x.0 x.1) same, rw same at (step_took max (fixed form) form x.2 (drop n left) x.0 x.1 step))
+      by x.0 x.1 x.2 x.3
+    where
+      by : (used : ℕ) (row : Row) (st : Form) → step_of max (fixed form) form (drop h.at s) ≡ took used row st
+          → (used : ℕ) × (row : Row) × (step_of max (fixed form) form (drop n left) ≡ took used row form) × Took (drop n left) max form used (item_row form (take used (drop n left)))
+      by used row st e =
+          let step : step_of max (fixed form) form (drop n left) ≡ took used row st = ap (step_of max (fixed form) form) h.behind.is ∙ e in
+          let same : st ≡ form = sym (step_form (up_to max) (fixed form) form st (drop n left) used row step) ∙ fixed_form (up_to max) form form (drop n left) in
+          let step : step_of max (fixed form) form (drop n left) ≡ took used row form = rw same at step in
+          (used, row, step, step_took max (fixed form) form form (drop n left) used row step)
 
   -- its id and its length byte are there
   pub front_there : n < length left → n + id_size form < length left
