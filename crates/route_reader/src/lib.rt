@@ -19,7 +19,7 @@ ghost use Rattle.route_reader.specs.Private.{head_words, address_words, all_mask
 ghost use Rattle.route_reader.specs.Pair.{read_pair, read_pair_first, read_pair_second};
 
 use families::{AddPath, Afi, Form, octets};
-use routes::{Item, Routes};
+use routes::Routes;
 use wire::refusal::Refusal;
 
 // The word of the last n octets of s: the last four, shifted up over those before. Here and below a word is read where it is known to be all there, so
@@ -73,7 +73,8 @@ fn put_words(store: &mut [u32], to: usize, w0: u32, w1: u32, w2: u32, w3: u32)
     put_pair(store, to + 2, w2, w3);
 }
 
-// The address words of octets, of which no other byte is read. Here and below, a slice that is lent on whole goes in registers.
+// The address words of octets, of which no other byte is read. Here and below, a slice that is lent on whole goes in registers. Tried: each word by its
+// place alone, with one test for the last, takes 5 percent longer for ten IPv6 routes.
 fn put_exact(store: &mut [u32], to: usize, octets: &[u8])
     requires { (to + 4 ≤ length store.old) × (length octets.now ≤ 16) }
     ensures { store.new ≡ laid store.old to (address_words octets.now) }
@@ -260,14 +261,14 @@ impl<A: Address> Filler<'_, A> {
 
 // How lists are read: of which family, whose table is lent, and under which setting.
 #[derive(Clone, Copy)]
-struct Kind<'a> {
+struct ListKind<'a> {
     afi: Afi,
     mode: AddPath,
     counts: &'a [u8; 256],
     ghost family: { counts.now ≡ table_of (max_of afi) },
 }
 
-impl Kind<'_> {
+impl ListKind<'_> {
     // The rows of a good list that has room, from the front of a store.
     fn fill(&self, s: &[u8], store: &mut [u32])
         requires { Fitting (list_of s.now (max_of self.now.afi) self.now.mode) store.old }
@@ -315,7 +316,7 @@ pub fn parse_nlri_list(
     if store.len() / 6 < found.rows {
         return Err(Refusal::NoRoom);
     }
-    let kind = Kind {
+    let kind = ListKind {
         afi,
         mode,
         counts: &counts,
@@ -362,7 +363,7 @@ pub fn read_nlri_pair(
     if first.len() / 6 < routes::rows_in(one) || second.len() / 6 < routes::rows_in(two) {
         return Err(Refusal::NoRoom);
     }
-    let kind = Kind {
+    let kind = ListKind {
         afi,
         mode,
         counts: &counts,

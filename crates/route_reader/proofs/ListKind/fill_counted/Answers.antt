@@ -1,7 +1,7 @@
 use mathlib.Core.Path.{◌∙◌}
 use Rattle.families.specs.Family.{max_of}
 use Rattle.route_reader.proofs.PairLaws.{section_fits}
-use Rattle.route_reader.proofs.Kind.fill_counted.Goals as goal
+use Rattle.route_reader.proofs.ListKind.fill_counted.Goals as goal
 
 pub fill-requires : goal.fill-requires
 fill-requires c =
