@@ -44,17 +44,6 @@ fn id_of(s: &[u8], form: Form) -> u32
     }
 }
 
-// The first two words of the row of the item at the front of s, with a mark.
-fn put_head(store: &mut [u32], to: usize, s: &[u8], form: Form, mark: u32)
-    requires to_in_bounds { (to + 2 ≤ length store.old) × (mark ≤ 512) }
-    requires form_in_bounds { id_size form < length s.now }
-    ensures { store.new ≡ laid store.old to (head_words mark form s.now) }
-{
-    let k = families::id_size(form);
-    store[to] = u32::from(s[k]) + families::mark_of(form) + mark;
-    store[to + 1] = id_of(s, form);
-}
-
 // Two words at a place of a store. Here and below words go two by two, so that two loads or stores can be one; four at once become vectors of bytes.
 fn put_pair(store: &mut [u32], to: usize, w0: u32, w1: u32)
     requires { to + 2 ≤ length store.old }
@@ -62,6 +51,17 @@ fn put_pair(store: &mut [u32], to: usize, w0: u32, w1: u32)
 {
     store[to] = w0;
     store[to + 1] = w1;
+}
+
+// The first two words of the row of the item at the front of s, with a mark.
+fn put_head(store: &mut [u32], to: usize, s: &[u8], form: Form, mark: u32)
+    requires to_in_bounds { (to + 2 ≤ length store.old) × (mark ≤ 512) }
+    requires form_in_bounds { id_size form < length s.now }
+    ensures { store.new ≡ laid store.old to (head_words mark form s.now) }
+{
+    let k = families::id_size(form);
+    let first = u32::from(s[k]) + families::mark_of(form) + mark;
+    put_pair(store, to, first, id_of(s, form));
 }
 
 // Four words.

@@ -1,17 +1,10 @@
-use mathlib.Core.Path.{◌≡◌, sym, ap, ◌∙◌}
+use mathlib.Core.Path.{◌≡◌, ap, ◌∙◌}
 use mathlib.Core.List.{[], ◌∷◌}
 use native.Mathlib.Omega.{arith}
 use lib.ListN.{length-take}
-use lib.Seq.{length-take-le}
 use Rattle.wire.specs.Store.{laid}
 use Rattle.route_reader.proofs.WordsLaws.{address_first}
 use Rattle.route_reader.proofs.ShortAddress.put.Goals as goal
-
-pub slice_bounds-put_exact-end : goal.slice_bounds-put_exact-end
-slice_bounds-put_exact-end c = sym (length-take-le c.args.n c.args.s.now c.requires.octets.there)
-
-pub put_exact-requires : goal.put_exact-requires
-put_exact-requires c = (c.requires.to_in_bounds, omega (arith, c.requires.octets.few, length-take c.args.n c.args.s.now))
 
 pub returns : goal.returns
 returns c =
