@@ -61,36 +61,44 @@ module _ (read : Reader) (form : Form) (s : List ℕ) (fair : Fair read) (n at :
   known_item = item_on (read (drop at s) form) refl
 
 -- by a table, which says how long it is
-module _ (counts : List ℕ) (form : Form) (s : List ℕ) (n at : ℕ) (some : 0 < n) (h : Remain (by_table counts) form s n at) where
-  abbrev pub size_at : ℕ
-  size_at = id_size form + 1 + entry counts (get_or s (at + id_size form) 0)
+abbrev size_at : List ℕ → Form → List ℕ → ℕ → ℕ
+size_at counts form s at = id_size form + 1 + entry counts (get_or s (at + id_size form) 0)
 
-  pub known_turn : (at + size_at ≤ length s) × (skipped (by_table counts) form s n at ≡ skipped (by_table counts) form s (n - 1) (at + size_at)) × Remain (by_table counts) form s (n - 1) (at + size_at)
+module _ (counts : List ℕ) {form : Form} {s : List ℕ} {n at : ℕ} (some : 0 < n) (h : Remain (by_table counts) form s n at) where
+  known_turn : let next = at + size_at counts form s at in
+      (next ≤ length s) × (skipped (by_table counts) form s n at ≡ skipped (by_table counts) form s (n - 1) next) × Remain (by_table counts) form s (n - 1) next
   known_turn =
       let k = known_item (by_table counts) form s (fair_table counts) n at some h in
-      let size : k.0.used ≡ size_at =
+      let size : k.0.used ≡ size_at counts form s at =
       table_size counts (drop at s) form k.0.used k.0.row k.1 ∙ ap (λ (b : ℕ). id_size form + 1 + entry counts b) (get_or-drop at s (id_size form) 0) in
       rw (← size) k.2
 
+  -- its length byte stands there
+  pub known_there : at + id_size form < length s
+  known_there = omega (arith, known_turn.0)
+
 -- ---- items of one size
 
-module _ (counts : List ℕ) (form : Form) (s : List ℕ) (k n most from : ℕ) (id : k ≡ id_size form) where
-  abbrev Ahead : ℕ → ℕ → Type 0
-  Ahead left at = (at ≤ length s) × Passes (by_table counts) form s most from left at × Remain (by_table counts) form s left at
+-- at the head of the loop: some are passed, and as many as are left remain
+pub record Ahead (counts : List ℕ) (form : Form) (s : List ℕ) (most from left at : ℕ) : Type 0 where
+  pub passes : Passes (by_table counts) form s most from left at
+  pub remain : Remain (by_table counts) form s left at
 
+module _ (counts : List ℕ) {form : Form} {s : List ℕ} {most from k n : ℕ} (id : k ≡ id_size form) where
   -- the first
-  pub known_start : 0 < most → n ≡ entry counts (get_or s (from + id_size form) 0) → Remain (by_table counts) form s most from → Ahead (most - 1) (from + (k + 1 + n))
-  known_start some says h =
-      let t = known_turn counts form s most from some h in
-      rw (id, says) (t.0, record { fewer = omega (arith, some); onwards = omega arith; within = t.0; same = t.1 }, t.2)
+  pub known_start : 0 < most → Remain (by_table counts) form s most from → n ≡ entry counts (get_or s (from + id_size form) 0)
+      → (from + (k + 1 + n) ≤ length s) × Ahead counts form s most from (most - 1) (from + (k + 1 + n))
+  known_start some h says =
+      let t = known_turn counts some h in
+      rw (id, says) (t.0, record { passes = record { fewer = omega (arith, some); onwards = omega arith; within = t.0; same = t.1 }; remain = t.2 })
 
   -- and the next one, as long
-  pub known_next : (left at : ℕ) → Passes (by_table counts) form s most from left at × Remain (by_table counts) form s left at → 0 < left → entry counts (get_or s (at + id_size form) 0) ≡ n
-      → Ahead (left - 1) (at + (k + 1 + n))
-  known_next left at h some says =
-      let t = known_turn counts form s left at some h.1 in
-      rw (id, ← says)
-      (t.0, record { fewer = omega (arith, h.0.fewer, some); onwards = omega (arith, h.0.onwards); within = t.0; same = h.0.same ∙ t.1 }, t.2)
+  pub known_next : {left at : ℕ} → Ahead counts form s most from left at → 0 < left → n ≡ entry counts (get_or s (at + id_size form) 0)
+      → (at + (k + 1 + n) ≤ length s) × Ahead counts form s most from (left - 1) (at + (k + 1 + n))
+  known_next h some says =
+      let t = known_turn counts some h.remain in
+      rw (id, says)
+      (t.0, record { passes = record { fewer = omega (arith, h.passes.fewer, some); onwards = omega (arith, h.passes.onwards); within = t.0; same = h.passes.same ∙ t.1 }; remain = t.2 })
 
 -- ---- the loop that puts
 
