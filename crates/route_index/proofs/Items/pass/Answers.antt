@@ -13,7 +13,7 @@ loop-left-init c = (omega arith, refl)
 pub returns-in_err-item : goal.returns-in_err-item
 returns-in_err-item c =
     let a = c.args.self in
-    let stop = stop_here a.counts.now a.form a.bytes.now c.loop-left.at c.loop-left.left _ (omega (arith, c.loop-left-test.true)) (omega (arith, c.loop-left-test.true)) c.in_err-item.ensures in
+    let stop = stop_here a.counts.now a.form a.bytes.now c.loop-left.at c.loop-left.left _ (omega (arith, c.loop-left-test.true)) c.if-self-at.false c.in_err-item.ensures in
     passed _ _ c.from_residual.ensures.1 ∙ sym (c.loop-left.invariant.1 ∙ stop)
 
 pub pass_alike-p-requires : goal.pass_alike-p-requires
@@ -31,13 +31,13 @@ loop-left-smaller c = c.pass_alike-p.ensures.fewer
 pub loop-left-preserved : goal.loop-left-preserved
 loop-left-preserved c = (omega (arith, c.loop-left.invariant.0, c.pass_alike-p.ensures.fewer), c.loop-left.invariant.1 ∙ c.pass_alike-p.ensures.same)
 
-pub returns-else-at-self : goal.returns-else-at-self
-returns-else-at-self c =
+pub returns-then-self-at : goal.returns-then-self-at
+returns-then-self-at c =
     let a = c.args.self in
-    sym (c.loop-left.invariant.1 ∙ skip_end (by_table a.counts.now) a.form a.bytes.now c.loop-left.left c.loop-left.at c.if-at-self.false)
+    sym (c.loop-left.invariant.1 ∙ skip_end (by_table a.counts.now) a.form a.bytes.now c.loop-left.left c.loop-left.at c.if-self-at.true)
 
-pub returns-after-loop-left : goal.returns-after-loop-left
-returns-after-loop-left c =
+pub returns : goal.returns
+returns c =
     let a = c.args.self in
     let none : c.loop-left.left ≡ 0 = omega (arith, c.loop-left-test.false) in
     sym (c.loop-left.invariant.1

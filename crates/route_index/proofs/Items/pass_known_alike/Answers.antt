@@ -20,8 +20,8 @@ octets_at-requires c = known_there c.args.self.counts.now c.loop-left-test.true 
 
 pub overflow_add-at-in-loop-left : goal.overflow_add-at-in-loop-left
 overflow_add-at-in-loop-left c =
-    let next = known_next c.args.self.counts.now c.id_size.ensures c.loop-left.invariant c.loop-left-test.true (sym c.if-octets_at-n.true ∙ c.octets_at.ensures) in
+    let next = known_next c.args.self.counts.now c.id_size.ensures c.loop-left.invariant c.loop-left-test.true (sym c.if-octets_at-n.false ∙ c.octets_at.ensures) in
     omega (arith, next.0, c.args.self.short)
 
 pub loop-left-preserved : goal.loop-left-preserved
-loop-left-preserved c = (known_next c.args.self.counts.now c.id_size.ensures c.loop-left.invariant c.loop-left-test.true (sym c.if-octets_at-n.true ∙ c.octets_at.ensures)).1
+loop-left-preserved c = (known_next c.args.self.counts.now c.id_size.ensures c.loop-left.invariant c.loop-left-test.true (sym c.if-octets_at-n.false ∙ c.octets_at.ensures)).1

@@ -1,26 +1,30 @@
 use native.Mathlib.Omega.{arith}
 use Rattle.routes.proofs.TableLaws.{fair_table}
-use Rattle.route_index.proofs.KnownLaws.{putting_none, putting_start, putting_more, putting_next, putting_done}
+use Rattle.route_index.proofs.KnownLaws.{putting_start, putting_inside, putting_last, putting_more, putting_next}
+use Rattle.route_index.proofs.Items.put_places.Goals.{then-i-n, else-i-n}
 use Rattle.route_index.proofs.Items.put_places.Goals as goal
 
-pub returns-in_default : goal.returns-in_default
-returns-in_default c = putting_none c.requires c.in_default.ensures.cases
+pub loop-i-init : goal.loop-i-init
+loop-i-init c = putting_start c.requires
 
-pub loop-place-init : goal.loop-place-init
-loop-place-init c = putting_start (fair_table c.args.self.counts.now) c.requires c.in-Some.ensures.cases.1
+pub overflow_cast-places : goal.overflow_cast-places
+overflow_cast-places c =
+    let inside = putting_inside (fair_table c.args.self.counts.now) c.loop-i.invariant (omega (arith, c.loop-i-test.true, c.loop-i.auto.places)) in
+    omega (arith, inside, c.args.self.short)
 
 pub pass_known-at-requires : goal.pass_known-at-requires
-pass_known-at-requires c = putting_more (fair_table c.args.self.counts.now) c.loop-place.invariant (omega (arith, c.loop-place-test.true, c.loop-place.auto.rest))
+pass_known-at-requires c =
+    putting_more (fair_table c.args.self.counts.now) c.loop-i.invariant (omega (arith, c.loop-i-test.true, c.loop-i.auto.places)) (omega (arith, c.if-i-n.true, c.loop-i.auto.places))
 
-pub overflow_cast-place : goal.overflow_cast-place
-overflow_cast-place c =
-    let next = putting_next (fair_table c.args.self.counts.now) c.loop-place.invariant (omega (arith, c.loop-place-test.true, c.loop-place.auto.rest)) c.pass_known-at.ensures in
-    omega (arith, next.0, c.args.self.short)
-
-pub loop-place-preserved : goal.loop-place-preserved
-loop-place-preserved c =
-    (putting_next (fair_table c.args.self.counts.now) c.loop-place.invariant (omega (arith, c.loop-place-test.true, c.loop-place.auto.rest)) c.pass_known-at.ensures).1
+pub loop-i-preserved : goal.loop-i-preserved
+loop-i-preserved c =
+    let fair = fair_table c.args.self.counts.now in
+    elim c.if-i-n.branch [
+      | then-i-n w ↦ rw w.at-is
+          (putting_next fair c.loop-i.invariant (omega (arith, c.loop-i-test.true, c.loop-i.auto.places)) (omega (arith, w.if-i-n.true, c.loop-i.auto.places)) w.pass_known-at.ensures)
+      | else-i-n w ↦ rw w.at-is
+          (putting_last fair c.loop-i.invariant (omega (arith, c.loop-i-test.true, c.loop-i.auto.places)) (omega (arith, w.if-i-n.false, c.loop-i.auto.places)))
+    ]
 
 pub returns : goal.returns
-returns c =
-    putting_done (fair_table c.args.self.counts.now) c.loop-place.invariant (omega (arith, c.loop-place-test.false, c.loop-place.auto.rest, c.loop-place.auto.place-index-end))
+returns c = c.loop-i.invariant.done (omega (arith, c.loop-i-test.false, c.loop-i.auto.places))
