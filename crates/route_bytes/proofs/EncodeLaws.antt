@@ -6,6 +6,7 @@ use native.Mathlib.Decide.{dec_le}
 use borrow.Author.Tests.{lt-leb}
 use lib.Arith.{mod-mul, digits_mod}
 use lib.Pow.{mod-pow-add, shl-shr}
+use Rattle.std.proofs.lemmas.List.{get_or-take}
 use Rattle.wire.specs.Choice.{pick}
 use Rattle.wire.proofs.ChoiceLaws.{and_true}
 use Rattle.wire.specs.Number.{be, to_be}
@@ -190,6 +191,12 @@ module _ (max : ℕ) (form : Form) where
   pub stop_write : (st : Unit {0}) (ws : List ℕ) → leb 6 (length ws) && writable max form (front_row ws) ≡ false → write_step max form st ws ≡ stop NotWritable
   unfolding write_step
   stop_write st ws e = rw e
+
+  -- only the first six words count
+  pub step_row : (st : Unit {0}) (ws : List ℕ) → 6 ≤ length ws → write_step max form st (take 6 ws) ≡ write_step max form st ws
+  unfolding write_step front_row
+  step_row st ws h =
+      simp (length-take-le 6 ws h, le-leb 6 (length ws) h, get_or-take 6 ws 0 0 (omega arith), get_or-take 6 ws 1 0 (omega arith), get_or-take 6 ws 2 0 (omega arith), get_or-take 6 ws 3 0 (omega arith), get_or-take 6 ws 4 0 (omega arith), get_or-take 6 ws 5 0 (omega arith))
 
   pub write_sound : Sound (write_step max form)
   write_sound = record {
