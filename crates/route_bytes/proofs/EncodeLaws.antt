@@ -6,7 +6,6 @@ use native.Mathlib.Decide.{dec_le}
 use borrow.Author.Tests.{lt-leb}
 use lib.Arith.{mod-mul, digits_mod}
 use lib.Pow.{mod-pow-add, shl-shr}
-use Rattle.std.proofs.lemmas.List.{get_or-take}
 use Rattle.wire.specs.Choice.{pick}
 use Rattle.wire.proofs.ChoiceLaws.{and_true}
 use Rattle.wire.specs.Number.{be, to_be}
@@ -21,6 +20,7 @@ use Rattle.families.specs.Family.{id_size, mark_of, octets}
 use Rattle.families.proofs.FamilyLaws.{id_small, mark_small}
 use Rattle.families.specs.declared.Form.{Form}
 use Rattle.routes.specs.declared.Row.{Row}
+use Rattle.route_bytes.proofs.Rows.{six_front}
 use Rattle.route_bytes.specs.Encode.{four_words, address, length_of, row_bytes, all_zero, id_fits, writable, front_row, write_step}
 
 -- ---- octets that are 0
@@ -194,9 +194,8 @@ module _ (max : ℕ) (form : Form) where
 
   -- only the first six words count
   pub step_row : (st : Unit {0}) (ws : List ℕ) → 6 ≤ length ws → write_step max form st (take 6 ws) ≡ write_step max form st ws
-  unfolding write_step front_row
-  step_row st ws h =
-      simp (length-take-le 6 ws h, le-leb 6 (length ws) h, get_or-take 6 ws 0 0 (omega arith), get_or-take 6 ws 1 0 (omega arith), get_or-take 6 ws 2 0 (omega arith), get_or-take 6 ws 3 0 (omega arith), get_or-take 6 ws 4 0 (omega arith), get_or-take 6 ws 5 0 (omega arith))
+  unfolding write_step
+  step_row st ws h = simp (six_front ws, length-take-le 6 ws h, le-leb 6 (length ws) h)
 
   pub write_sound : Sound (write_step max form)
   write_sound = record {
