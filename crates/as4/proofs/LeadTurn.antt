@@ -1,17 +1,18 @@
 -- The loop over the leading segments of AS_PATH: what holds at its head, and what a turn makes of it.
 -- Assumes nothing.
-use Prim.Native.Nat.{ℕ, zero, suc, ◌+◌, ◌-◌, ◌≤◌, ◌<◌}
+use Prim.Native.Nat.{ℕ, ◌+◌, ◌-◌, ◌≤◌, ◌<◌}
 use mathlib.Core.Path.{◌≡◌, refl, sym, ap, ap₂, ◌∙◌}
-use mathlib.Core.List.{List, [], ◌∷◌, ◌++◌, append_assoc, append-nil}
+use mathlib.Core.List.{List, [], ◌∷◌, ◌++◌, append_assoc}
 use mathlib.Core.Bool.{true, false}
 use mathlib.Core.Logic.{◌⊎◌, ⊎_elim, inl, inr}
 use borrow.Author.Tests.{lt-ltb, ltb-true, ltb-false}
 use native.Mathlib.Decide.{dec_le}
-use native.Mathlib.Nat.{lt_of_not-le, not-suc-le-zero}
+use native.Mathlib.Nat.{lt_of_not-le}
 use native.Mathlib.Omega.{arith}
 use lib.ListN.{length, get_or, take, drop, length-append}
-use lib.Seq.{take_at}
+use lib.Seq.{take_at, get_or-drop}
 use lib.Dec.{leb, ltb}
+use Rattle.std.proofs.lemmas.Bool.{or_cases, or_parts}
 use Rattle.wire.specs.Walk.{took, Reading, more, flat}
 use Rattle.wire.specs.Verdict.{fine}
 use Rattle.wire.proofs.ChoiceLaws.{and_true}
@@ -25,13 +26,14 @@ use Rattle.paths.specs.WellFormed.{Known, WellFormed}
 use Rattle.paths.specs.declared.PathRule.TheVariants.{Crate}
 use Rattle.paths.proofs.SegmentLaws.{segment_sound, numbers_add, length_numbers}
 use Rattle.paths.proofs.FormedLaws.{ruled, decides}
-use Rattle.paths.proofs.PathTurn.{kind_is, asns_is, asns_length, good_taken}
+use Rattle.paths.proofs.PathTurn.{kind_is, asns_length, good_taken}
 use Rattle.as4.specs.Merge.{confed_sequence, is_confed, route_len, leading, split}
 use Rattle.as4.specs.Promises.{old_path}
 use Rattle.as4.specs.declared.Leading.{Leading}
 use Rattle.as4.specs.Private.{route_count, goes_on, split_at, Leads}
-use Rattle.as4.proofs.SegmentLaws.{route_is, flat_join}
-use Rattle.as4.proofs.MergeLaws.{either_true, neither, lead_whole, lead_split, lead_ends}
+use Rattle.as4.proofs.FrontLaws.{split_some}
+use Rattle.as4.proofs.SegmentLaws.{route_is, flat_join, flat_one}
+use Rattle.as4.proofs.MergeLaws.{lead_whole, lead_split, lead_ends}
 
 -- at the head: what stands before `lead.end` is taken whole, and `left` is still to be made up
 pub record LedTo (s : List ℕ) (need left : ℕ) (lead : Leading) : Type 0 where
@@ -55,21 +57,15 @@ fewer_numbers n k t le =
     ap (λ (j : ℕ). take n (numbers_of 2 j t)) sum ∙ ap (take n) (numbers_add 2 n (k - n) t) ∙ take_at (numbers_of 2 n t) _ n (length_numbers 2 n t)
 
 split_is : (s : List ℕ) (at n : ℕ) → 0 < n → n ≤ get_or s (at + 1) 0 → split_at s at n ≡ split n (here s at) ∷ []
-unfolding split_at
-split_is s at zero pos le = absurd (not-suc-le-zero pos)
-split_is s at (suc n) pos le =
-    ap₂ (λ (k : ℕ) (l : List ℕ). record { kind = k; asns = l } ∷ []) (sym (kind_is 2 s at))
-    (sym (ap (take (suc n)) (asns_is 2 s at) ∙ fewer_numbers (suc n) (get_or s (at + 1) 0) (drop (at + 2) s) le))
+unfolding segment_at
+split_is s at n pos le =
+    let t : List ℕ = drop at s in
+    split_some s at n pos ∙ ap (λ (l : List ℕ). record { kind = get_or t 0 0; asns = l } ∷ []) (sym (fewer_numbers n (get_or t 1 0) (drop 2 t) (omega (arith, le, get_or-drop at s 1 0))))
 
 -- nothing is left
 ended : (n : ℕ) {r : Reading Segment} → r ≡ record { rows = []; verdict = fine } → leading n r.rows ≡ []
 unfolding leading
 ended n e = ap (λ (x : Reading Segment). leading n x.rows) e
-
--- the numbers of one segment
-last_numbers : (g : Segment) → length (flat asns_of (g ∷ [])) ≡ length (asns_of g)
-unfolding flat
-last_numbers g = ap length (append-nil (asns_of g))
 
 module _ {s : List ℕ} {need : ℕ} where
   pub led_start : (old_path s).verdict ≡ fine → LedTo s need need (record { end = 0; split = 0; segments = 0; numbers = 0 })
@@ -105,7 +101,7 @@ module _ {s : List ℕ} {need : ℕ} where
           | yes le ↦ ended left (turn_end (segment_of known_type 2) (segment_sound known_type 2) s tt lead.end le)
           | no gt ↦
               (let lt : lead.end < length s = lt_of_not-le gt in
-              let stays : (ltb 0 left ≡ false) × (leb confed_sequence (get_or s lead.end 0) ≡ false) = neither _ _ (rw (lt-ltb lead.end (length s) lt) at e) in
+              let stays : (ltb 0 left ≡ false) × (leb confed_sequence (get_or s lead.end 0) ≡ false) = or_parts _ _ (rw (lt-ltb lead.end (length s) lt) at e) in
               let none : left ≡ 0 = omega (arith, ltb-false 0 left stays.0) in
               ap₂ (λ (k : ℕ) (r : Reading Segment). leading k r.rows) none (next lt) ∙ lead_ends (here s lead.end) _ (ap (leb confed_sequence) (kind_is 2 s lead.end) ∙ stays.1))
         ]
@@ -125,7 +121,7 @@ module _ {s : List ℕ} {need : ℕ} where
             ltb-true lead.end (length s) both.0,
             ⊎_elim (λ (pos : ltb 0 left ≡ true). inr (ltb-true 0 left pos))
                 (λ (confed : leb confed_sequence (get_or s lead.end 0) ≡ true). inl (ap (leb confed_sequence) (kind_is 2 s lead.end) ∙ confed))
-                (either_true _ _ both.1),
+                (or_cases _ _ both.1),
           )
 
       pub led_fits : lead.end + (2 + span 2 (get_or s (lead.end + 1) 0)) ≤ length s
@@ -162,7 +158,7 @@ module _ {s : List ℕ} {need : ℕ} where
             numbers =
                 ap (λ (r : Reading Segment). length (flat asns_of r.rows)) more_read ∙ ap length (flat_join asns_of front (g ∷ []))
                 ∙ length-append (flat asns_of front) (flat asns_of (g ∷ []))
-                ∙ ap₂ ◌+◌ h.numbers (last_numbers g ∙ asns_length 2 s at);
+                ∙ ap₂ ◌+◌ h.numbers (ap length (flat_one asns_of g) ∙ asns_length 2 s at);
             few = (omega (arith, h.few.0), omega (arith, h.few.1, span_many 2 (get_or s (at + 1) 0) (omega arith)));
           }
 

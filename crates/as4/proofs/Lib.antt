@@ -3,8 +3,8 @@ pub mod SegmentLaws
 pub mod MergeLaws
 pub mod MergedLaws
 pub mod PromiseLaws
-pub mod PutLaws
 pub mod FrontLaws
+pub mod PutLaws
 pub mod PlanLaws
 pub mod MergeStores
 pub mod WeighTurn

@@ -1,28 +1,19 @@
 -- Laws of the leading segments of a path, of the path that is built, and of what both count.
 -- Assumes nothing.
 use Prim.Native.Nat.{ℕ, ◌-◌, ◌≤◌, ◌<◌}
-use mathlib.Core.Path.{◌≡◌, refl, sym, ap, ◌∙◌}
+use mathlib.Core.Path.{◌≡◌, refl, ap}
 use mathlib.Core.List.{List, [], ◌∷◌}
-use mathlib.Core.Bool.{Bool, true, false, ◌||◌}
-use mathlib.Core.Logic.{◌⊎◌, inl, inr}
+use mathlib.Core.Bool.{Bool, true, false}
+use mathlib.Core.Logic.{◌⊎◌, ⊎_elim}
 use native.Mathlib.Omega.{arith}
-use borrow.Author.Tests.{le-leb, lt-leb, leb-true, ne_eqb}
+use borrow.Author.Tests.{leb-true, ne_eqb}
 use lib.ListN.{length}
 use lib.Dec.{leb, eqb}
+use Rattle.std.proofs.lemmas.Bool.{both_ways}
 use Rattle.wire.specs.Choice.{pick}
-use Rattle.wire.proofs.ChoiceLaws.{pick_eqb}
+use Rattle.wire.proofs.ChoiceLaws.{pick_eqb, pick_leb}
 use Rattle.paths.specs.Segment.{Segment, as_set, asns_of}
 use Rattle.as4.specs.Merge.{is_confed, route_len, leading, split}
-
--- ---- one of two tests, or neither
-
-pub either_true : (a b : Bool) → a || b ≡ true → (a ≡ true) ⊎ (b ≡ true)
-either_true true b e = inl refl
-either_true false b e = inr e
-
-pub neither : (a b : Bool) → a || b ≡ false → (a ≡ false) × (b ≡ false)
-neither true b e = let z : ◌≡◌ {A = ℕ} 0 1 = cc in absurd (omega arith)
-neither false b e = (refl, e)
 
 -- ---- what one segment counts
 
@@ -43,46 +34,43 @@ module _ (g : Segment) where
 
 -- ---- the leading segments
 
--- the choice at a segment of no confederation, with n left to make up and k that it counts
-module _ {X : Type 0} (t : Bool) (n k : ℕ) (a z b c : X) (e : t ≡ false) (pos : 0 < n) where
-  some_left : n ≡ 0 → ⊥
-  some_left f = omega (arith, f, pos)
-
-  choose_whole : k ≤ n → pick t a (pick (eqb n 0) z (pick (leb k n) b c)) ≡ b
-  choose_whole h = rw (e, ne_eqb n 0 some_left, le-leb k n h)
-
-  choose_split : n < k → pick t a (pick (eqb n 0) z (pick (leb k n) b c)) ≡ c
-  choose_split h = rw (e, ne_eqb n 0 some_left, lt-leb k n h)
-
-choose_first : {X : Type 0} (t : Bool) (a b : X) → t ≡ true → pick t a b ≡ a
-choose_first t a b e = rw e
-
--- something is left, where the segment is none of a confederation
-left_over : (t : Bool) (n : ℕ) → t ≡ false → t ≡ true ⊎ 0 < n → 0 < n
-left_over t n e (inl f) = let z : true ≡ false = sym f ∙ e in let w : ◌≡◌ {A = ℕ} 0 1 = cc in absurd (omega (arith, w))
-left_over t n e (inr pos) = pos
-
 module _ (n : ℕ) (g : Segment) (path : List Segment) where
-  -- one that is taken whole
-  pub lead_whole : is_confed g ≡ true ⊎ 0 < n → route_len g ≤ n → leading n (g ∷ path) ≡ g ∷ leading (n - route_len g) path
+  -- by cases on a segment: it is of a confederation; nothing is left to make up; it is taken whole; or it is split
+  pub lead_cases : (P : List Segment → Type 0) → (is_confed g ≡ true → P (g ∷ leading n path)) → (is_confed g ≡ false → n ≡ 0 → P [])
+      → (is_confed g ≡ false → 0 < n → route_len g ≤ n → P (g ∷ leading (n - route_len g) path))
+      → (is_confed g ≡ false → 0 < n → n < route_len g → P (split n g ∷ [])) → P (leading n (g ∷ path))
   unfolding leading
-  lead_whole c h = by (is_confed g) refl
+  lead_cases P c z w s = by (is_confed g) refl
     where
-      by : (t : Bool) → is_confed g ≡ t → leading n (g ∷ path) ≡ g ∷ leading (n - route_len g) path
-      by true e = let same : n ≡ n - route_len g = omega (arith, confed_none g e) in choose_first (is_confed g) _ _ e ∙ ap (λ (k : ℕ). g ∷ leading k path) same
-      by false e = choose_whole (is_confed g) n (route_len g) _ _ _ _ e (left_over (is_confed g) n e c) h
-
-  -- one that is split
-  pub lead_split : is_confed g ≡ true ⊎ 0 < n → n < route_len g → (leading n (g ∷ path) ≡ split n g ∷ []) × (0 < n) × (n < length (asns_of g))
-  unfolding leading
-  lead_split c h = by (is_confed g) refl
-    where
-      by : (t : Bool) → is_confed g ≡ t → (leading n (g ∷ path) ≡ split n g ∷ []) × (0 < n) × (n < length (asns_of g))
-      by true e = absurd (omega (arith, confed_none g e, h))
+      by : (t : Bool) → is_confed g ≡ t
+          → P (pick t (g ∷ leading n path) (pick (eqb n 0) [] (pick (leb (route_len g) n) (g ∷ leading (n - route_len g) path) (split n g ∷ []))))
+      by true e = c e
       by false e =
-          let pos = left_over (is_confed g) n e c in
-          let more : 1 < route_len g = omega (arith, pos, h) in
-          (choose_split (is_confed g) n (route_len g) _ _ _ _ e pos h, pos, omega (arith, h, many_numbers g more))
+          pick_eqb P n 0 _ _ (z e)
+          (λ some. let pos : 0 < n = omega (arith, some) in pick_leb P (route_len g) n _ _ (w e pos) (s e pos))
+
+  -- of a confederation, or something is left to make up: so it is taken
+  module _ (c : is_confed g ≡ true ⊎ 0 < n) where
+    not_ended : is_confed g ≡ false → n ≡ 0 → ⊥
+    not_ended e z = ⊎_elim (both_ways (is_confed g) e) (λ (pos : 0 < n). omega (arith, pos, z)) c
+
+    -- whole
+    pub lead_whole : route_len g ≤ n → leading n (g ∷ path) ≡ g ∷ leading (n - route_len g) path
+    lead_whole h =
+        lead_cases (λ (l : List Segment). l ≡ g ∷ leading (n - route_len g) path)
+        (λ e. let same : n ≡ n - route_len g = omega (arith, confed_none g e) in ap (λ (k : ℕ). g ∷ leading k path) same)
+        (λ e z. absurd (not_ended e z))
+        (λ _ _ _. refl)
+        (λ _ _ lt. absurd (omega (arith, lt, h)))
+
+    -- or split
+    pub lead_split : n < route_len g → (leading n (g ∷ path) ≡ split n g ∷ []) × (0 < n) × (n < length (asns_of g))
+    lead_split h =
+        lead_cases (λ (l : List Segment). (l ≡ split n g ∷ []) × (0 < n) × (n < length (asns_of g)))
+        (λ e. absurd (omega (arith, confed_none g e, h)))
+        (λ e z. absurd (not_ended e z))
+        (λ _ _ le. absurd (omega (arith, le, h)))
+        (λ _ pos _. (refl, pos, omega (arith, h, many_numbers g (omega (arith, pos, h)))))
 
 -- with nothing left to make up, a segment of no confederation ends it
 pub lead_ends : (g : Segment) (path : List Segment) → is_confed g ≡ false → leading 0 (g ∷ path) ≡ []

@@ -13,28 +13,11 @@ use lib.Dec.{leb, eqb}
 use Rattle.wire.specs.Choice.{pick}
 use Rattle.wire.specs.Cutting.{Each, none, one}
 use Rattle.wire.specs.Walk.{tally}
-use Rattle.wire.proofs.ChoiceLaws.{pick_leb, pick_eqb, and_true}
+use Rattle.wire.proofs.ChoiceLaws.{and_true}
 use Rattle.wire.proofs.WalkLaws.{tally_append}
 use Rattle.paths.specs.Segment.{Segment, as_set, asns_of}
 use Rattle.as4.specs.Merge.{is_confed, route_len, route_len_of, kept, split, leading, some, joint, merged, Piece, nothing, cut, Comes}
-use Rattle.as4.proofs.MergeLaws.{confed_none, many_numbers}
-
--- ---- the leading segments, one by one
-
--- by cases on a segment: it is of a confederation; nothing is left to make up; it is taken whole; or it is split
-module _ (n : ℕ) (g : Segment) (path : List Segment) (P : List Segment → Type 0) where
-  pub lead_cases : (is_confed g ≡ true → P (g ∷ leading n path)) → (is_confed g ≡ false → n ≡ 0 → P [])
-      → (is_confed g ≡ false → 0 < n → route_len g ≤ n → P (g ∷ leading (n - route_len g) path))
-      → (is_confed g ≡ false → 0 < n → n < route_len g → P (split n g ∷ [])) → P (leading n (g ∷ path))
-  unfolding leading
-  lead_cases c z w s = by (is_confed g) refl
-    where
-      by : (t : Bool) → is_confed g ≡ t
-          → P (pick t (g ∷ leading n path) (pick (eqb n 0) [] (pick (leb (route_len g) n) (g ∷ leading (n - route_len g) path) (split n g ∷ []))))
-      by true e = c e
-      by false e =
-          pick_eqb P n 0 _ _ (z e)
-          (λ some. let pos : 0 < n = omega (arith, some) in pick_leb P (route_len g) n _ _ (w e pos) (s e pos))
+use Rattle.as4.proofs.MergeLaws.{confed_none, many_numbers, lead_cases}
 
 -- ---- what they count
 

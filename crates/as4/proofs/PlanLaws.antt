@@ -10,6 +10,7 @@ use borrow.Author.Tests.{le-leb, lt-leb, lt-ltb, ltb-true, ltb-false, eqb-true, 
 use lib.ListN.{length, length-append, take}
 use lib.Dec.{leb, ltb, eqb}
 use Rattle.std.specs.Prelude.{Result, Ok, Err}
+use Rattle.std.proofs.lemmas.Bool.{or_cases, or_parts}
 use Rattle.wire.specs.Choice.{pick}
 use Rattle.wire.specs.Refusal.{list_limit}
 use Rattle.wire.specs.Verdict.{Verdict, fine, unless, either}
@@ -21,7 +22,6 @@ use Rattle.wire.proofs.WalkLaws.{all_nil}
 use Rattle.paths.specs.Segment.{Segment, known_type, segment_of, path_of, asns_of}
 use Rattle.paths.specs.Promises.{counts, answer_of, count_answer}
 use Rattle.paths.specs.declared.Path.{Path}
-use Rattle.paths.proofs.SegmentLaws.{length_numbers}
 use Rattle.as4.specs.Standing.{sizes_fault, ignored}
 use Rattle.as4.specs.Merge.{is_confed, route_len, route_len_of, kept, leading, joint, merged, Comes}
 use Rattle.as4.specs.Promises.{old_path, new_path, fault_of, both_of, built_of}
@@ -30,11 +30,11 @@ use Rattle.as4.specs.declared.Weight.{Weight}
 use Rattle.as4.specs.declared.Leading.{Leading}
 use Rattle.as4.specs.declared.Plan.{Plan}
 use Rattle.as4.proofs.SegmentLaws.{flat_join}
-use Rattle.as4.proofs.MergeLaws.{either_true, neither, confed_none}
+use Rattle.as4.proofs.MergeLaws.{confed_none}
 use Rattle.as4.proofs.MergedLaws.{alone_comes, merged_comes}
 use Rattle.as4.proofs.PromiseLaws.{no_fault, weight_says}
 use Rattle.as4.proofs.WeighTurn.{kept_few}
-use Rattle.as4.proofs.FrontLaws.{split_length, split_asns}
+use Rattle.as4.proofs.FrontLaws.{split_length, split_numbers}
 
 -- ---- what a reading answers
 
@@ -60,7 +60,7 @@ module _ {X : Type 0} (m old new : ℕ) (o b : X) where
   choose_alone : (t : Bool) → alone t m old new ≡ true → pick t o (pick (ltb 0 m && leb new old) b o) ≡ o
   choose_alone true e = refl
   choose_alone false e =
-      ⊎_elim (λ (none : eqb m 0 ≡ true). rw (eqb-true m 0 none) refl) (λ (more : ltb old new ≡ true). rw (lt-leb new old (ltb-true old new more)) (none_of (ltb 0 m))) (either_true _ _ e)
+      ⊎_elim (λ (none : eqb m 0 ≡ true). rw (eqb-true m 0 none) refl) (λ (more : ltb old new ≡ true). rw (lt-leb new old (ltb-true old new more)) (none_of (ltb 0 m))) (or_cases _ _ e)
     where
       none_of : (t : Bool) → pick (t && false) b o ≡ o
       none_of true = refl
@@ -69,7 +69,7 @@ module _ {X : Type 0} (m old new : ℕ) (o b : X) where
   choose_built : (t : Bool) → alone t m old new ≡ false → (pick t o (pick (ltb 0 m && leb new old) b o) ≡ b) × (new ≤ old)
   choose_built true e = let z : ◌≡◌ {A = ℕ} 0 1 = cc in absurd (omega (arith, z))
   choose_built false e =
-      let n : (eqb m 0 ≡ false) × (ltb old new ≡ false) = neither _ _ e in
+      let n : (eqb m 0 ≡ false) × (ltb old new ≡ false) = or_parts _ _ e in
       let le : new ≤ old = ltb-false old new n.1 in
       let some : (m ≡ 0 → ⊥) = eqb-false m 0 n.0 in
       (rw (lt-ltb 0 m (omega (arith, some)), le-leb new old le), le)
@@ -171,9 +171,8 @@ module _ (path : List ℕ) (lead : Leading) (f : Front path lead) (more : List S
   front_numbers n e =
       let whole : List Segment = (old_path (take lead.end path)).rows in
       let part : List Segment = split_at path lead.end lead.split in
-      let split_numbers : length (flat asns_of part) ≡ lead.split = ap length (split_asns path lead.end lead.split) ∙ length_numbers 2 lead.split _ in
       ap length (flat_join asns_of (whole ++ part) more) ∙ length-append (flat asns_of (whole ++ part)) (flat asns_of more)
-      ∙ ap₂ ◌+◌ (ap length (flat_join asns_of whole part) ∙ length-append (flat asns_of whole) (flat asns_of part) ∙ ap₂ ◌+◌ f.numbers split_numbers) e
+      ∙ ap₂ ◌+◌ (ap length (flat_join asns_of whole part) ∙ length-append (flat asns_of whole) (flat asns_of part) ∙ ap₂ ◌+◌ f.numbers (split_numbers path lead.end lead.split)) e
 
 -- ---- a path that is built, by what AS4_PATH weighs
 

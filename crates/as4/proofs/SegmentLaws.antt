@@ -2,7 +2,7 @@
 -- Assumes nothing.
 use Prim.Native.Nat.{ℕ, ◌+◌, ◌≤◌}
 use mathlib.Core.Path.{◌≡◌, refl, sym, ap, ap₂, ◌∙◌}
-use mathlib.Core.List.{List, [], ◌∷◌, ◌++◌, append_assoc}
+use mathlib.Core.List.{List, [], ◌∷◌, ◌++◌, append_assoc, append-nil}
 use mathlib.Core.Bool.{Bool, true, false}
 use native.Mathlib.Omega.{arith}
 use lib.ListN.{length}
@@ -19,14 +19,6 @@ use Rattle.as4.specs.Private.{kept_count, kept_of, kept_by, route_count}
 
 module _ (kind : ℕ) where
   module _ (n : ℕ) where
-    pub count_kept : leb confed_sequence kind ≡ false → kept_count kind n ≡ n
-    unfolding kept_count
-    count_kept e = rw e
-
-    pub count_dropped : leb confed_sequence kind ≡ true → kept_count kind n ≡ 0
-    unfolding kept_count
-    count_dropped e = rw e
-
     pub count_most : kept_count kind n ≤ n
     unfolding kept_count
     count_most = pick_any (λ (k : ℕ). k ≤ n) (leb confed_sequence kind) 0 n (omega arith) (omega arith)
@@ -77,6 +69,11 @@ pub flat_join : {A : Type 0} (emit : A → List ℕ) (rows more : List A) → fl
 unfolding flat
 flat_join emit [] more = refl
 flat_join emit (a ∷ rows) more = ap (λ (l : List ℕ). emit a ++ l) (flat_join emit rows more) ∙ sym (append_assoc (emit a) (flat emit rows) (flat emit more))
+
+-- of one
+pub flat_one : (emit : Segment → List ℕ) (g : Segment) → flat emit (g ∷ []) ≡ emit g
+unfolding flat
+flat_one emit g = append-nil (emit g)
 
 -- ---- a path without confederation segments
 

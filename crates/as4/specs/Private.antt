@@ -2,13 +2,14 @@
 use Rattle.std.specs.Prelude.{ℕ, zero, suc, ◌+◌, ◌≤◌, ◌<◌, ◌≡◌, List, [], ◌∷◌, ◌++◌, Bool, ◌&&◌, ◌||◌, length, get_or, take, drop, leb, ltb, eqb, Result, Ok, Err}
 use Rattle.wire.specs.Choice.{pick}
 use Rattle.wire.specs.Refusal.{list_limit}
+use Rattle.wire.specs.Store.{laid}
 use Rattle.wire.specs.Verdict.{fine, unless}
 use Rattle.wire.specs.Walk.{Reading, flat}
 use Rattle.wire.specs.declared.refusal.Refusal.{Refusal}
 use Rattle.asns.specs.Asn.{span}
 use Rattle.paths.specs.declared.Path.{Path}
 use Rattle.paths.specs.Promises.{counts}
-use Rattle.paths.specs.Segment.{Segment, as_set, numbers_of, asns_of}
+use Rattle.paths.specs.Segment.{Segment, as_set, numbers_of, pair_of, asns_of}
 use Rattle.as4.specs.Merge.{confed_sequence, route_len_of, kept, leading}
 use Rattle.as4.specs.Promises.{old_path, new_path, fault_of}
 use Rattle.as4.specs.declared.Weight.{Weight}
@@ -47,10 +48,14 @@ weighed s r = unless (fault_of s r) (weight_of r.rows)
 abbrev pub goes_on : List ℕ → ℕ → ℕ → Bool
 goes_on s at left = ltb at (length s) && (ltb 0 left || leb confed_sequence (get_or s at 0))
 
+-- the first n numbers of the segment at the front, as a segment
+abbrev pub first_of : ℕ → ℕ → List ℕ → Segment
+first_of w n s = record { kind = get_or s 0 0; asns = numbers_of w n (drop 2 s) }
+
 -- a sequence that is split: the first n numbers of the segment at a place, where n is not 0
 unfoldable pub split_at : List ℕ → ℕ → ℕ → List Segment
 split_at s at zero = []
-split_at s at (suc n) = record { kind = get_or s at 0; asns = numbers_of 2 (suc n) (drop (at + 2) s) } ∷ []
+split_at s at (suc n) = first_of 2 (suc n) (drop at s) ∷ []
 
 -- the whole segments up to a place, and the split after them
 abbrev pub front_of : List ℕ → Leading → List Segment
@@ -69,6 +74,18 @@ pub record Front (s : List ℕ) (r : Leading) : Type 0 where
 pub record Leads (s : List ℕ) (need : ℕ) (r : Leading) : Type 0 where
   pub front : Front s r
   pub rows : leading need (old_path s).rows ≡ front_of s r
+
+-- ---- the two stores
+
+-- segments have room in stores that are p and n
+pub record Room (rows : List Segment) (p n : List ℕ) : Type 0 where
+  pub pairs : length (flat pair_of rows) ≤ length p
+  pub numbers : length (flat asns_of rows) ≤ length n
+
+-- they are put at the front, which makes p' and n' of p and n
+pub record Put (rows : List Segment) (p n p' n' : List ℕ) : Type 0 where
+  pub pairs : p' ≡ laid p 0 (flat pair_of rows)
+  pub numbers : n' ≡ laid n 0 (flat asns_of rows)
 
 -- ---- the path to build
 

@@ -2,20 +2,18 @@
 // bytes, and AS4_PATH, with numbers of four, make together.
 #![tactic(auto)]
 
-ghost use Rattle.std.specs.Prelude.{◌≡◌, ◌+◌, ◌≤◌, ◌<◌, [], ◌∷◌, ◌++◌, length, get_or, drop, leb};
+ghost use Rattle.std.specs.Prelude.{◌≡◌, ◌+◌, ◌≤◌, [], ◌∷◌, ◌++◌, length, leb};
 ghost use Rattle.wire.specs.Choice.{pick};
 ghost use Rattle.wire.specs.Extent.{PartOf};
 ghost use Rattle.wire.specs.Refusal.{list_limit};
-ghost use Rattle.wire.specs.Store.{laid};
 ghost use Rattle.wire.specs.Verdict.{fine};
-ghost use Rattle.wire.specs.Walk.{flat};
 ghost use Rattle.asns.specs.Asn.{width_of, span};
-ghost use Rattle.paths.specs.Segment.{numbers_of, known_type, path_of, pair_of, asns_of};
+ghost use Rattle.paths.specs.Segment.{known_type, path_of};
 ghost use Rattle.paths.specs.Promises.{answer_of};
 ghost use Rattle.as4.specs.Standing.{size_fault, sizes_fault, both_there, has_as_trans, standing, ignored, owner_of, handed_back};
-ghost use Rattle.as4.specs.Merge.{confed_sequence, route_len_of, kept};
-ghost use Rattle.as4.specs.Promises.{old_path, new_path, fault_of, both_of, built_of, merge_answer, merged_pairs, merged_numbers};
-ghost use Rattle.as4.specs.Private.{kept_count, kept_of, kept_by, route_count, weighed, goes_on, split_at, front_of, Front, Leads, alone, Planned};
+ghost use Rattle.as4.specs.Merge.{confed_sequence, kept};
+ghost use Rattle.as4.specs.Promises.{old_path, new_path, built_of, merge_answer, merged_pairs, merged_numbers};
+ghost use Rattle.as4.specs.Private.{kept_count, route_count, weighed, goes_on, first_of, split_at, front_of, Front, Leads, Room, Put, alone, Planned};
 
 use asns::AsnLength;
 use paths::{Path, PathRule};
@@ -42,6 +40,7 @@ pub enum Standing {
 }
 
 // Whether a value of n bytes is absent, or has its one size.
+#[tactic(auto, unfolding(crate::specs::Standing::size_fault))]
 fn size_fault(n: usize, size: usize) -> Result<(), Refusal>
     ensures { result ≡ size_fault n size }
 {
@@ -96,6 +95,7 @@ pub fn standing_aggregator<'a>(aggregator: &'a [u8], as4_aggregator: &'a [u8]) -
 }
 
 // Whether AS4_PATH is ignored: AGGREGATOR stands though both are there.
+#[tactic(auto, unfolding(crate::specs::Standing::ignored))]
 fn ignores_as4_path(aggregator: &[u8], as4_aggregator: &[u8]) -> bool
     ensures { result ≡ ignored aggregator.now as4_aggregator.now }
 {
@@ -135,6 +135,7 @@ fn is_confed(kind: u8) -> bool
 }
 
 // n, and 0 for a segment of a confederation.
+#[tactic(auto, unfolding(crate::specs::Private::kept_count))]
 fn kept_count(kind: u8, n: usize) -> usize
     ensures { result ≡ kept_count kind n }
 {
@@ -213,114 +214,69 @@ fn leading_part(as_path: &[u8], need: usize) -> Leading
     lead
 }
 
-// The first n numbers of the segment at a place, and a pair of its type and n, to places of the stores.
-fn put_segment(
-    value: &[u8],
-    at: usize,
-    n: u8,
-    width: AsnLength,
-    pairs: &mut [u32],
-    pair: usize,
-    numbers: &mut [u32],
-    to: usize,
-)
-    requires n_in_bounds { at + (2 + span (width_of width) n) ≤ length value.now }
-    requires pair_in_bounds { pair + 2 ≤ length pairs.old }
-    requires n_in_bounds_2 { to + n ≤ length numbers.old }
-    ensures pairs { pairs.new ≡ laid pairs.old pair (get_or value.now at 0 ∷ n ∷ []) }
-    ensures numbers { numbers.new ≡ laid numbers.old to (numbers_of (width_of width) n (drop (at + 2) value.now)) }
+// The segment of the first n numbers at the front of the bytes: a pair of its type and n, and the numbers.
+fn put_segment(s: &[u8], n: u8, width: AsnLength, pairs: &mut [u32], numbers: &mut [u32])
+    requires there { 2 + span (width_of width) n ≤ length s.now }
+    requires room { Room (first_of (width_of width) n s.now ∷ []) pairs.old numbers.old }
+    ensures { Put (first_of (width_of width) n s.now ∷ []) pairs.old numbers.old pairs.new numbers.new }
 {
-    pairs[pair] = u32::from(value[at]);
-    pairs[pair + 1] = u32::from(n);
-    let from = at + 2;
-    let end = from + asns::numbers_size(n as u16, width);
-    let stop = to + n as usize;
-    paths::read_asns(&value[from..end], n, width, &mut numbers[to..stop]);
+    pairs[0] = u32::from(s[0]);
+    pairs[1] = u32::from(n);
+    paths::read_asns(&s[2..], n, width, numbers);
 }
 
-// The segment of n numbers at a place of an AS4_PATH, to places of the stores, unless it is one of a confederation.
-fn put_kept(
-    as4_path: &[u8],
-    at: usize,
-    n: u8,
-    pairs: &mut [u32],
-    pair: usize,
-    numbers: &mut [u32],
-    to: usize,
-)
-    requires n_in_bounds { at + (2 + span 4 n) ≤ length as4_path.now }
-    requires at_in_bounds { pair + kept_count (get_or as4_path.now at 0) 2 ≤ length pairs.old }
-    requires n_in_bounds_2 { to + kept_count (get_or as4_path.now at 0) n ≤ length numbers.old }
-    ensures pairs { pairs.new ≡ laid pairs.old pair (kept_of (get_or as4_path.now at 0) (get_or as4_path.now at 0 ∷ n ∷ [])) }
-    ensures numbers { numbers.new ≡ laid numbers.old to (kept_of (get_or as4_path.now at 0) (numbers_of 4 n (drop (at + 2) as4_path.now))) }
-{
-    if is_confed(as4_path[at]) {
-        return;
-    }
-    put_segment(as4_path, at, n, AsnLength::Bits32, pairs, pair, numbers, to);
-}
-
-// The segments of a good AS4_PATH, which have room, but for those of confederations.
+// The segments of a good AS4_PATH, but for those of confederations.
 fn fill_kept(as4_path: &[u8], pairs: &mut [u32], numbers: &mut [u32])
-    requires as4_path_value { (new_path as4_path.now).verdict ≡ fine }
-    requires as4_path_in_bounds { length (flat (kept_by pair_of) (new_path as4_path.now).rows) ≤ length pairs.old }
-    requires as4_path_in_bounds_2 { length (flat (kept_by asns_of) (new_path as4_path.now).rows) ≤ length numbers.old }
-    ensures pairs { pairs.new ≡ laid pairs.old 0 (flat (kept_by pair_of) (new_path as4_path.now).rows) }
-    ensures numbers { numbers.new ≡ laid numbers.old 0 (flat (kept_by asns_of) (new_path as4_path.now).rows) }
+    requires good { (new_path as4_path.now).verdict ≡ fine }
+    requires room { Room (kept (new_path as4_path.now).rows) pairs.old numbers.old }
+    ensures { Put (kept (new_path as4_path.now).rows) pairs.old numbers.old pairs.new numbers.new }
 {
     let mut at: usize = 0;
     let mut pair: usize = 0;
     let mut to: usize = 0;
     while at < as4_path.len() {
-        let kind = as4_path[at];
-        let n = as4_path[at + 1];
-        put_kept(as4_path, at, n, pairs, pair, numbers, to);
-        at = at + (2 + asns::numbers_size(n as u16, AsnLength::Bits32));
-        pair = pair + kept_count(kind, 2);
-        to = to + kept_count(kind, n as usize);
+        let s = &as4_path[at..];
+        let n = s[1];
+        at += paths::segment_size(n, AsnLength::Bits32);
+        if is_confed(s[0]) {
+            continue;
+        }
+        put_segment(
+            s,
+            n,
+            AsnLength::Bits32,
+            &mut pairs[pair..],
+            &mut numbers[to..],
+        );
+        pair += 2;
+        to += usize::from(n);
     }
 }
 
-// The numbers of a sequence that is split, where there are some.
-fn put_split(
-    as_path: &[u8],
-    end: usize,
-    split: usize,
-    pairs: &mut [u32],
-    pair: usize,
-    numbers: &mut [u32],
-    to: usize,
-)
-    requires split_in_bounds { 0 < split → end + (2 + span 2 split) ≤ length as_path.now }
-    requires split_bound { split < 256 }
-    requires split_in_bounds_2 { pair + length (flat pair_of (split_at as_path.now end split)) ≤ length pairs.old }
-    requires split_in_bounds_3 { to + length (flat asns_of (split_at as_path.now end split)) ≤ length numbers.old }
-    ensures pairs { pairs.new ≡ laid pairs.old pair (flat pair_of (split_at as_path.now end split)) }
-    ensures numbers { numbers.new ≡ laid numbers.old to (flat asns_of (split_at as_path.now end split)) }
+// The sequence that is split, where there is one.
+fn put_split(as_path: &[u8], front: Leading, pairs: &mut [u32], numbers: &mut [u32])
+    requires front { Front as_path.now front }
+    requires room { Room (split_at as_path.now front.end front.split) pairs.old numbers.old }
+    ensures { Put (split_at as_path.now front.end front.split) pairs.old numbers.old pairs.new numbers.new }
 {
-    if split == 0 {
+    if front.split == 0 {
         return;
     }
     put_segment(
-        as_path,
-        end,
-        split as u8,
+        &as_path[front.end..],
+        front.split as u8,
         AsnLength::Bits16,
         pairs,
-        pair,
         numbers,
-        to,
     );
 }
 
-// The whole segments of a front, which have room.
+// The whole segments of a front.
 fn put_front(front: &[u8], pairs: &mut [u32], numbers: &mut [u32])
-    requires front_len_bound { length front.now ≤ list_limit }
-    requires front_value { (old_path front.now).verdict ≡ fine }
-    requires front_in_bounds { length (flat pair_of (old_path front.now).rows) ≤ length pairs.old }
-    requires front_in_bounds_2 { length (flat asns_of (old_path front.now).rows) ≤ length numbers.old }
-    ensures pairs { pairs.new ≡ laid pairs.old 0 (flat pair_of (old_path front.now).rows) }
-    ensures numbers { numbers.new ≡ laid numbers.old 0 (flat asns_of (old_path front.now).rows) }
+    requires short { length front.now ≤ list_limit }
+    requires good { (old_path front.now).verdict ≡ fine }
+    requires room { Room (old_path front.now).rows pairs.old numbers.old }
+    ensures { Put (old_path front.now).rows pairs.old numbers.old pairs.new numbers.new }
 {
     if front.is_empty() {
         return;
@@ -335,7 +291,7 @@ fn split_count(split: usize) -> usize
     if 0 < split { 1 } else { 0 }
 }
 
-// A front of AS_PATH and what is left of AS4_PATH, which have room. Its whole segments go last, so that nothing is kept over that call.
+// A front of AS_PATH and what is left of AS4_PATH. Its whole segments go last, so that nothing is kept over that call.
 fn fill_built(
     as_path: &[u8],
     as4_path: &[u8],
@@ -343,27 +299,23 @@ fn fill_built(
     pairs: &mut [u32],
     numbers: &mut [u32],
 )
-    requires as_path_len_bound { length as_path.now ≤ list_limit }
+    requires short { length as_path.now ≤ list_limit }
     requires front { Front as_path.now front }
-    requires as4_path_value { (new_path as4_path.now).verdict ≡ fine }
-    requires as4_path_in_bounds { length (flat pair_of (front_of as_path.now front ++ kept (new_path as4_path.now).rows)) ≤ length pairs.old }
-    requires as4_path_in_bounds_2 { length (flat asns_of (front_of as_path.now front ++ kept (new_path as4_path.now).rows)) ≤ length numbers.old }
-    ensures pairs { pairs.new ≡ laid pairs.old 0 (flat pair_of (front_of as_path.now front ++ kept (new_path as4_path.now).rows)) }
-    ensures numbers { numbers.new ≡ laid numbers.old 0 (flat asns_of (front_of as_path.now front ++ kept (new_path as4_path.now).rows)) }
+    requires good { (new_path as4_path.now).verdict ≡ fine }
+    requires room { Room (front_of as_path.now front ++ kept (new_path as4_path.now).rows) pairs.old numbers.old }
+    ensures { Put (front_of as_path.now front ++ kept (new_path as4_path.now).rows) pairs.old numbers.old pairs.new numbers.new }
 {
-    let end = front.end;
-    let split = front.split;
-    let to = front.numbers;
     let pair = 2 * front.segments;
-    put_split(as_path, end, split, pairs, pair, numbers, to);
-    let more_pairs = pair + 2 * split_count(split);
-    let more_numbers = to + split;
+    let to = front.numbers;
+    put_split(as_path, front, &mut pairs[pair..], &mut numbers[to..]);
+    let more_pairs = pair + 2 * split_count(front.split);
+    let more_numbers = to + front.split;
     fill_kept(
         as4_path,
         &mut pairs[more_pairs..],
         &mut numbers[more_numbers..],
     );
-    put_front(&as_path[..end], pairs, numbers);
+    put_front(&as_path[..front.end], pairs, numbers);
 }
 
 // Whether AS_PATH stands alone, by what it and the segments left of AS4_PATH count.

@@ -40,6 +40,7 @@ fn is_extended(flags: u8) -> bool
 }
 
 // An attribute by its head, where so many bytes are left from the start of its value on, if these are enough.
+#[inline(always)]
 fn whole(flags: u8, kind: u8, start: usize, length: usize, left: usize) -> Option<Attribute>
     requires { start + left ≤ list_limit }
     ensures { result ≡ whole_if flags kind start length left }
@@ -58,6 +59,7 @@ fn whole(flags: u8, kind: u8, start: usize, length: usize, left: usize) -> Optio
 
 // The attribute at the front of bytes that stand at a place, if all of it is there. Each kind of head has its own sum for the end: what reads the next
 // attribute waits for it.
+#[inline(always)]
 fn front(s: &[u8], place: usize) -> Option<Attribute>
     requires { place + length s.now ≤ list_limit }
     ensures { result ≡ front_of place (attribute_of tt s.now) }
@@ -88,6 +90,7 @@ fn front(s: &[u8], place: usize) -> Option<Attribute>
 }
 
 // The attribute at a place of a section, and none at its end.
+#[inline(always)]
 pub fn attribute_at(section: &[u8], place: usize) -> Result<Option<Attribute>, Refusal>
     ensures { result ≡ attribute_at section.now place }
 {

@@ -1,6 +1,6 @@
 -- The editions of the strict reading, of calls that are given the same bytes, one by RFC 4271 and one by RFC 8654: what RFC 4271 accepts, RFC 8654 accepts
 -- the same; and it alone accepts exactly the long messages. What both share, whatever the edition, stands in Cut and in Written. And how C names them.
-use Rattle.std.specs.Prelude.{ℕ, ◌≤◌, ◌≡◌, false, length, ltb, Result, Ok, Err}
+use Rattle.std.specs.Prelude.{◌≤◌, ◌≡◌, Result, Ok, Err}
 use Rattle.std.proofs.Common.{sym, subst, ◌∙◌, arith}
 use Rattle.wire.specs.Extent.{PartOf}
 use Rattle.wire.specs.Number.{Bytes}

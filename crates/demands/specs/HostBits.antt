@@ -1,6 +1,6 @@
 -- Host bits (document 02, K6), of the calls themselves: a bit of a route's octets past its prefix length; and how many rows have one.
 -- Assumes nothing.
-use Rattle.std.specs.Prelude.{ℕ, ◌-◌, ◌^◌, ◌/◌, ◌%◌, ◌≤◌, ◌≡◌, refl, List, ◌∷◌, ◌++◌, map, true, false, length, get_or, take, Result, Ok, Err}
+use Rattle.std.specs.Prelude.{ℕ, ◌-◌, ◌^◌, ◌/◌, ◌%◌, ◌≤◌, ◌≡◌, List, ◌∷◌, ◌++◌, map, true, false, length, get_or, take, Result, Ok, Err}
 use Rattle.std.proofs.Common.{sym, ap, ap₂, ◌∙◌, arith}
 use Rattle.wire.specs.Answer.{flag, value_in}
 use Rattle.wire.specs.Number.{Bytes}

@@ -1,7 +1,7 @@
 -- The mark of a guessed path id (document 02, K8), of the calls themselves: which rows have it, what taking it off leaves, and that no row that has it is written.
 -- Assumes nothing.
 use Prim.Native.Nat.{ℕ, ◌+◌, ◌*◌, ◌/◌, ◌%◌, ◌≤◌, ◌<◌}
-use Rattle.std.specs.Prelude.{◌≡◌, refl, List, map, Bool, true, false, get_or, take, Result, Ok, Err}
+use Rattle.std.specs.Prelude.{◌≡◌, refl, List, map, true, false, get_or, take, Result, Ok, Err}
 use Rattle.std.proofs.Math.Path.{sym, ap}
 use Rattle.std.proofs.Common.{ap₂, ◌∙◌, arith, eqb-true}
 use Rattle.std.specs.Borrow.{MutBor}
@@ -47,7 +47,7 @@ use Rattle.route_writer.proofs.RouteTheorems as Routes
 use Rattle.route_writer.proofs.encode_nlri_prefixes.Reads as encode_nlri_prefixes
 use Rattle.mp_nlri.specs.Value.{is_hop_size, hop_start}
 use Rattle.mp_nlri.specs.Write.{write_reach}
-use Rattle.mp_nlri.specs.Read.{reach_list, unreach_list, reach_after, unreach_after}
+use Rattle.mp_nlri.specs.Read.{reach_list, unreach_list, reach_after}
 use Rattle.mp_nlri.specs.declared.Reach.{Reach}
 use Rattle.mp_nlri.proofs.parse_mp_reach_nlri.Reads as parse_mp_reach_nlri
 use Rattle.mp_nlri.proofs.parse_mp_unreach_nlri.Reads as parse_mp_unreach_nlri

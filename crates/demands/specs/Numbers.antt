@@ -1,7 +1,7 @@
 -- Every number and every order of two checks that documents 01 and 02 fix, and the lister's case, as one table over the definitions with one claim: definition and code
 -- cannot be changed to the same wrong number. A line holds what the definitions say of an input to what the documents say.
 -- Assumes nothing.
-use Rattle.std.specs.Prelude.{ℕ, ◌+◌, ◌-◌, ◌*◌, ◌≡◌, refl, List, [], ◌∷◌, ◌++◌, map, Bool, true, false, ◌&&◌, length, get_or, replicate, eqb, Option, Some, None, Result, Ok, Err}
+use Rattle.std.specs.Prelude.{ℕ, ◌+◌, ◌-◌, ◌*◌, ◌≡◌, refl, List, [], ◌∷◌, ◌++◌, map, Bool, true, false, ◌&&◌, length, get_or, replicate, eqb, Some, None, Result, Ok, Err}
 use Rattle.wire.specs.Answer.{Answer, given, refusal, number_in, value_in, count_meaning, limited}
 use Rattle.wire.specs.Number.{be, be_at, to_be}
 use Rattle.wire.specs.Refusal as refusals

@@ -8,7 +8,7 @@ use Rattle.std.proofs.Common.{sym, subst, ◌∙◌, arith, drop_of_length-le}
 use mathlib.Core.List.{List, [], ◌∷◌}
 use Rattle.std.proofs.Math.Decide.{dec_le}
 use Rattle.std.proofs.Math.ListN.{length}
-use Rattle.wire.specs.Answer.{Answer, given, refusal, value_in, filled, meaning_of, count_meaning}
+use Rattle.wire.specs.Answer.{Answer, given, refusal, value_in, filled, count_meaning}
 use Rattle.wire.specs.Number.{to_be}
 use Rattle.wire.specs.Refusal.{number_of}
 use Rattle.wire.specs.Store.{laid, placed}

@@ -1,7 +1,7 @@
 -- What reading and writing routes are, of the calls themselves: whatever they are given, answer and leave. For each family, and for each form: Plain is
 -- read with Add-Path and the guess off, Tagged with Add-Path on (`fixed` is the setting of a form).
 -- Assumes nothing.
-use Rattle.std.specs.Prelude.{ℕ, ◌*◌, ◌/◌, ◌≤◌, ◌≡◌, List, map, length, take, Result, Ok, Err}
+use Rattle.std.specs.Prelude.{ℕ, ◌*◌, ◌/◌, ◌≤◌, ◌≡◌, List, map, length, take, Result, Ok}
 use Rattle.std.proofs.Common.{sym, ap, ap₂, ◌∙◌}
 use Rattle.std.specs.Borrow.{Bor, MutBor}
 use Rattle.wire.specs.Cutting.{Cutting}

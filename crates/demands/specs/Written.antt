@@ -36,7 +36,6 @@ use Rattle.route_writer.specs.Promises.{write_answer}
 use Rattle.route_writer.proofs.encode_nlri_prefixes.Reads as encode_nlri_prefixes
 use Rattle.updates.specs.Body.{parts_of, withdrawn_of, attributes_of, announced_of}
 use Rattle.updates.specs.Update.{count_update, read_update, withdrawn_after, announced_after}
-use Rattle.updates.specs.declared.Parts.{Parts}
 use Rattle.updates.specs.declared.Update.{Update}
 use Rattle.updates.proofs.BodyLaws.{holds_withdrawn, holds_attributes, holds_announced}
 use Rattle.updates.proofs.update_parts.Reads as update_parts
@@ -52,7 +51,6 @@ use Rattle.update_writer.proofs.encode_bgp_update_message.Reads as encode_bgp_up
 use Rattle.asns.specs.Asn.{width_of}
 use Rattle.asns.specs.Aggregator.{unlike, aggregator_of, aggregator_bytes, aggregator_written, aggregator_left}
 use Rattle.asns.specs.declared.AsnLength.{AsnLength}
-use Rattle.asns.specs.declared.Aggregator.{Aggregator}
 use Rattle.asns.proofs.AggregatorLaws.{bytes_length}
 use Rattle.asns.proofs.RoundTrip as Aggregators
 use Rattle.asns.proofs.encode_aggregator.Reads as encode_aggregator

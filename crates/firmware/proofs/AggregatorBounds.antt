@@ -1,28 +1,21 @@
--- The flag of an AGGREGATOR as code has it; and the fields of a written one are of 16 bits.
+-- The fields of a written AGGREGATOR are of 16 bits.
 -- Assumes nothing.
 use Prim.Native.Nat.{ℕ, ◌≤◌}
-use mathlib.Core.Path.{◌≡◌, sym}
 use native.Mathlib.Omega.{arith}
-use mir.Val.{bool_byte}
 use lib.ListN.{length}
 use lib.Dec.{leb}
 use Rattle.std.specs.Prelude.{Result, Ok, Err}
-use Rattle.wire.specs.Answer.{value_in, count_meaning}
+use Rattle.wire.specs.Answer.{count_meaning}
 use Rattle.wire.specs.declared.refusal.Refusal.{Refusal}
 use Rattle.wire.specs.declared.refusal.Refusal.TheVariants.{NoRoom, WideNumber}
 use Rattle.wire.proofs.ChoiceLaws.{pick_any}
 use Rattle.asns.specs.Asn.{width_of, fits_width}
-use Rattle.asns.specs.Aggregator.{aggregator_meaning, aggregator_bytes, aggregator_written}
+use Rattle.asns.specs.Aggregator.{aggregator_bytes, aggregator_written}
 use Rattle.asns.specs.declared.AsnLength.{AsnLength}
 use Rattle.asns.specs.declared.AsnLength.TheVariants.{Bits16, Bits32}
-use Rattle.asns.specs.declared.Aggregator.{Aggregator}
 use Rattle.asns.proofs.AggregatorLaws.{bytes_length}
 use Rattle.words.specs.Word.{in_fields, Narrow}
-use Rattle.words.proofs.FlagLaws.{flag_byte}
 use Rattle.words.proofs.WordLaws.{refused_narrow, number_narrow}
-
-pub differs_byte : (a : Aggregator) → value_in 2 (aggregator_meaning (Ok a)) ≡ bool_byte a.differs
-differs_byte a = sym (flag_byte a.differs)
 
 pub write_aggregator_narrow : (asn identifier : ℕ) (width : AsnLength) (places : ℕ) → Narrow (in_fields (count_meaning (aggregator_written asn identifier width places)))
 unfolding aggregator_written

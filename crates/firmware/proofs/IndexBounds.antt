@@ -1,17 +1,14 @@
--- The fields of every answer of the module index are of 16 bits; how many places an index has at most; and what asking for a route told.
+-- The fields of every answer of the module index are of 16 bits; and how many places an index has at most.
 -- Assumes nothing.
-use Prim.Native.Nat.{ℕ, zero, suc, ◌+◌, ◌*◌, ◌/◌, ◌%◌, ◌≤◌, ◌<◌}
-use mathlib.Core.Path.{◌≡◌, refl}
+use Prim.Native.Nat.{ℕ, zero, suc, ◌+◌, ◌*◌, ◌/◌, ◌%◌, ◌≤◌}
+use mathlib.Core.Path.{◌≡◌}
 use mathlib.Core.List.{List, [], ◌∷◌}
 use native.Mathlib.Omega.{arith}
-use borrow.Author.Tests.{le-leb, lt-leb}
-use mir.Val.{bool_byte}
 use lib.ListN.{length, get_or, drop, length-drop}
 use lib.Dec.{leb, ltb}
 use Rattle.std.specs.Prelude.{Result, Ok, Err}
 use Rattle.wire.specs.Answer.{value_in, count_meaning}
-use Rattle.wire.specs.Refusal.{number_of, no_room, list_limit}
-use Rattle.wire.specs.Store.{laid}
+use Rattle.wire.specs.Refusal.{list_limit}
 use Rattle.wire.specs.Walk.{notes}
 use Rattle.wire.specs.declared.refusal.Refusal.{Refusal}
 use Rattle.wire.specs.declared.refusal.Refusal.TheVariants.{TooLong, NoRoom, NotAnIndex, NoSuchRoute}
@@ -19,20 +16,18 @@ use Rattle.wire.proofs.ChoiceLaws.{pick_any, pick_leb}
 use Rattle.wire.proofs.WalkLaws.{noted_alike}
 use Rattle.families.specs.declared.Form.{Form}
 use Rattle.families.specs.declared.Form.TheVariants.{Plain}
-use Rattle.routes.specs.Prefix.{words, with_host, route_meaning}
+use Rattle.routes.specs.Prefix.{with_host, route_meaning}
 use Rattle.routes.specs.List.{up_to, fixed, step_of, list_by, list_of}
 use Rattle.routes.specs.Promises.{count_answer}
 use Rattle.routes.proofs.ListLaws.{fair, sound}
 use Rattle.routes.proofs.PrefixLaws.{prefix_cases}
-use Rattle.routes.specs.declared.Row.{Row}
 use Rattle.routes.specs.declared.Route.{Route}
 use Rattle.route_index.specs.Index.{items_by, index_by, is_index, past_item, unless_none, route_from, route_by}
 use Rattle.route_index.specs.Promises.{places_for, count_index, room_for, build_index}
 use Rattle.route_index.proofs.OwnLaws.{own_length}
-use Rattle.words.specs.Word.{fields, in_fields, word_of, Narrow}
-use Rattle.words.proofs.FlagLaws.{flag_byte}
+use Rattle.words.specs.Word.{in_fields, Narrow}
 use Rattle.words.proofs.WordLaws.{refused_narrow, number_narrow}
-use Rattle.firmware.specs.Fields.{row_words, route_stored, route_after, index_places}
+use Rattle.firmware.specs.Fields.{index_places}
 use Rattle.firmware.proofs.Bounds.{answer_any}
 use Rattle.firmware.proofs.ListBounds.{list_few}
 
@@ -109,18 +104,3 @@ route_few max form s index n =
 
 pub used_few : (max : ℕ) (form : Form) (s index : List ℕ) (n : ℕ) (route : Route) → Ok route ≡ route_by (up_to max) form s index n → route.prefix.used ≤ list_limit
 used_few max form s index n route e = rw (← e) at (route_few max form s index n)
-
--- what asking told, from what was found: a row that has no room, one that was put, and a refusal
-module _ (a : Result Route Refusal) (store : List ℕ) (r : ℕ) where
-  pub route_full : (route : Route) → Ok route ≡ a → length store < row_words → r ≡ word_of (fields 0 0 0 no_room)
-      → (r ≡ word_of (in_fields (route_stored a (length store)))) × (store ≡ route_after a store)
-  route_full route e few w = rw (← e, lt-leb row_words (length store) few) (w, refl)
-
-  pub route_put : (route : Route) (store' : List ℕ) → Ok route ≡ a → row_words ≤ length store → store' ≡ laid store 0 (words route.prefix.row)
-      → r ≡ word_of (fields route.prefix.used (bool_byte route.host) 0 0)
-      → (r ≡ word_of (in_fields (route_stored a (length store)))) × (store' ≡ route_after a store)
-  route_put route store' e room put w = rw (← e, le-leb row_words (length store) room, ← flag_byte route.host) (w, put)
-
-  pub route_refused : (why : Refusal) → Err why ≡ a → r ≡ word_of (fields 0 0 0 (number_of why))
-      → (r ≡ word_of (in_fields (route_stored a (length store)))) × (store ≡ route_after a store)
-  route_refused why e w = rw (← e) (w, refl)

@@ -9,11 +9,10 @@ use native.Mathlib.Nat.{mul-zero, mul-add, mul_comm, min-le_right}
 use native.Mathlib.Omega.{arith}
 use lib.ListN.{length, length-take, get_or, drop}
 use lib.Dec.{leb, eqb}
-use Rattle.std.specs.Prelude.{Result, Ok, Err}
+use Rattle.std.specs.Prelude.{Ok, Err}
 use Rattle.wire.specs.Refusal.{list_limit}
 use Rattle.wire.specs.Walk.{read_all, tally, flat}
 use Rattle.wire.specs.Verdict.{Verdict, fine, unless}
-use Rattle.wire.specs.declared.refusal.Refusal.{Refusal}
 use Rattle.wire.proofs.AnswerLaws.{refused_not_fine, either_none}
 use Rattle.wire.proofs.ChoiceLaws.{pick_any, pick_eqb}
 use Rattle.wire.proofs.Turn.{Light, tally_few}
@@ -24,7 +23,6 @@ use Rattle.paths.specs.Promises.{path_meaning, answer_of}
 use Rattle.paths.proofs.SegmentLaws.{length_numbers, segment_sound, segment_taken}
 use Rattle.as4.specs.Standing.{size_fault, sizes_fault, aggregator_size, as4_aggregator_size, standing, ignored}
 use Rattle.as4.specs.declared.Standing.{Standing}
-use Rattle.as4.specs.declared.Standing.TheVariants.{Aggregator, As4Aggregator}
 use Rattle.as4.specs.Merge.{is_confed, route_len, route_len_of, kept, split, leading, some, joint, merged}
 use Rattle.as4.specs.Promises.{old_path, new_path, fault_of, both_of, built_of, merge_answer}
 use Rattle.as4.proofs.PromiseLaws.{no_fault}
@@ -50,13 +48,9 @@ module _ (first second : List ℕ) where
       (sized (length first) aggregator_size h.0, sized (length second) as4_aggregator_size h.1)
   both_sized (Err r) good one e f = let z : ◌≡◌ {A = ℕ} 0 1 = cc in absurd (omega arith)
 
-  pub first_sized : Ok Aggregator ≡ standing first second → length first ≤ aggregator_size
+  pub standing_sized : (one : Standing) → Ok one ≡ standing first second → (length first ≤ aggregator_size) × (length second ≤ as4_aggregator_size)
   unfolding standing
-  first_sized e = (both_sized (sizes_fault first second) _ Aggregator refl e).0
-
-  pub second_sized : Ok As4Aggregator ≡ standing first second → length second ≤ as4_aggregator_size
-  unfolding standing
-  second_sized e = (both_sized (sizes_fault first second) _ As4Aggregator refl e).1
+  standing_sized one e = both_sized (sizes_fault first second) _ one refl e
 
 -- ---- the path that is made, by a weight to which a split does not add
 

@@ -6,9 +6,8 @@ use native.Mathlib.Nat.{min-le_left}
 use native.Mathlib.Omega.{arith}
 use lib.ListN.{length}
 use lib.Dec.{eqb}
-use Rattle.std.specs.Prelude.{Result, Ok, Err}
+use Rattle.std.specs.Prelude.{Ok}
 use Rattle.wire.specs.Answer.{count_meaning}
-use Rattle.wire.specs.declared.refusal.Refusal.{Refusal}
 use Rattle.wire.proofs.ChoiceLaws.{pick_any}
 use Rattle.messages.specs.Header.{message_of, strict_of, accepted, accepted_whole, limit_of, message_limit, kind_number, kind_of, claimed_of, crate_limit, open_kind, keepalive_kind, route_refresh_kind, extended_limit}
 use Rattle.messages.proofs.HeaderLaws.{message_cases, strict_cases}

@@ -2,10 +2,9 @@
 -- Assumes nothing.
 use Prim.Native.Nat.{ℕ, ◌≤◌}
 use mathlib.Core.List.{List}
-use mathlib.Core.Bool.{Bool, true, false}
 use native.Mathlib.Omega.{arith}
 use Rattle.std.specs.Prelude.{Result, Ok, Err}
-use Rattle.wire.specs.Answer.{count_meaning, flag}
+use Rattle.wire.specs.Answer.{count_meaning}
 use Rattle.wire.specs.declared.refusal.Refusal.{Refusal}
 use Rattle.wire.specs.declared.refusal.Refusal.TheVariants.{NextHopLength}
 use Rattle.wire.proofs.ChoiceLaws.{pick_any}
@@ -19,7 +18,7 @@ use Rattle.mp_nlri.specs.Value.{is_hop_size, pair_fault, head_of}
 use Rattle.mp_nlri.specs.Read.{ipv6, reach_list, unreach_list, if_head, count_reach, read_reach, count_unreach, read_unreach}
 use Rattle.mp_nlri.specs.Write.{write_reach, write_unreach}
 use Rattle.mp_nlri.specs.declared.Head.{Head}
-use Rattle.mp_nlri.proofs.ValueLaws.{head_cases, hop_few}
+use Rattle.mp_nlri.proofs.ValueLaws.{head_with, head_cases, hop_few}
 use Rattle.words.specs.Word.{in_fields, Narrow}
 use Rattle.words.proofs.FlagLaws.{flag_small}
 use Rattle.words.proofs.WordLaws.{refused_narrow}
@@ -37,7 +36,7 @@ reach_narrow : (v : List ℕ) (a : Result Routes Refusal) → Narrow (in_fields 
 reach_narrow v a h =
     head_cases v (λ (x : Result Head Refusal). Narrow (reach_fields (if_head x a)))
     (λ r. record { a = omega arith; b = omega arith; c = omega arith })
-    (λ hop reserved k. with_head_lem _ a (hop_few hop k.sized) h)
+    (λ hop reserved k. with_head_lem (head_with hop reserved) a (hop_few hop k.sized) h)
 
 module _ (v : List ℕ) (mode : AddPath) where
   pub count_reach_narrow : Narrow (reach_fields (count_reach v mode))

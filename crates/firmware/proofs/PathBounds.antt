@@ -1,10 +1,8 @@
--- The fields of every answer of the module path are of 16 bits; what reading one told; and a width and a rule in one number.
+-- The fields of every answer of the module path are of 16 bits.
 -- Assumes nothing.
-use Prim.Native.Nat.{ℕ, ◌+◌, ◌/◌, ◌%◌, ◌≤◌, ◌<◌}
-use mathlib.Core.Path.{◌≡◌, refl, ap}
+use Prim.Native.Nat.{ℕ, ◌/◌, ◌≤◌, ◌<◌}
 use mathlib.Core.List.{List}
 use native.Mathlib.Omega.{arith}
-use borrow.Author.Tests.{le-leb, lt-leb}
 use lib.ListN.{length}
 use lib.Dec.{leb}
 use Rattle.std.specs.Prelude.{Result, Ok, Err}
@@ -19,19 +17,15 @@ use Rattle.wire.proofs.Turn.{Light, tally_few}
 use Rattle.asns.specs.Asn.{width_of}
 use Rattle.asns.specs.declared.AsnLength.{AsnLength}
 use Rattle.asns.specs.declared.AsnLength.TheVariants.{Bits16, Bits32}
-use Rattle.paths.specs.Segment.{Rule, rule_of, segment_of, path_of, asns_of}
+use Rattle.paths.specs.Segment.{Rule, segment_of, path_of, asns_of}
 use Rattle.paths.proofs.SegmentLaws.{segment_sound, light_segments, light_numbers}
 use Rattle.paths.specs.Promises as paths
 use Rattle.paths.specs.Promises.{path_meaning}
-use Rattle.paths.specs.declared.PathRule.{PathRule}
-use Rattle.paths.specs.declared.PathRule.TheVariants.{Crate, Strict}
 use Rattle.paths.specs.declared.Path.{Path}
-use Rattle.path_writer.specs.Promises.{encode_answer, encode_left}
+use Rattle.path_writer.specs.Promises.{encode_answer}
 use Rattle.path_writer.specs.Write.{adds_up, lent_path}
-use Rattle.words.specs.Settings.{asn_length_of}
-use Rattle.words.specs.Word.{in_fields, word_of, Narrow}
+use Rattle.words.specs.Word.{in_fields, Narrow}
 use Rattle.words.proofs.WordLaws.{refused_narrow}
-use Rattle.firmware.specs.Private.{rule_in}
 use Rattle.firmware.proofs.Bounds.{answer_any, limited_narrow}
 
 width_pos : (width : AsnLength) → 0 < width_of width
@@ -74,16 +68,6 @@ module _ (s : List ℕ) (width : AsnLength) (rule : Rule) where
   unfolding paths.read_answer
   read_path_narrow p q = stores_narrow (paths.count_answer s (path_of rule (width_of width) s)) p q count_path_narrow
 
--- what reading into two stores told, by the width and the rule that a call was given
-pub read_told : (s : List ℕ) (width width' : AsnLength) (rule rule' : PathRule) (pairs numbers pairs' numbers' : List ℕ) (a : Result Path Refusal) (r : ℕ)
-    → width ≡ width' → rule ≡ rule' → r ≡ word_of (in_fields (path_meaning a)) → a ≡ paths.read_answer s (path_of (rule_of rule) (width_of width) s) (length pairs) (length numbers)
-    → pairs' ≡ paths.pairs_after s (path_of (rule_of rule) (width_of width) s) pairs (length numbers)
-    → numbers' ≡ paths.numbers_after s (path_of (rule_of rule) (width_of width) s) (length pairs) numbers
-    → let path = path_of (rule_of rule') (width_of width') s in
-    (r ≡ word_of (in_fields (path_meaning (paths.read_answer s path (length pairs) (length numbers)))))
-    × ((pairs' ≡ paths.pairs_after s path pairs (length numbers)) × (numbers' ≡ paths.numbers_after s path (length pairs) numbers))
-read_told s width width' rule rule' pairs numbers pairs' numbers' a r m n e f g h = rw (← m, ← n, ← f) (e, (g, h))
-
 -- ---- what is written
 
 pub write_path_narrow : (pairs numbers : List ℕ) (width : AsnLength) (rule : Rule) (places : ℕ)
@@ -94,22 +78,3 @@ write_path_narrow pairs numbers width rule places =
     pick_any Fine (adds_up pairs (length numbers)) _ (Err NotWritable)
     (answer_any Fine (lent_path rule (width_of width) pairs numbers).verdict _ Err (limited_narrow list_limit _ places (omega arith)) (λ r. refused_narrow _))
     (refused_narrow _)
-
--- what writing one told, likewise
-pub write_told : (pairs numbers : List ℕ) (width width' : AsnLength) (rule rule' : PathRule) (out out' : List ℕ) (a : Result ℕ Refusal) (r : ℕ)
-    → width ≡ width' → rule ≡ rule' → r ≡ word_of (in_fields (count_meaning a)) → a ≡ encode_answer (rule_of rule) (width_of width) pairs numbers (length out)
-    → out' ≡ encode_left (rule_of rule) (width_of width) pairs numbers out
-    → (r ≡ word_of (in_fields (count_meaning (encode_answer (rule_of rule') (width_of width') pairs numbers (length out)))))
-    × (out' ≡ encode_left (rule_of rule') (width_of width') pairs numbers out)
-write_told pairs numbers width width' rule rule' out out' a r m n e f g = rw (← m, ← n, ← f) (e, g)
-
--- ---- a flag of a width and a rule in one number
-
-module _ (flag : ℕ) (byte : flag < 256) where
-  pub how_crate : (rule_in flag ≡ Crate) × (asn_length_of (flag % 256) ≡ asn_length_of flag)
-  unfolding rule_in
-  how_crate = (rw (lt-leb 256 flag byte) refl, ap asn_length_of (omega arith))
-
-  pub how_strict : (rule_in (256 + flag) ≡ Strict) × (asn_length_of ((256 + flag) % 256) ≡ asn_length_of flag)
-  unfolding rule_in
-  how_strict = (rw (le-leb 256 (256 + flag) (omega arith)) refl, ap asn_length_of (omega arith))

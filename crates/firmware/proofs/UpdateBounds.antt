@@ -1,14 +1,13 @@
--- The fields of every answer of the module update are of 16 bits; how many rows a body has at most; and what reading and writing one told.
+-- The fields of every answer of the module update are of 16 bits; and how many rows a body has at most.
 -- Assumes nothing.
 use Prim.Native.Nat.{ℕ, ◌+◌, ◌≤◌}
-use mathlib.Core.Path.{◌≡◌, refl, sym, ap, ap₂, ◌∙◌}
+use mathlib.Core.Path.{◌≡◌, refl, sym}
 use mathlib.Core.List.{List}
 use native.Mathlib.Omega.{arith}
 use lib.ListN.{length}
 use lib.Dec.{leb}
 use Rattle.std.specs.Prelude.{Result, Ok, Err}
-use Rattle.wire.specs.Answer.{value_in, filled, count_meaning}
-use Rattle.wire.specs.Extent.{Extent}
+use Rattle.wire.specs.Answer.{value_in, count_meaning}
 use Rattle.wire.specs.Refusal.{list_limit}
 use Rattle.wire.specs.Walk.{Reading}
 use Rattle.wire.specs.declared.refusal.Refusal.{Refusal}
@@ -26,28 +25,24 @@ use Rattle.routes.proofs.ListLaws.{beside_rows}
 use Rattle.routes.specs.declared.Row.{Row}
 use Rattle.routes.specs.declared.Routes.{Routes}
 use Rattle.updates.specs.Body.{parts_of, withdrawn_of, announced_of}
-use Rattle.updates.specs.Update.{if_parts, update_of, as_update, counted, count_update, read_update, withdrawn_after, announced_after}
+use Rattle.updates.specs.Update.{if_parts, update_of, as_update, counted, count_update, read_update}
 use Rattle.updates.specs.declared.Parts.{Parts}
 use Rattle.updates.specs.declared.Update.{Update}
 use Rattle.updates.proofs.BodyLaws.{parts_add_up}
 use Rattle.updates.proofs.Sections.{withdrawn_length, announced_length}
-use Rattle.update_writer.specs.Body.{body_bytes, body_answer}
+use Rattle.update_writer.specs.Body.{body_answer}
 use Rattle.update_writer.proofs.RoundTrip.{body_cases}
-use Rattle.words.specs.Word.{in_fields, word_of, Narrow}
+use Rattle.words.specs.Word.{in_fields, Narrow}
 use Rattle.words.proofs.WordLaws.{refused_narrow, number_narrow}
-use Rattle.firmware.specs.Fields.{part_fields, update_fields, body_rows}
+use Rattle.firmware.specs.Fields.{update_fields, body_rows}
 use Rattle.firmware.proofs.Bounds.{answer_any, verdict_low}
 use Rattle.firmware.proofs.ListBounds.{section_few, Small, count_small}
 
 -- ---- where the sections stand
 
--- a section that ends in the body, as an answer told the lengths
-pub part_narrow : (section : Result Parts Refusal → Extent) (b : List ℕ) (p : Parts)
-    → (section (Ok p)).start + (section (Ok p)).size ≤ p.withdrawn + p.attributes + p.announced + 4 → Ok p ≡ parts_of b
-    → Narrow (part_fields section (Ok p))
-part_narrow section b p inside e =
-    let h = parts_add_up b p (sym e) in
-    record { a = omega (arith, inside, h.0, h.1); b = omega (arith, inside, h.0, h.1); c = omega arith }
+-- all three sections are shorter than a body
+pub parts_few : (b : List ℕ) (p : Parts) → Ok p ≡ parts_of b → p.withdrawn + p.attributes + p.announced ≤ body_rows
+parts_few b p e = let h = parts_add_up b p (sym e) in omega (arith, h.0, h.1)
 
 -- ---- their routes
 
@@ -81,17 +76,18 @@ module _ (b : List ℕ) (mode : AddPath) where
   unfolding read_update read_pair
   read_update_narrow places places' = if_narrow (parts_of b) _ (pair_narrow _ _ places places' both_small.0 both_small.1)
 
--- of what is counted
-pub counted_small : (b : List ℕ) (mode : AddPath) (u : Update) → count_update b mode ≡ Ok u → Small u.withdrawn × Small u.announced
+-- so few rows of what is counted have a host bit
+pub hosts_few : (b : List ℕ) (mode : AddPath) (u : Update) → Ok u ≡ count_update b mode → (hosts_in u.withdrawn ≤ list_limit) × (hosts_in u.announced ≤ list_limit)
 unfolding count_update
-counted_small b mode u = by (parts_of b)
+hosts_few b mode u = by (parts_of b)
   where
-    by : (p : Result Parts Refusal) → if_parts p (update_of (counted (withdrawn_of b) mode) (counted (announced_of b) mode)) ≡ Ok u → Small u.withdrawn × Small u.announced
+    by : (p : Result Parts Refusal) → Ok u ≡ if_parts p (update_of (counted (withdrawn_of b) mode) (counted (announced_of b) mode))
+        → (hosts_in u.withdrawn ≤ list_limit) × (hosts_in u.announced ≤ list_limit)
     by (Ok p) e =
-        let one : counted (withdrawn_of b) mode ≡ u.withdrawn = cc in
-        let two : counted (announced_of b) mode ≡ u.announced = cc in
+        let one : u.withdrawn ≡ counted (withdrawn_of b) mode = cc in
+        let two : u.announced ≡ counted (announced_of b) mode = cc in
         let both = both_small b mode in
-        (rw one at both.0, rw two at both.1)
+        (rw one both.0.hosts, rw two both.1.hosts)
     by (Err r) e = let z : ◌≡◌ {A = ℕ} 0 1 = cc in absurd (omega arith)
 
 -- ---- how many rows a body has
@@ -126,14 +122,6 @@ update_few b mode u = by (parts_of b) refl
         )
     by (Err r) found e = let z : ◌≡◌ {A = ℕ} 0 1 = cc in absurd (omega arith)
 
--- what reading into two stores told, by the setting of a settings byte
-pub read_told : (b : List ℕ) (mode mode' : AddPath) (withdrawn announced withdrawn' announced' : List ℕ) (u : Result Update Refusal) (r : ℕ)
-    → mode ≡ mode' → r ≡ word_of (update_fields u) → u ≡ read_update b mode (length withdrawn) (length announced)
-    → withdrawn' ≡ withdrawn_after u b mode withdrawn → announced' ≡ announced_after u b mode announced
-    → let told = read_update b mode' (length withdrawn) (length announced) in
-    (r ≡ word_of (update_fields told)) × ((withdrawn' ≡ withdrawn_after told b mode' withdrawn) × (announced' ≡ announced_after told b mode' announced))
-read_told b mode mode' withdrawn announced withdrawn' announced' u r m e f g h = rw (← m, ← f) (e, (g, h))
-
 -- ---- what is written
 
 pub write_update_narrow : (withdrawn attributes announced : List ℕ) (form : Form) (places : ℕ)
@@ -141,10 +129,3 @@ pub write_update_narrow : (withdrawn attributes announced : List ℕ) (form : Fo
 write_update_narrow withdrawn attributes announced form places =
     body_cases withdrawn attributes announced form places (λ a. Narrow (in_fields (count_meaning a))) (λ r. refused_narrow _)
     (λ n fit. number_narrow n (omega (arith, fit.size, fit.sizes.whole)))
-
-pub write_told : (withdrawn attributes announced : List ℕ) (form form' : Form) (out out' : List ℕ) (a : Result ℕ Refusal) (r : ℕ)
-    → form ≡ form' → r ≡ word_of (in_fields (count_meaning a)) → a ≡ body_answer withdrawn attributes announced form (length out)
-    → out' ≡ filled (count_meaning a) (body_bytes withdrawn attributes announced form) out
-    → let told = count_meaning (body_answer withdrawn attributes announced form' (length out)) in
-    (r ≡ word_of (in_fields told)) × (out' ≡ filled told (body_bytes withdrawn attributes announced form') out)
-write_told withdrawn attributes announced form form' out out' a r m e f g = rw (← m, ← f) (e, g)

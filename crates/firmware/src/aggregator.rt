@@ -23,8 +23,7 @@ pub fn doorbramble_parse_aggregator(value: &[u8], four_bytes: u8, words: &mut [u
             if words.len() < AGGREGATOR_SIZE {
                 return refused(Refusal::NoRoom);
             }
-            words[0] = found.asn;
-            words[1] = found.identifier;
+            words[..AGGREGATOR_SIZE].copy_from_slice(&[found.asn, found.identifier]);
             word(AGGREGATOR_SIZE as u16, found.differs as u16, 0, 0)
         }
         Err(why) => refused(why),

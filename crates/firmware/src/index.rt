@@ -1,18 +1,15 @@
 // An index beside a list of routes, counted and built; and the route of a number by it.
-ghost use Rattle.std.specs.Prelude.{◌≡◌, ◌≤◌, length};
+ghost use Rattle.std.specs.Prelude.{◌≡◌, length};
 ghost use Rattle.wire.specs.Answer.{count_meaning};
-ghost use Rattle.wire.specs.Store.{laid};
 ghost use Rattle.families.specs.Family.{max_of};
 ghost use Rattle.routes.specs.List.{up_to};
-ghost use Rattle.routes.specs.Prefix.{words};
 ghost use Rattle.route_index.specs.Index.{route_by};
 ghost use Rattle.route_index.specs.Promises.{count_index, build_index, index_after};
 ghost use Rattle.words.specs.Settings.{family_of, form_of};
 ghost use Rattle.words.specs.Word.{in_fields, word_of};
-ghost use Rattle.firmware.specs.Fields.{row_words, route_stored, route_after};
+ghost use Rattle.firmware.specs.Fields.{route_stored, route_after};
 
 use super::{count_word, refused};
-use routes::Row;
 use wire::refusal::Refusal;
 use words::{family_of, form_of, word};
 
@@ -36,19 +33,6 @@ pub fn doorbramble_build_index(s: &[u8], ipv6: u8, add_path: u8, places: &mut [u
     count_word(route_index::build_index(s, family_of(ipv6), form_of(add_path), places))
 }
 
-// The words of a row, at the front of a store.
-fn put_words(store: &mut [u32], row: Row)
-    requires { row_words ≤ length store.old }
-    ensures { store.new ≡ laid store.old 0 (words row) }
-{
-    store[0] = row.first;
-    store[1] = row.id;
-    store[2] = row.w0;
-    store[3] = row.w1;
-    store[4] = row.w2;
-    store[5] = row.w3;
-}
-
 // The route of a number by an index, into a lent store.
 pub fn doorbramble_route_at(
     s: &[u8],
@@ -66,7 +50,8 @@ pub fn doorbramble_route_at(
             if row.len() < ROW_WORDS {
                 return refused(Refusal::NoRoom);
             }
-            put_words(row, found.prefix.row);
+            let r = found.prefix.row;
+            row[..ROW_WORDS].copy_from_slice(&[r.first, r.id, r.w0, r.w1, r.w2, r.w3]);
             word(found.prefix.used as u16, found.host as u16, 0, 0)
         }
         Err(why) => refused(why),

@@ -34,8 +34,5 @@ fn count_word(a: Result<usize, Refusal>) -> u64
     requires { Narrow (in_fields (count_meaning a)) }
     ensures { result ≡ word_of (in_fields (count_meaning a)) }
 {
-    match a {
-        Ok(n) => word(n as u16, 0, 0, 0),
-        Err(why) => refused(why),
-    }
+    a.map_or_else(refused, |n| word(n as u16, 0, 0, 0))
 }

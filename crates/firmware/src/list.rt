@@ -21,10 +21,10 @@ pub(super) fn list_word(a: Result<Routes, Refusal>) -> u64
     requires { Narrow (in_fields (Lists.routes_meaning a)) }
     ensures { result ≡ word_of (in_fields (Lists.routes_meaning a)) }
 {
-    match a {
-        Ok(list) => word(list.rows as u16, list.hosts as u16, 0, 0),
-        Err(why) => refused(why),
-    }
+    a.map_or_else(
+        refused,
+        |list| word(list.rows as u16, list.hosts as u16, 0, 0),
+    )
 }
 
 // How many routes a list has, and how many of them have a bit set past their length. Here and below each family has a call of its own, so that its table is
@@ -65,13 +65,12 @@ pub fn doorbramble_clear_guessed(store: &mut [u32]) -> u64
     ensures answer { result ≡ word_of (cleared_fields (clear_answer (length store.old))) }
     ensures store { store.new ≡ clear_after store.old }
 {
-    match route_marks::clear_guessed(store) {
-        Ok(n) => word(
+    route_marks::clear_guessed(store).map_or_else(refused, |n| {
+        word(
             (n % 65536) as u16,
             (n / 65536 % 65536) as u16,
             (n / 4294967296 % 65536) as u16,
             0,
-        ),
-        Err(why) => refused(why),
-    }
+        )
+    })
 }

@@ -18,8 +18,8 @@ fn message_word(a: Result<Message, Refusal>) -> u64
     requires { Narrow (message_fields a) }
     ensures { result ≡ word_of (message_fields a) }
 {
-    match a {
-        Ok(m) => word(
+    a.map_or_else(refused, |m| {
+        word(
             m.claimed as u16,
             m.taken as u16,
             u16::from(u8::from(m.kind))
@@ -27,9 +27,8 @@ fn message_word(a: Result<Message, Refusal>) -> u64
                 + 512 * (m.cut as u16)
                 + 1024 * (m.trailing as u16),
             0,
-        ),
-        Err(why) => refused(why),
-    }
+        )
+    })
 }
 
 // The header of a message, as the crate reads it.

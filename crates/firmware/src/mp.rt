@@ -22,15 +22,14 @@ fn reach_word(a: Result<Reach, Refusal>) -> u64
     requires { Narrow (reach_fields a) }
     ensures { result ≡ word_of (reach_fields a) }
 {
-    match a {
-        Ok(reach) => word(
+    a.map_or_else(refused, |reach| {
+        word(
             reach.rows as u16,
             reach.hosts as u16,
             reach.next_hop as u16 + 256 * (reach.reserved as u16),
             0,
-        ),
-        Err(why) => refused(why),
-    }
+        )
+    })
 }
 
 // How many routes MP_REACH_NLRI has.

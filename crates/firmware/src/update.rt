@@ -17,43 +17,43 @@ use wire::refusal::Refusal;
 use words::{form_of, word};
 
 // Where the withdrawn section of an UPDATE body stands.
+#[tactic(auto, using(crate::proofs::UpdateBounds::parts_few))]
 pub fn doorbramble_withdrawn_part(body: &[u8]) -> u64
     ensures { result ≡ word_of (part_fields withdrawn_at (parts_of body.now)) }
 {
-    match updates::update_parts(body) {
-        Ok(parts) => word(LENGTH_SIZE as u16, parts.withdrawn as u16, 0, 0),
-        Err(why) => refused(why),
-    }
+    updates::update_parts(body).map_or_else(refused, |parts| {
+        word(LENGTH_SIZE as u16, parts.withdrawn as u16, 0, 0)
+    })
 }
 
 // Where the attribute section of an UPDATE body stands.
+#[tactic(auto, using(crate::proofs::UpdateBounds::parts_few))]
 pub fn doorbramble_attribute_part(body: &[u8]) -> u64
     ensures { result ≡ word_of (part_fields attributes_at (parts_of body.now)) }
 {
-    match updates::update_parts(body) {
-        Ok(parts) => word(
+    updates::update_parts(body).map_or_else(refused, |parts| {
+        word(
             (LENGTH_SIZE + parts.withdrawn + LENGTH_SIZE) as u16,
             parts.attributes as u16,
             0,
             0,
-        ),
-        Err(why) => refused(why),
-    }
+        )
+    })
 }
 
 // Where the announced section of an UPDATE body stands.
+#[tactic(auto, using(crate::proofs::UpdateBounds::parts_few))]
 pub fn doorbramble_announced_part(body: &[u8]) -> u64
     ensures { result ≡ word_of (part_fields announced_at (parts_of body.now)) }
 {
-    match updates::update_parts(body) {
-        Ok(parts) => word(
+    updates::update_parts(body).map_or_else(refused, |parts| {
+        word(
             (LENGTH_SIZE + parts.withdrawn + LENGTH_SIZE + parts.attributes) as u16,
             parts.announced as u16,
             0,
             0,
-        ),
-        Err(why) => refused(why),
-    }
+        )
+    })
 }
 
 // An UPDATE as a word: the rows of both sections, and their verdicts.
@@ -61,15 +61,14 @@ fn update_word(a: Result<Update, Refusal>) -> u64
     requires { Narrow (update_fields a) }
     ensures { result ≡ word_of (update_fields a) }
 {
-    match a {
-        Ok(update) => word(
+    a.map_or_else(refused, |update| {
+        word(
             rows_in(update.withdrawn) as u16,
             rows_in(update.announced) as u16,
             u16::from(verdict_in(update.withdrawn)) + 256 * u16::from(verdict_in(update.announced)),
             0,
-        ),
-        Err(why) => refused(why),
-    }
+        )
+    })
 }
 
 // How many routes the sections of an UPDATE body have.
@@ -80,18 +79,21 @@ pub fn doorbramble_count_bgp_update_message(body: &[u8], settings: u8) -> u64
 }
 
 // How many routes of each section of an UPDATE body have a bit set past their length, for which the word of an UPDATE has no field left.
+#[tactic(auto, using(crate::proofs::UpdateBounds::hosts_few))]
 pub fn doorbramble_count_update_hosts(body: &[u8], settings: u8) -> u64
     ensures { result ≡ word_of (host_fields (count_update body.now (mode_of settings))) }
 {
-    match updates::count_bgp_update_message(body, AddPath::from(settings)) {
-        Ok(update) => word(
-            hosts_in(update.withdrawn) as u16,
-            hosts_in(update.announced) as u16,
-            0,
-            0,
-        ),
-        Err(why) => refused(why),
-    }
+    updates::count_bgp_update_message(body, AddPath::from(settings)).map_or_else(
+        refused,
+        |update| {
+            word(
+                hosts_in(update.withdrawn) as u16,
+                hosts_in(update.announced) as u16,
+                0,
+                0,
+            )
+        },
+    )
 }
 
 // The routes of an UPDATE body, into a lent store for each section.

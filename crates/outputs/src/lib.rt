@@ -5,60 +5,41 @@ ghost use Rattle.std.specs.Prelude.{◌≡◌, take};
 ghost use Rattle.wire.specs.Number.{to_be};
 ghost use Rattle.wire.specs.Store.{placed};
 
+// Bytes at a place of the output. Lent a part of N bytes, the test of room is known when it is compiled.
+fn put<const N: usize>(out: &mut [u8], to: usize, bytes: &[u8; N])
+    ensures { out.new ≡ placed out.old to bytes.now }
+{
+    if out.len() < to || out.len() - to < N {
+        return;
+    }
+    let end = to + N;
+    out[to..end].copy_from_slice(bytes);
+}
+
 // The two bytes of a number, at a place of the output.
 pub fn put_u16(out: &mut [u8], to: usize, v: u16)
     ensures { out.new ≡ placed out.old to (to_be 2 v) }
 {
-    if out.len() < to {
-        return;
-    }
-    if out.len() - to < 2 {
-        return;
-    }
-    out[to] = (v / 256) as u8;
-    out[to + 1] = (v % 256) as u8;
+    put(out, to, &v.to_be_bytes());
 }
 
-// The four bytes of a number, at a place of the output. Lent a part of four bytes, both tests are known when it is compiled.
+// The four bytes of a number, at a place of the output.
 pub fn put_u32(out: &mut [u8], to: usize, v: u32)
     ensures { out.new ≡ placed out.old to (to_be 4 v) }
 {
-    if out.len() < to {
-        return;
-    }
-    if out.len() - to < 4 {
-        return;
-    }
-    out[to] = (v / 16777216) as u8;
-    out[to + 1] = (v / 65536 % 256) as u8;
-    out[to + 2] = (v / 256 % 256) as u8;
-    out[to + 3] = (v % 256) as u8;
+    put(out, to, &v.to_be_bytes());
 }
 
 // The first m of the four bytes of a number, at a place of the output.
 pub fn put_octets(out: &mut [u8], to: usize, v: u32, m: usize)
     ensures { out.new ≡ placed out.old to (take m (to_be 4 v)) }
 {
-    if m == 0 {
-        return;
+    let [a, b, c, _] = v.to_be_bytes();
+    match m {
+        0 => {}
+        1 => put(out, to, &[a]),
+        2 => put(out, to, &[a, b]),
+        3 => put(out, to, &[a, b, c]),
+        _ => put_u32(out, to, v),
     }
-    if out.len() < to {
-        return;
-    }
-    if 4 <= m {
-        put_u32(out, to, v);
-        return;
-    }
-    if out.len() - to < m {
-        return;
-    }
-    out[to] = (v / 16777216) as u8;
-    if m == 1 {
-        return;
-    }
-    out[to + 1] = (v / 65536 % 256) as u8;
-    if m == 2 {
-        return;
-    }
-    out[to + 2] = (v / 256 % 256) as u8;
 }

@@ -72,6 +72,7 @@ fn all_fit(numbers: &[u32], from: usize, n: usize, width: AsnLength) -> bool
 
 // What stands against writing a segment whose numbers start at a place. Where all numbers are known to fit, its own do.
 #[tactic(auto, unfolding(crate::specs::Write::write_fault), using(crate::proofs::WriteLaws::fit_part))]
+#[inline(always)]
 fn segment_fault(
     kind: u32,
     count: u32,
@@ -100,6 +101,7 @@ fn segment_fault(
 
 // The refusal of the first segment that cannot be written.
 #[tactic(auto, using(crate::proofs::WriteTurn::judged_fits))]
+#[inline(always)]
 fn first_fault(
     pairs: &[u32],
     numbers: &[u32],
@@ -123,6 +125,7 @@ fn first_fault(
 }
 
 // The same. The numbers are looked at all at once, and again in their segments only where one does not fit.
+#[inline(always)]
 fn path_fault(
     pairs: &[u32],
     numbers: &[u32],

@@ -4,8 +4,10 @@ use Prim.Native.Nat.{ℕ, ◌+◌, ◌-◌, ◌≤◌, ◌<◌}
 use mathlib.Core.Path.{◌≡◌, sym, ap, ap₂, subst, ◌∙◌}
 use mathlib.Core.List.{List, [], ◌∷◌, ◌++◌}
 use native.Mathlib.Omega.{arith}
-use lib.ListN.{length, take, drop, get_or}
-use lib.Seq.{get_or-drop, drop-drop}
+use lib.ListN.{length, take, drop, get_or, length-drop}
+use lib.Seq.{get_or-drop, drop-drop, length-take-le}
+use borrow.Rule.Slice.PartMut.{put_mid}
+use Rattle.paths.proofs.NumberTurn.{ahead_put}
 use native.Mathlib.Nat.{add-zero}
 use Rattle.wire.specs.Refusal.{list_limit}
 use Rattle.wire.specs.Walk.{took, flat}
@@ -181,11 +183,10 @@ module _ {rule : Rule} {w : ℕ} {s p₀ n₀ : List ℕ} {total : ℕ} where
           let next = filled_sum rule w s p₀ n₀ _ _ _ _ _ (filling_next rule w s p₀ n₀ at pair to pairs h.clean h.filled lt) in
           (f.0, f.1, omega (arith, next, h.all))
 
-      -- the segment's numbers are put, and perhaps more
-      pub ahead_next : (numbers' : List ℕ) → PutAhead total numbers to (numbers_of w (get_or s (at + 1) 0) (drop (at + 2) s)) numbers'
+      next : (numbers' : List ℕ) → PutAhead total numbers to (numbers_of w (get_or s (at + 1) 0) (drop (at + 2) s)) numbers'
           → AheadPath rule w s p₀ n₀ total (at + (2 + span w (get_or s (at + 1) 0))) (pair + 2) (to + get_or s (at + 1) 0)
           (laid pairs pair (get_or s at 0 ∷ get_or s (at + 1) 0 ∷ [])) numbers'
-      ahead_next numbers' p =
+      next numbers' p =
           let vs : List ℕ = numbers_of w (get_or s (at + 1) 0) (drop (at + 2) s) in
           let put = like_put total to numbers h.clean vs p.more h.like p.fits ahead_long.2 in
           record {
@@ -196,3 +197,13 @@ module _ {rule : Rule} {w : ℕ} {s p₀ n₀ : List ℕ} {total : ℕ} where
                 (subst (λ (k : ℕ). Like total (to + k) (laid numbers to (vs ++ p.more)) (laid h.clean to vs)) (length_numbers w (get_or s (at + 1) 0) (drop (at + 2) s)) put);
             all = h.all;
           }
+
+      -- the segment's numbers are put, and perhaps more, by a call on the parts from there on
+      pub ahead_next : (part : List ℕ) → length part ≡ length (take (total - to) (drop to numbers))
+          → take (get_or s (at + 1) 0) part ≡ numbers_of w (get_or s (at + 1) 0) (take (length s - (at + 2)) (drop (at + 2) s))
+          → AheadPath rule w s p₀ n₀ total (at + (2 + span w (get_or s (at + 1) 0))) (pair + 2) (to + get_or s (at + 1) 0)
+          (laid pairs pair (get_or s at 0 ∷ get_or s (at + 1) 0 ∷ [])) (put_mid to (total - to) numbers part)
+      ahead_next part long e =
+          let fits = ahead_fits in
+          let size : length part ≡ total - to = long ∙ length-take-le (total - to) (drop to numbers) (omega (arith, length-drop to numbers, ahead_long)) in
+          next _ (ahead_put total numbers to (get_or s (at + 1) 0) _ part (omega (arith, fits)) ahead_long.2 (omega (arith, fits)) size (rw rest at e) (length_numbers w _ _))

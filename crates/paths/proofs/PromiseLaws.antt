@@ -1,11 +1,12 @@
 -- Laws of what the calls on a path answer and leave.
 -- Assumes nothing.
 use Prim.Native.Nat.{ℕ, ◌+◌, ◌*◌, ◌/◌, ◌≤◌, ◌<◌}
-use mathlib.Core.Path.{◌≡◌, refl, sym, ap₂, subst, ◌∙◌}
-use mathlib.Core.List.{List}
+use mathlib.Core.Path.{◌≡◌, refl, sym, ap, ap₂, subst, ◌∙◌}
+use mathlib.Core.List.{List, ◌++◌}
 use native.Mathlib.Omega.{arith}
 use borrow.Author.Tests.{le-leb, lt-leb}
-use lib.ListN.{length, drop}
+use lib.ListN.{length, take, drop}
+use lib.Seq.{length-take-le}
 use lib.Dec.{leb}
 use Rattle.std.specs.Prelude.{Result, Ok, Err}
 use Rattle.std.proofs.lemmas.Grind.{common_steps}
@@ -42,6 +43,12 @@ module _ (w : ℕ) (s : List ℕ) (n : ℕ) (d : List ℕ) where
 
     pub asns_fit : n ≤ length d → laid d 0 (numbers_of w n s) ≡ asns_after w s n d
     asns_fit k = sym (asns_there ∙ placed_fits d 0 (numbers_of w n s) (omega (arith, length_numbers w n s)))
+
+    -- by way of a part of n places, put back before what stands after it
+    pub asns_part : (part : List ℕ) → n ≤ length d → part ≡ numbers_of w (length (take n d)) s → part ++ drop n d ≡ asns_after w s n d
+    asns_part part k e =
+        let size : 0 + length (numbers_of w n s) ≡ n = omega (arith, length_numbers w n s) in
+        ap₂ ◌++◌ (e ∙ ap (λ (j : ℕ). numbers_of w j s) (length-take-le n d k)) (ap (λ (j : ℕ). drop j d) (sym size)) ∙ asns_fit k
 
 -- past the numbers, the store is as it was
 pub asns_past : (w : ℕ) (s : List ℕ) (n : ℕ) (d : List ℕ) → drop n (asns_after w s n d) ≡ drop n d

@@ -1,9 +1,9 @@
 -- Laws of one segment and of a path, over any rule and any width.
 -- Assumes nothing.
-use Prim.Native.Nat.{ℕ, zero, suc, ◌+◌, ◌-◌, ◌≤◌, ◌<◌}
+use Prim.Native.Nat.{ℕ, zero, suc, ◌+◌, ◌-◌, ◌*◌, ◌≤◌, ◌<◌}
 use mathlib.Core.Path.{◌≡◌, refl, sym, ap, ap₂, ◌∙◌}
 use mathlib.Core.List.{List, [], ◌∷◌, ◌++◌}
-use native.Mathlib.Nat.{not-suc-le-zero, zero-add}
+use native.Mathlib.Nat.{not-suc-le-zero, zero-add, add-zero}
 use native.Mathlib.Numerals.{sub-one}
 use native.Mathlib.Omega.{arith}
 use borrow.Author.Tests.{le-leb}
@@ -36,19 +36,13 @@ unfolding numbers_of be_at
 numbers_next w zero at s h = absurd (not-suc-le-zero h)
 numbers_next w (suc n) at s h = rw (sub-one (suc n), drop-drop w at s)
 
--- four of four bytes
-pub numbers_four : (at : ℕ) (s : List ℕ) → numbers_of 4 4 (drop at s) ≡ be_at s at 4 ∷ be_at s (at + 4) 4 ∷ be_at s (at + 8) 4 ∷ be_at s (at + 12) 4 ∷ []
-unfolding numbers_of
-numbers_four at s =
-    let second : at + 4 + 4 ≡ at + 8 = omega arith in
-    let third : at + 8 + 4 ≡ at + 12 = omega arith in
-    numbers_next 4 4 at s (omega arith)
-    ∙ ap (λ (l : List ℕ). be_at s at 4 ∷ l)
-    (numbers_next 4 3 (at + 4) s (omega arith)
-    ∙ ap (λ (l : List ℕ). be_at s (at + 4) 4 ∷ l)
-    (ap (λ (k : ℕ). numbers_of 4 2 (drop k s)) second ∙ numbers_next 4 2 (at + 8) s (omega arith)
-    ∙ ap (λ (l : List ℕ). be_at s (at + 8) 4 ∷ l)
-    (ap (λ (k : ℕ). numbers_of 4 1 (drop k s)) third ∙ numbers_next 4 1 (at + 12) s (omega arith))))
+-- four, one by one
+pub numbers_four : (w : ℕ) (s : List ℕ) → numbers_of w 4 s ≡ be_at s 0 w ∷ be_at s w w ∷ be_at s (2 * w) w ∷ be_at s (3 * w) w ∷ []
+unfolding numbers_of be_at
+numbers_four w s =
+    let two : w + w ≡ 2 * w = omega arith in
+    let three : 2 * w + w ≡ 3 * w = omega arith in
+    simp (drop-drop, add-zero, two, three)
 
 -- some, and those after them
 pub numbers_add : (w m n : ℕ) (s : List ℕ) → numbers_of w (m + n) s ≡ numbers_of w m s ++ numbers_of w n (drop (span w m) s)

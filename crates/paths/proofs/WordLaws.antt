@@ -1,36 +1,28 @@
--- Four bytes read as a word with the first one lowest, and turned.
+-- Two bytes and four as a number, by std's words for them.
 -- Assumes nothing.
-use Prim.Native.Nat.{ℕ, ◌+◌, ◌*◌, ◌/◌, ◌%◌, ◌<◌}
-use mathlib.Core.Path.{◌≡◌, refl, sym, ap, ◌∙◌}
+use Prim.Native.Nat.{ℕ, zero, suc, ◌+◌}
+use mathlib.Core.Path.{◌≡◌, refl, ap, ◌∙◌}
 use mathlib.Core.List.{List, [], ◌∷◌}
-use native.Mathlib.Nat.{div-div-eq-div-mul}
 use native.Mathlib.Omega.{arith}
-use Rattle.wire.specs.Number.{be, be_at, Bytes}
-use Rattle.wire.proofs.NumberLaws.{four_at}
-use Rattle.paths.specs.Private.{low_first, turned_of}
+use lib.ListN.{get_or}
+use Rattle.std.specs.Int.{w16, w32, from_be_bytes, from_le_bytes, swap_bytes}
+use Rattle.std.proofs.lemmas.Nat.{le_bytes_4}
+use Rattle.wire.specs.Number.{be_at, Bytes}
+use Rattle.wire.proofs.NumberLaws.{two_at, four_at}
 
--- a number whose last byte is r
-last_byte : (q r : ℕ) → r < 256 → ((r + q * 256) % 256 ≡ r) × ((r + q * 256) / 256 ≡ q)
-last_byte q r h = (omega arith, omega arith)
+module _ (s : List ℕ) (at r : ℕ) where
+  pub two_high_first : r ≡ from_be_bytes w16 (get_or s at 0 ∷ get_or s (at + 1) 0 ∷ []) → r ≡ be_at s at 2
+  two_high_first e = two_at s at (e ∙ omega arith) refl refl
 
-turned_four : (a b c d : ℕ) → a < 256 → b < 256 → c < 256 → d < 256 → turned_of (a + b * 256 + (c + d * 256) * 65536) ≡ be (a ∷ b ∷ c ∷ d ∷ [])
-unfolding turned_of
-turned_four a b c d ha hb hc hd =
-    let x : ℕ = a + b * 256 + (c + d * 256) * 65536 in
-    let y : ℕ = b + (c + d * 256) * 256 in
-    let low : x ≡ a + y * 256 = omega arith in
-    let first = last_byte y a ha in
-    let second = last_byte (c + d * 256) b hb in
-    let third = last_byte d c hc in
-    let one : x / 256 ≡ y = ap (λ (k : ℕ). k / 256) low ∙ first.1 in
-    let two : x / 65536 ≡ c + d * 256 = sym (div-div-eq-div-mul x 256 256) ∙ ap (λ (k : ℕ). k / 256) one ∙ second.1 in
-    let three : x / 16777216 ≡ d = sym (div-div-eq-div-mul x 65536 256) ∙ ap (λ (k : ℕ). k / 256) two ∙ third.1 in
-    let last : x % 256 ≡ a = ap (λ (k : ℕ). k % 256) low ∙ first.0 in
-    let sum : x % 256 * 16777216 + x / 256 % 256 * 65536 + x / 65536 % 256 * 256 + x / 16777216 ≡ a * 16777216 + b * 65536 + c * 256 + d = rw (last, one, two, three, second.0, third.0) in
-    sum ∙ omega arith
-
--- the number of four bytes at a place
-pub turned_low : (s : List ℕ) (at x y : ℕ) → Bytes s → x ≡ low_first s at → y ≡ turned_of x → y ≡ be_at s at 4
-unfolding low_first
-turned_low s at x y bytes ex ey =
-    four_at s at (ey ∙ ap turned_of ex ∙ turned_four _ _ _ _ (bytes at) (bytes (at + 1)) (bytes (at + 2)) (bytes (at + 3))) refl refl refl refl
+  -- the lowest first, and turned
+  pub four_turned : Bytes s → (q : ℕ) → q ≡ from_le_bytes w32 (get_or s at 0 ∷ get_or s (at + 1) 0 ∷ get_or s (at + 2) 0 ∷ get_or s (at + 3) 0 ∷ []) → r ≡ swap_bytes w32 q → r ≡ be_at s at 4
+  four_turned bytes q low e =
+      let four : List ℕ = get_or s at 0 ∷ get_or s (at + 1) 0 ∷ get_or s (at + 2) 0 ∷ get_or s (at + 3) 0 ∷ [] in
+      four_at s at (e ∙ ap (from_be_bytes w32) (le_bytes_4 four q refl each low) ∙ omega arith) refl refl refl refl
+    where
+      each : Bytes (get_or s at 0 ∷ get_or s (at + 1) 0 ∷ get_or s (at + 2) 0 ∷ get_or s (at + 3) 0 ∷ [])
+      each zero = bytes at
+      each (suc zero) = bytes (at + 1)
+      each (suc (suc zero)) = bytes (at + 2)
+      each (suc (suc (suc zero))) = bytes (at + 3)
+      each (suc (suc (suc (suc i)))) = omega arith

@@ -1,4 +1,3 @@
 pub mod Segment
 pub mod WellFormed
 pub mod Promises
-pub mod Private

@@ -2,13 +2,13 @@
 // attr_02_17_as_path.rs, and the strict one (RFC 7606 section 7.2).
 #![tactic(auto)]
 
-ghost use Rattle.std.specs.Prelude.{◌≡◌, ◌+◌, ◌≤◌, [], ◌∷◌, length, drop};
-ghost use Rattle.wire.specs.Store.{laid, PutAhead};
+ghost use Rattle.std.specs.Prelude.{◌≡◌, ◌+◌, ◌≤◌, [], ◌∷◌, length, take};
+ghost use Rattle.wire.specs.Number.{be_at};
+ghost use Rattle.wire.specs.Store.{laid};
 ghost use Rattle.wire.specs.Verdict.{fine};
 ghost use Rattle.wire.specs.Walk.{flat};
 ghost use Rattle.asns.specs.Asn.{width_of, span};
 ghost use Rattle.paths.specs.Segment.{numbers_of, type_fault, known_type, rule_of, pair_of, asns_of, segment_of, path_of};
-ghost use Rattle.paths.specs.Private.{fewest_by, few_fault, low_first, turned_of};
 ghost use Rattle.paths.specs.Promises.{count_in, asns_after, count_answer, read_answer, pairs_after, numbers_after};
 
 use asns::AsnLength;
@@ -38,40 +38,22 @@ pub struct Path {
 fn type_fault(kind: u32) -> Result<(), Refusal>
     ensures { result ≡ type_fault kind }
 {
-    if kind < AS_SET {
-        return Err(Refusal::SegmentType);
+    match kind {
+        AS_SET..=CONFED_SET => Ok(()),
+        _ => Err(Refusal::SegmentType),
     }
-    if CONFED_SET < kind {
-        return Err(Refusal::SegmentType);
-    }
-    Ok(())
-}
-
-// The fewest numbers of a segment.
-fn fewest_by(rule: PathRule) -> usize
-    ensures { result ≡ fewest_by rule }
-{
-    match rule {
-        PathRule::Crate => 0,
-        PathRule::Strict => 1,
-    }
-}
-
-// A refusal where so few are there of so many.
-#[tactic(auto, unfolding(crate::specs::Private::few_fault))]
-fn few_fault(there: usize, asked: usize, few: Refusal) -> Result<(), Refusal>
-    ensures { result ≡ few_fault there asked few }
-{
-    if there < asked { Err(few) } else { Ok(()) }
 }
 
 // What is wrong with a segment of that type and count: the type, 9; the count, 16.
-#[tactic(auto, unfolding(crate::specs::Private::few_fault), using(wire::proofs::AnswerLaws::either_fine))]
+#[tactic(auto, using(wire::proofs::AnswerLaws::either_fine))]
 pub fn rule_fault(kind: u32, count: u32, rule: PathRule) -> Result<(), Refusal>
     ensures { result ≡ rule_of rule kind count }
 {
     type_fault(kind)?;
-    few_fault(count as usize, fewest_by(rule), Refusal::EmptySegment)
+    match rule {
+        PathRule::Strict if count == 0 => Err(Refusal::EmptySegment),
+        _ => Ok(()),
+    }
 }
 
 // The bytes of a segment of so many numbers.
@@ -83,7 +65,7 @@ pub fn segment_size(count: u8, width: AsnLength) -> usize
 }
 
 // How many numbers the segment at the front has: type and count there, 2; the numbers there, 2; then the rule, 9 and 16.
-#[tactic(auto, unfolding(crate::specs::Segment::segment_of, crate::specs::Segment::segment_at, crate::specs::Private::few_fault), using(crate::proofs::SegmentLaws::length_numbers))]
+#[tactic(auto, unfolding(crate::specs::Segment::segment_of, crate::specs::Segment::segment_at), using(crate::proofs::SegmentLaws::length_numbers))]
 pub fn segment_count(s: &[u8], width: AsnLength, rule: PathRule) -> Result<u8, Refusal>
     ensures { result ≡ count_in (segment_of (rule_of rule) (width_of width) tt s.now) }
 {
@@ -91,7 +73,9 @@ pub fn segment_count(s: &[u8], width: AsnLength, rule: PathRule) -> Result<u8, R
         return Err(Refusal::Truncated);
     }
     let count = s[1];
-    few_fault(s.len(), segment_size(count, width), Refusal::Truncated)?;
+    if s.len() < segment_size(count, width) {
+        return Err(Refusal::Truncated);
+    }
     rule_fault(u32::from(s[0]), u32::from(count), rule)?;
     Ok(count)
 }
@@ -124,156 +108,125 @@ fn put_pair(pairs: &mut [u32], to: usize, kind: u32, count: u32)
     pairs[to + 1] = count;
 }
 
-// The n numbers of two bytes at a place of the bytes, two in a turn, to a place of the store.
-fn put_narrow(s: &[u8], from: usize, n: usize, numbers: &mut [u32], start: usize)
-    requires n_in_bounds { from + span 2 n ≤ length s.now }
-    requires n_in_bounds_2 { start + n ≤ length numbers.old }
-    ensures { numbers.new ≡ laid numbers.old start (numbers_of 2 n (drop from s.now)) }
-{
-    let mut at = from;
-    let mut to = start;
-    let mut left = n;
-    while 1 < left {
-        let middle = at + 2;
-        let end = at + 4;
-        numbers[to] = wire::u16_at(&s[at..middle], 0);
-        numbers[to + 1] = wire::u16_at(&s[middle..end], 0);
-        at = end;
-        to = to + 2;
-        left = left - 2;
-    }
-    if left == 1 {
-        let end = at + 2;
-        numbers[to] = wire::u16_at(&s[at..end], 0);
-    }
-}
-
-// The number of the four bytes at a place, the first byte lowest: a compiler sees one word in it, where it sees four bytes in `wire::u32_at`.
-#[tactic(auto, unfolding(crate::specs::Private::low_first))]
-fn low_first(s: &[u8], at: usize) -> u32
-    requires { at + 4 ≤ length s.now }
-    ensures { result ≡ low_first s.now at }
-{
-    let low = u32::from(s[at]) + u32::from(s[at + 1]) * 256;
-    let high = u32::from(s[at + 2]) + u32::from(s[at + 3]) * 256;
-    low + high * 65536
-}
-
-// The same bytes, the first one highest.
-#[tactic(auto, unfolding(crate::specs::Private::turned_of))]
-fn turned(x: u32) -> u32
-    ensures { result ≡ turned_of x }
-{
-    x % 256 * 16777216 + x / 256 % 256 * 65536 + x / 65536 % 256 * 256 + x / 16777216
-}
-
-// The n numbers of four bytes at a place of the bytes, one by one, to a place of the store.
-fn put_singles(s: &[u8], from: usize, n: usize, numbers: &mut [u32], start: usize)
-    requires n_in_bounds { from + span 4 n ≤ length s.now }
-    requires n_in_bounds_2 { start + n ≤ length numbers.old }
-    ensures { numbers.new ≡ laid numbers.old start (numbers_of 4 n (drop from s.now)) }
-{
-    let mut at = from;
-    let mut to = start;
-    let mut left = n;
-    while 0 < left {
-        numbers[to] = turned(low_first(s, at));
-        at = at + 4;
-        to = to + 1;
-        left = left - 1;
-    }
-}
-
-// Four numbers of four bytes at a place of the bytes, to a place of the store: all are read before one is put, so that they go together.
-fn put_four(s: &[u8], at: usize, numbers: &mut [u32], to: usize)
-    requires at_in_bounds { at + 16 ≤ length s.now }
-    requires to_in_bounds { to + 4 ≤ length numbers.old }
-    ensures { numbers.new ≡ laid numbers.old to (numbers_of 4 4 (drop at s.now)) }
-{
-    let first = turned(low_first(s, at));
-    let second = turned(low_first(s, at + 4));
-    let third = turned(low_first(s, at + 8));
-    let fourth = turned(low_first(s, at + 12));
-    numbers[to] = first;
-    numbers[to + 1] = second;
-    numbers[to + 2] = third;
-    numbers[to + 3] = fourth;
-}
-
-// The n numbers of four bytes at a place of the bytes, to a place of the store: four in a turn, and the last four again where some of them are left over.
-fn put_full(s: &[u8], from: usize, n: usize, numbers: &mut [u32], start: usize)
-    requires n_in_bounds { from + span 4 n ≤ length s.now }
-    requires n_in_bounds_2 { start + n ≤ length numbers.old }
-    ensures { numbers.new ≡ laid numbers.old start (numbers_of 4 n (drop from s.now)) }
-{
-    if n < 4 {
-        put_singles(s, from, n, numbers, start);
-        return;
-    }
-    let last = n - 4;
-    let mut done: usize = 0;
-    while done < last {
-        put_four(s, from + 4 * done, numbers, start + done);
-        done = done + 4;
-    }
-    put_four(s, from + 4 * last, numbers, start + last);
-}
-
-// The n numbers at a place of the bytes, to a place of the store.
-fn put_numbers(s: &[u8], from: usize, n: usize, width: AsnLength, numbers: &mut [u32], start: usize)
-    requires n_in_bounds { from + span (width_of width) n ≤ length s.now }
-    requires n_in_bounds_2 { start + n ≤ length numbers.old }
-    ensures { numbers.new ≡ laid numbers.old start (numbers_of (width_of width) n (drop from s.now)) }
+// The number at a place of the bytes. Four bytes are read with the first one lowest, and turned: so a compiler sees one word in them.
+#[inline(always)]
+#[tactic(auto, using(crate::proofs::WordLaws::two_high_first, crate::proofs::WordLaws::four_turned))]
+fn number_at(bytes: &[u8], at: usize, width: AsnLength) -> u32
+    requires { at + width_of width ≤ length bytes.now }
+    ensures { result ≡ be_at bytes.now at (width_of width) }
 {
     match width {
-        AsnLength::Bits16 => put_narrow(s, from, n, numbers, start),
-        AsnLength::Bits32 => put_full(s, from, n, numbers, start),
+        AsnLength::Bits16 => u32::from(u16::from_be_bytes([bytes[at], bytes[at + 1]])),
+        AsnLength::Bits32 => {
+            u32::from_le_bytes([
+                bytes[at],
+                bytes[at + 1],
+                bytes[at + 2],
+                bytes[at + 3],
+            ]).swap_bytes()
+        }
+    }
+}
+
+// The numbers at the front of the bytes, to every place of a store.
+#[inline(always)]
+#[tactic(auto, using(crate::proofs::NumberTurn::place_fits))]
+fn put_each(bytes: &[u8], width: AsnLength, numbers: &mut [u32])
+    requires { span (width_of width) (length numbers.old) ≤ length bytes.now }
+    ensures { numbers.new ≡ numbers_of (width_of width) (length numbers.old) bytes.now }
+{
+    for (i, number) in numbers.iter_mut().enumerate() {
+        *number = number_at(bytes, i * asns::asn_bytes(width), width);
+    }
+}
+
+// Four of them: all are read before one is put, so that they go together. `copy_from_slice` also tests whether they overlap, and long segments
+// would take 1.7 times as long.
+#[inline(always)]
+#[tactic(auto, using(crate::proofs::NumberTurn::four_put, asns::proofs::AsnLaws::span_is, asns::proofs::AsnLaws::width_most))]
+fn put_four(bytes: &[u8], width: AsnLength, numbers: &mut [u32])
+    requires bytes_in_bounds { span (width_of width) 4 ≤ length bytes.now }
+    requires numbers_len { length numbers.old ≡ 4 }
+    ensures { numbers.new ≡ numbers_of (width_of width) 4 bytes.now }
+{
+    let w = asns::asn_bytes(width);
+    let first = number_at(bytes, 0, width);
+    let second = number_at(bytes, w, width);
+    let third = number_at(bytes, 2 * w, width);
+    let fourth = number_at(bytes, 3 * w, width);
+    numbers[0] = first;
+    numbers[1] = second;
+    numbers[2] = third;
+    numbers[3] = fourth;
+}
+
+// All of them: four in a turn, and the last four again where some are left over. One in a turn, segments of about nine numbers would take 1.4
+// times as long.
+#[inline(always)]
+fn put_fours(bytes: &[u8], width: AsnLength, numbers: &mut [u32])
+    requires { span (width_of width) (length numbers.old) ≤ length bytes.now }
+    ensures { numbers.new ≡ numbers_of (width_of width) (length numbers.old) bytes.now }
+{
+    let n = numbers.len();
+    if n < 4 {
+        put_each(bytes, width, numbers);
+        return;
+    }
+    let w = asns::asn_bytes(width);
+    for i in 0..(n - 1) / 4 {
+        put_four(&bytes[4 * i * w..], width, &mut numbers[4 * i..4 * i + 4]);
+    }
+    put_four(&bytes[(n - 4) * w..], width, &mut numbers[n - 4..]);
+}
+
+// The same: a call for each width, so that it is known where it is compiled.
+#[inline(always)]
+fn put_numbers(bytes: &[u8], width: AsnLength, numbers: &mut [u32])
+    requires { span (width_of width) (length numbers.old) ≤ length bytes.now }
+    ensures { numbers.new ≡ numbers_of (width_of width) (length numbers.old) bytes.now }
+{
+    match width {
+        AsnLength::Bits16 => put_fours(bytes, AsnLength::Bits16, numbers),
+        AsnLength::Bits32 => put_fours(bytes, AsnLength::Bits32, numbers),
     }
 }
 
 // The first n numbers of the bytes, to the front of a store; nothing where they are not all there, or have no room.
-#[tactic(auto, unfolding(crate::specs::Promises::asns_after), using(wire::proofs::StoreLaws::placed_fits, wire::proofs::StoreLaws::placed_not, crate::proofs::SegmentLaws::length_numbers))]
+#[tactic(auto, using(crate::proofs::PromiseLaws::asns_short, crate::proofs::PromiseLaws::asns_full, crate::proofs::PromiseLaws::asns_part))]
 pub fn read_asns(s: &[u8], n: u8, width: AsnLength, numbers: &mut [u32])
     ensures { numbers.new ≡ asns_after (width_of width) s.now n numbers.old }
 {
+    let count = usize::from(n);
     if s.len() < asns::numbers_size(u16::from(n), width) {
         return;
     }
-    if numbers.len() < usize::from(n) {
+    if numbers.len() < count {
         return;
     }
-    put_numbers(s, 0, usize::from(n), width, numbers, 0);
+    put_numbers(s, width, &mut numbers[..count]);
 }
 
-// The n numbers at a place of the bytes, to a place of the store, and perhaps more after them, below `total`.
-fn put_ahead(
-    value: &[u8],
-    at: usize,
-    n: usize,
-    width: AsnLength,
-    numbers: &mut [u32],
-    to: usize,
-    total: usize,
-)
-    requires n_in_bounds { at + span (width_of width) n ≤ length value.now }
-    requires n_bound { to + n ≤ total }
-    requires total_in_bounds { total ≤ length numbers.old }
-    ensures { PutAhead total numbers.old to (numbers_of (width_of width) n (drop at value.now)) numbers.new }
+// The n numbers at the front of the bytes, to the front of a store, and perhaps more after them.
+#[tactic(auto, using(asns::proofs::AsnLaws::eight_says))]
+fn put_ahead(bytes: &[u8], n: usize, width: AsnLength, numbers: &mut [u32])
+    requires bytes_in_bounds { span (width_of width) n ≤ length bytes.now }
+    requires n_in_bounds { n ≤ length numbers.old }
+    ensures { take n numbers.new ≡ numbers_of (width_of width) n bytes.now }
 {
-    if asns::eight_for(n, total - to, value.len() - at, width) {
-        put_numbers(value, at, asns::AT_ONCE, width, numbers, to);
+    if asns::eight_for(n, numbers.len(), bytes.len(), width) {
+        put_numbers(bytes, width, &mut numbers[..asns::AT_ONCE]);
         return;
     }
-    put_numbers(value, at, n, width, numbers, to);
+    put_numbers(bytes, width, &mut numbers[..n]);
 }
 
 // The segments of a good path that has room, with `total` numbers. No test of a segment is made again, so it is the same for both rules: what the
 // strict one takes, the crate takes the same.
 #[tactic(auto, using(crate::proofs::PathTurn::ahead_fits, crate::proofs::PathTurn::ahead_long))]
 fn fill(value: &[u8], width: AsnLength, pairs: &mut [u32], numbers: &mut [u32], total: usize)
-    requires value_good { (path_of known_type (width_of width) value.now).verdict ≡ fine }
-    requires value_in_bounds { length (flat pair_of (path_of known_type (width_of width) value.now).rows) ≤ length pairs.old }
-    requires value_len { length (flat asns_of (path_of known_type (width_of width) value.now).rows) ≡ total }
+    requires good { (path_of known_type (width_of width) value.now).verdict ≡ fine }
+    requires pairs_in_bounds { length (flat pair_of (path_of known_type (width_of width) value.now).rows) ≤ length pairs.old }
+    requires total_is { length (flat asns_of (path_of known_type (width_of width) value.now).rows) ≡ total }
     requires total_in_bounds { total ≤ length numbers.old }
     ensures pairs { pairs.new ≡ laid pairs.old 0 (flat pair_of (path_of known_type (width_of width) value.now).rows) }
     ensures numbers { numbers.new ≡ laid numbers.old 0 (flat asns_of (path_of known_type (width_of width) value.now).rows) }
@@ -284,7 +237,12 @@ fn fill(value: &[u8], width: AsnLength, pairs: &mut [u32], numbers: &mut [u32], 
     while at < value.len() {
         let count = value[at + 1];
         put_pair(pairs, pair, u32::from(value[at]), u32::from(count));
-        put_ahead(value, at + 2, usize::from(count), width, numbers, to, total);
+        put_ahead(
+            &value[at + 2..],
+            usize::from(count),
+            width,
+            &mut numbers[to..total],
+        );
         at += segment_size(count, width);
         pair += 2;
         to += usize::from(count);

@@ -20,6 +20,7 @@ use Rattle.families.specs.Family.{id_size, mark_of, octets}
 use Rattle.families.proofs.FamilyLaws.{id_small, mark_small}
 use Rattle.families.specs.declared.Form.{Form}
 use Rattle.routes.specs.declared.Row.{Row}
+use Rattle.route_bytes.proofs.Rows.{six_front}
 use Rattle.route_bytes.specs.Encode.{four_words, address, length_of, row_bytes, all_zero, id_fits, writable, front_row, write_step}
 
 -- ---- octets that are 0
@@ -190,6 +191,11 @@ module _ (max : ℕ) (form : Form) where
   pub stop_write : (st : Unit {0}) (ws : List ℕ) → leb 6 (length ws) && writable max form (front_row ws) ≡ false → write_step max form st ws ≡ stop NotWritable
   unfolding write_step
   stop_write st ws e = rw e
+
+  -- only the first six words count
+  pub step_row : (st : Unit {0}) (ws : List ℕ) → 6 ≤ length ws → write_step max form st (take 6 ws) ≡ write_step max form st ws
+  unfolding write_step
+  step_row st ws h = simp (six_front ws, length-take-le 6 ws h, le-leb 6 (length ws) h)
 
   pub write_sound : Sound (write_step max form)
   write_sound = record {

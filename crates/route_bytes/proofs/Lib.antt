@@ -1,4 +1,5 @@
 pub mod EncodeLaws
 pub mod PromiseLaws
 pub mod RowLaws
+pub mod Rows
 pub mod Tight

@@ -1,10 +1,11 @@
 -- Laws of what measuring answers.
 -- Assumes nothing.
-use Rattle.std.proofs.Common.{◌≡◌, ℕ, ◌+◌, ◌-◌, ◌%◌, ◌<◌, ◌≤◌, false, leb, List, length, get_or, take, drop, sym, refl, ap, ◌∙◌, arith, length-drop}
-use Rattle.std.specs.Prelude.{Result, Ok, Err}
+use Rattle.std.proofs.Common.{◌≡◌, ℕ, ◌+◌, ◌-◌, ◌%◌, ◌<◌, ◌≤◌, false, leb, List, length, get_or, drop, sym, refl, ap, ◌∙◌, arith, length-drop}
+use Rattle.std.specs.Prelude.{Result, Ok, Err, [], ◌*◌, ◌/◌}
+use Rattle.std.specs.Simd.{first_chunks}
 use Rattle.wire.specs.Verdict.{Verdict, fine, unless}
 use Rattle.wire.proofs.AnswerLaws.{answer_fine, answer_refused}
-use Rattle.wire.proofs.Turn.{rest, Counted, count_start, count_step, count_stop, count_done}
+use Rattle.wire.proofs.Turn.{Counted, count_start, count_step, count_stop, count_done}
 use Rattle.wire.specs.Walk.{Step, took, stop, tally}
 use Rattle.wire.proofs.WalkLaws.{all_ind, tally_flat}
 use Rattle.wire.specs.declared.refusal.Refusal.{Refusal}
@@ -13,7 +14,8 @@ use Rattle.families.specs.Family.{id_size, mark_of, octets}
 use Rattle.families.specs.declared.Form.{Form}
 use Rattle.routes.specs.declared.Row.{Row}
 use Rattle.route_bytes.specs.Encode.{row_bytes, writable, front_row, write_step, writing, bytes_of}
-use Rattle.route_bytes.proofs.EncodeLaws.{WritableRow, write_took, took_write, write_stop, stop_write, write_sound, write_light, front_parts, no_and}
+use Rattle.route_bytes.proofs.EncodeLaws.{WritableRow, write_took, took_write, write_stop, stop_write, step_row, write_sound, write_light, front_parts, no_and}
+use Rattle.route_bytes.proofs.Rows.{row_words}
 use Rattle.route_bytes.specs.Promises.{measured}
 use Rattle.route_bytes.specs.Private.{size_by}
 
@@ -71,38 +73,41 @@ sizing_cut ws max form cut =
     tt ws in
     sym (measured_bad ws max form NotWritable (odd cut))
 
--- at its head: the rows before `at` take `total` bytes
+-- at its head: the rows before the one at `at` take `total` bytes
 abbrev pub Sizing : List ℕ → ℕ → Form → ℕ → ℕ → Type 0
-Sizing ws max form at total = Counted (write_step max form) (λ row. length (row_bytes form row)) 4 tt ws tt at total
+Sizing ws max form at total = Counted (write_step max form) (λ row. length (row_bytes form row)) 4 tt ws tt (6 * at) total
 
 module _ (ws : List ℕ) (max : ℕ) (form : Form) (small : max ≤ 128) where
   pub sizing_start : Sizing ws max form 0 0
   sizing_start = count_start (write_step max form) (write_sound max form) (λ row. length (row_bytes form row)) 4 (write_light max form small) tt ws
 
-  module _ (at total : ℕ) (h : Sizing ws max form at total) where
+  module _ (rows : List (List ℕ)) (are : rows ≡ first_chunks 6 (length ws / 6) ws) (many : length rows ≡ length ws / 6) (at total : ℕ) (h : Sizing ws max form at total) where
     -- none are left
-    pub sizing_done : length ws ≤ at → Ok total ≡ measured ws max form
+    pub sizing_done : length ws % 6 ≡ 0 → length rows ≤ at → Ok total ≡ measured ws max form
     unfolding writing
-    sizing_done le =
+    sizing_done whole le =
         sym (measured_good ws max form total
-        (count_done (write_step max form) (write_sound max form) (λ row. length (row_bytes form row)) 4 (write_light max form small) tt ws tt at total h le))
+        (count_done (write_step max form) (write_sound max form) (λ row. length (row_bytes form row)) 4 (write_light max form small) tt ws tt (6 * at) total h (omega arith)))
 
-    -- the size of the next row, as read from the part `&ws[at..]`
-    module _ (x : Result ℕ Refusal) (e : x ≡ size_by form (write_step max form tt (take (length ws - at) (drop at ws)))) where
-      here : size_by form (write_step max form tt (drop at ws)) ≡ x
-      here = sym (rw rest at e)
+    -- the size of the next one
+    module _ (lt : at < length rows) (x : Result ℕ Refusal) (e : x ≡ size_by form (write_step max form tt (get_or rows at []))) where
+      here : size_by form (write_step max form tt (drop (6 * at) ws)) ≡ x
+      here =
+          sym (e
+          ∙ ap (λ (row : List ℕ). size_by form (write_step max form tt row)) (row_words ws rows are at (omega arith))
+          ∙ ap (size_by form) (step_row max form tt (drop (6 * at) ws) (omega (arith, length-drop (6 * at) ws))))
 
-      pub sizing_step : (n : ℕ) → x ≡ Ok n → Sizing ws max form (at + 6) (total + n)
+      pub sizing_step : (n : ℕ) → x ≡ Ok n → Sizing ws max form (at + 1) (total + n)
       sizing_step n f =
-          let u = unsize form (write_step max form tt (drop at ws)) n (here ∙ f) in
-          let six = (write_took max form tt tt (drop at ws) u.0 u.1 u.2).size in
-          let took_six = u.2 ∙ ap (λ (k : ℕ). took k u.1 tt) six in
-          rw (← u.3)
-          (count_step (write_step max form) (write_sound max form) (λ q. length (row_bytes form q)) 4 (write_light max form small) tt ws tt at total h tt 6 u.1 took_six)
+          let u = unsize form (write_step max form tt (drop (6 * at) ws)) n (here ∙ f) in
+          let six = (write_took max form tt tt (drop (6 * at) ws) u.0 u.1 u.2).size in
+          let next : 6 * at + u.0 ≡ 6 * (at + 1) = omega arith in
+          rw (← u.3, ← next)
+          (count_step (write_step max form) (write_sound max form) (λ row. length (row_bytes form row)) 4 (write_light max form small) tt ws tt (6 * at) total h tt u.0 u.1 u.2)
 
-      pub sizing_refused : (r : Refusal) → x ≡ Err r → at < length ws → Err r ≡ measured ws max form
+      pub sizing_refused : (r : Refusal) → x ≡ Err r → Err r ≡ measured ws max form
       unfolding writing
-      sizing_refused r f lt =
+      sizing_refused r f =
           sym (measured_bad ws max form r
-          (count_stop (write_step max form) (write_sound max form) (λ row. length (row_bytes form row)) 4 (write_light max form small) tt ws tt at total h r lt
-          (unsize_stop form (write_step max form tt (drop at ws)) r (here ∙ f))))
+          (count_stop (write_step max form) (write_sound max form) (λ row. length (row_bytes form row)) 4 (write_light max form small) tt ws tt (6 * at) total h r (omega arith)
+          (unsize_stop form (write_step max form tt (drop (6 * at) ws)) r (here ∙ f))))

@@ -63,50 +63,40 @@ fn clear_past(n: usize, max: u8, w0: u32, w1: u32, w2: u32, w3: u32) -> bool
     clear_half(y, n - 8)
 }
 
-// How many bytes the row at the front takes. A first word under the form's mark wraps to a length over every maximum.
-fn row_size(ws: &[u32], max: u8, form: Form) -> Result<usize, Refusal>
-    requires { (max ≤ 128) × (6 ≤ length ws.now) }
-    ensures { result ≡ size_by form (write_step max form tt ws.now) }
+// How many bytes a row takes. A first word under the form's mark wraps to a length over every maximum.
+#[inline(always)]
+fn row_size(row: &[u32; 6], max: u8, form: Form) -> Result<usize, Refusal>
+    requires { max ≤ 128 }
+    ensures { result ≡ size_by form (write_step max form tt row.now) }
 {
-    let len = ws[0].wrapping_sub(families::mark_of(form));
+    let [first, id, w0, w1, w2, w3] = *row;
+    let len = first.wrapping_sub(families::mark_of(form));
     if u32::from(max) < len {
         return Err(Refusal::NotWritable);
     }
-    if !id_fits(ws[1], form) {
+    if !id_fits(id, form) {
         return Err(Refusal::NotWritable);
     }
     let n = families::octet_count(len as u8);
-    if !clear_past(n, max, ws[2], ws[3], ws[4], ws[5]) {
+    if !clear_past(n, max, w0, w1, w2, w3) {
         return Err(Refusal::NotWritable);
     }
     Ok(families::id_size(form) + 1 + n)
 }
 
-// The same, with a copy of it for each form: a loop over rows is then one for each form too, and asks for it no more.
-fn row_size_by_form(ws: &[u32], max: u8, form: Form) -> Result<usize, Refusal>
-    requires { (max ≤ 128) × (6 ≤ length ws.now) }
-    ensures { result ≡ size_by form (write_step max form tt ws.now) }
-{
-    match form {
-        Form::Plain => row_size(ws, max, Form::Plain),
-        Form::Tagged => row_size(ws, max, Form::Tagged),
-    }
-}
-
 // How many bytes the rows take, none over the maximum length.
 #[inline(always)]
-fn size_rows(ws: &[u32], max: u8, form: Form) -> Result<usize, Refusal>
+fn size_rows(words: &[u32], max: u8, form: Form) -> Result<usize, Refusal>
     requires { max ≤ 128 }
-    ensures { result ≡ measured ws.now max form }
+    ensures { result ≡ measured words.now max form }
 {
-    if ws.len() % 6 != 0 {
+    let (rows, rest) = words.as_chunks::<6>();
+    if !rest.is_empty() {
         return Err(Refusal::NotWritable);
     }
-    let mut at: usize = 0;
     let mut total: usize = 0;
-    while at < ws.len() {
-        total = total + row_size_by_form(&ws[at..], max, form)?;
-        at = at + 6;
+    for row in rows {
+        total += row_size(row, max, form)?;
     }
     Ok(total)
 }
@@ -116,8 +106,10 @@ fn size_rows(ws: &[u32], max: u8, form: Form) -> Result<usize, Refusal>
 pub fn measure_nlri_prefixes(rows: &[u32], afi: Afi, form: Form) -> Result<usize, Refusal>
     ensures { result ≡ measured rows.now (max_of afi) form }
 {
-    match afi {
-        Afi::Ipv4 => size_rows(rows, 32, form),
-        Afi::Ipv6 => size_rows(rows, 128, form),
+    match (afi, form) {
+        (Afi::Ipv4, Form::Plain) => size_rows(rows, 32, Form::Plain),
+        (Afi::Ipv4, Form::Tagged) => size_rows(rows, 32, Form::Tagged),
+        (Afi::Ipv6, Form::Plain) => size_rows(rows, 128, Form::Plain),
+        (Afi::Ipv6, Form::Tagged) => size_rows(rows, 128, Form::Tagged),
     }
 }

@@ -1,6 +1,6 @@
 -- Laws of asking by an index: how it is judged place by place, and what passing over items leads to.
 -- Assumes nothing.
-use Prim.Native.Nat.{ℕ, zero, suc, ◌+◌, ◌/◌, ◌%◌, ◌≤◌, ◌<◌}
+use Prim.Native.Nat.{ℕ, zero, suc, ◌+◌, ◌-◌, ◌/◌, ◌%◌, ◌≤◌, ◌<◌}
 use mathlib.Core.Path.{◌≡◌, refl, sym, ap, ◌∙◌}
 use mathlib.Core.List.{List, [], ◌∷◌}
 use mathlib.Core.Bool.{Bool, true, false, ◌&&◌}
@@ -69,37 +69,44 @@ pairs_last end zero (p ∷ []) h = refl
 pairs_last end zero (p ∷ q ∷ l) h = absurd (omega arith)
 pairs_last end (suc i) (p ∷ l) h = pairs_last end i l (omega arith)
 
--- at the head of the loop: what was judged, and the places from i on
+-- at the head of the loop: what was judged, and the places from the last of these on
 pub record Judging (end : ℕ) (index : List ℕ) (rises : Bool) (i : ℕ) : Type 0 where
-  pub within : i < length index
-  pub same : (rises && pairs end (drop i index)) ≡ is_index end index
+  pub some : 0 < i
+  pub within : i ≤ length index
+  pub same : (rises && pairs end (drop (i - 1) index)) ≡ is_index end index
 
 pub judge_none : (end : ℕ) (index : List ℕ) → length index ≡ 0 → true ≡ is_index end index
 unfolding is_index
 judge_none end [] e = refl
 judge_none end (p ∷ ps) e = absurd (omega arith)
 
-pub judge_start : (end : ℕ) (index : List ℕ) → 0 < length index → Judging end index (eqb (get_or index 0 0) 0) 0
+pub judge_start : (end : ℕ) (index : List ℕ) → 0 < length index → Judging end index (eqb (get_or index 0 0) 0) 1
 unfolding is_index
 judge_start end [] some = absurd (not-suc-le-zero some)
-judge_start end (p ∷ ps) some = record { within = some; same = ap (λ (b : Bool). eqb p 0 && b) (pairs_rising end p ps) }
+judge_start end (p ∷ ps) some = record { some = omega arith; within = some; same = ap (λ (b : Bool). eqb p 0 && b) (pairs_rising end p ps) }
 
-module _ (end : ℕ) (index : List ℕ) (rises : Bool) (i : ℕ) (h : Judging end index rises i) where
-  pub judge_step : i + 1 < length index → Judging end index (rises && ltb (get_or index i 0) (get_or index (i + 1) 0)) (i + 1)
+module _ {end : ℕ} {index : List ℕ} {rises : Bool} {i : ℕ} (h : Judging end index rises i) where
+  pub judge_step : i < length index → Judging end index (rises && ltb (get_or index (i - 1) 0) (get_or index i 0)) (i + 1)
   judge_step lt =
-      let next : i + 1 ≡ suc i = omega arith in
+      let before : i ≡ suc (i - 1) = omega (arith, h.some) in
+      let pair : Bool = ltb (get_or index (i - 1) 0) (get_or index i 0) in
       record {
-        within = lt;
+        some = omega arith;
+        within = omega (arith, lt);
         same =
-            ap (λ (j : ℕ). (rises && ltb (get_or index i 0) (get_or index j 0)) && pairs end (drop j index)) next
-            ∙ sym (and_assoc rises (ltb (get_or index i 0) (get_or index (suc i) 0)) (pairs end (drop (suc i) index)))
-            ∙ ap (λ (b : Bool). rises && b) (sym (pairs_next end i index (omega (arith, lt))))
+            ap (λ (j : ℕ). (rises && pair) && pairs end (drop j index)) (let one : i + 1 - 1 ≡ i = omega arith in one)
+            ∙ sym (and_assoc rises pair (pairs end (drop i index)))
+            ∙ ap (λ (j : ℕ). rises && (ltb (get_or index (i - 1) 0) (get_or index j 0) && pairs end (drop j index))) before
+            ∙ ap (λ (b : Bool). rises && b) (sym (pairs_next end (i - 1) index (omega (arith, lt, before))))
             ∙ h.same;
       }
 
-  pub judge_done : (last : ℕ) → i ≡ last → suc last ≡ length index → (rises && ltb (get_or index last 0) end) ≡ is_index end index
-  judge_done last e all =
-      ap (λ (b : Bool). rises && b) (sym (pairs_last end last index all)) ∙ ap (λ (j : ℕ). rises && pairs end (drop j index)) (sym e) ∙ h.same
+  pub judge_done : length index ≤ i → (rises && ltb (get_or index (length index - 1) 0) end) ≡ is_index end index
+  judge_done all =
+      let last : i - 1 ≡ length index - 1 = omega (arith, h.within, all) in
+      ap (λ (j : ℕ). rises && ltb (get_or index j 0) end) (sym last)
+      ∙ ap (λ (b : Bool). rises && b) (sym (pairs_last end (i - 1) index (omega (arith, h.some, h.within, all))))
+      ∙ h.same
 
 -- ---- the route at a place
 

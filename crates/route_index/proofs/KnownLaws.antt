@@ -61,36 +61,44 @@ module _ (read : Reader) (form : Form) (s : List ℕ) (fair : Fair read) (n at :
   known_item = item_on (read (drop at s) form) refl
 
 -- by a table, which says how long it is
-module _ (counts : List ℕ) (form : Form) (s : List ℕ) (n at : ℕ) (some : 0 < n) (h : Remain (by_table counts) form s n at) where
-  abbrev pub size_at : ℕ
-  size_at = id_size form + 1 + entry counts (get_or s (at + id_size form) 0)
+abbrev size_at : List ℕ → Form → List ℕ → ℕ → ℕ
+size_at counts form s at = id_size form + 1 + entry counts (get_or s (at + id_size form) 0)
 
-  pub known_turn : (at + size_at ≤ length s) × (skipped (by_table counts) form s n at ≡ skipped (by_table counts) form s (n - 1) (at + size_at)) × Remain (by_table counts) form s (n - 1) (at + size_at)
+module _ (counts : List ℕ) {form : Form} {s : List ℕ} {n at : ℕ} (some : 0 < n) (h : Remain (by_table counts) form s n at) where
+  known_turn : let next = at + size_at counts form s at in
+      (next ≤ length s) × (skipped (by_table counts) form s n at ≡ skipped (by_table counts) form s (n - 1) next) × Remain (by_table counts) form s (n - 1) next
   known_turn =
       let k = known_item (by_table counts) form s (fair_table counts) n at some h in
-      let size : k.0.used ≡ size_at =
+      let size : k.0.used ≡ size_at counts form s at =
       table_size counts (drop at s) form k.0.used k.0.row k.1 ∙ ap (λ (b : ℕ). id_size form + 1 + entry counts b) (get_or-drop at s (id_size form) 0) in
       rw (← size) k.2
 
+  -- its length byte stands there
+  pub known_there : at + id_size form < length s
+  known_there = omega (arith, known_turn.0)
+
 -- ---- items of one size
 
-module _ (counts : List ℕ) (form : Form) (s : List ℕ) (k n most from : ℕ) (id : k ≡ id_size form) where
-  abbrev Ahead : ℕ → ℕ → Type 0
-  Ahead left at = (at ≤ length s) × Passes (by_table counts) form s most from left at × Remain (by_table counts) form s left at
+-- at the head of the loop: some are passed, and as many as are left remain
+pub record Ahead (counts : List ℕ) (form : Form) (s : List ℕ) (most from left at : ℕ) : Type 0 where
+  pub passes : Passes (by_table counts) form s most from left at
+  pub remain : Remain (by_table counts) form s left at
 
+module _ (counts : List ℕ) {form : Form} {s : List ℕ} {most from k n : ℕ} (id : k ≡ id_size form) where
   -- the first
-  pub known_start : 0 < most → n ≡ entry counts (get_or s (from + id_size form) 0) → Remain (by_table counts) form s most from → Ahead (most - 1) (from + (k + 1 + n))
-  known_start some says h =
-      let t = known_turn counts form s most from some h in
-      rw (id, says) (t.0, record { fewer = omega (arith, some); onwards = omega arith; within = t.0; same = t.1 }, t.2)
+  pub known_start : 0 < most → Remain (by_table counts) form s most from → n ≡ entry counts (get_or s (from + id_size form) 0)
+      → (from + (k + 1 + n) ≤ length s) × Ahead counts form s most from (most - 1) (from + (k + 1 + n))
+  known_start some h says =
+      let t = known_turn counts some h in
+      rw (id, says) (t.0, record { passes = record { fewer = omega (arith, some); onwards = omega arith; within = t.0; same = t.1 }; remain = t.2 })
 
   -- and the next one, as long
-  pub known_next : (left at : ℕ) → Passes (by_table counts) form s most from left at × Remain (by_table counts) form s left at → 0 < left → entry counts (get_or s (at + id_size form) 0) ≡ n
-      → Ahead (left - 1) (at + (k + 1 + n))
-  known_next left at h some says =
-      let t = known_turn counts form s left at some h.1 in
-      rw (id, ← says)
-      (t.0, record { fewer = omega (arith, h.0.fewer, some); onwards = omega (arith, h.0.onwards); within = t.0; same = h.0.same ∙ t.1 }, t.2)
+  pub known_next : {left at : ℕ} → Ahead counts form s most from left at → 0 < left → n ≡ entry counts (get_or s (at + id_size form) 0)
+      → (at + (k + 1 + n) ≤ length s) × Ahead counts form s most from (left - 1) (at + (k + 1 + n))
+  known_next h some says =
+      let t = known_turn counts some h.remain in
+      rw (id, says)
+      (t.0, record { passes = record { fewer = omega (arith, h.passes.fewer, some); onwards = omega (arith, h.passes.onwards); within = t.0; same = h.passes.same ∙ t.1 }; remain = t.2 })
 
 -- ---- the loop that puts
 
@@ -120,45 +128,57 @@ module _ (read : Reader) (form : Form) (s : List ℕ) (fair : Fair read) (at : �
       let lt = inside read form s fair 1 at (omega arith) h in
       (_, ap (sixteenths 0) (item_took read form s fair at k.0 lt k.1).3, lt)
 
--- at its head: `at` is the last place that was put, 0 the first, and the places after 0 are j of d and those after `at`
-pub record Putting (read : Reader) (form : Form) (s d : List ℕ) (at j : ℕ) : Type 0 where
-  pub left : List ℕ
-  pub here : places_from read form s at ≡ at ∷ left
-  pub good : verdict_from read form s at ≡ fine
-  pub long : suc (length d) ≡ length (index_by read s form)
-  pub so_far : 0 ∷ (take j d ++ left) ≡ index_by read s form
+-- at its head: while there are places to put, those before place i stand in the store and those from `at` on are the rest; and else all stand there
+pub record Putting (read : Reader) (form : Form) (s d : List ℕ) (at i : ℕ) : Type 0 where
+  pub long : length d ≡ length (index_by read s form)
+  pub going : i < length d → (verdict_from read form s at ≡ fine) × (take i d ++ places_from read form s at ≡ index_by read s form)
+  pub done : length d ≤ i → d ≡ index_by read s form
 
-module _ {read : Reader} {form : Form} {s : List ℕ} where
-  pub putting_none : {store : List ℕ} → Fitting read s form store → length store ≡ 0 → store ≡ index_by read s form
-  putting_none {store} fits none = nothing store none ∙ sym (nothing (index_by read s form) (omega (arith, fits.room, none)))
+pub putting_start : {read : Reader} {form : Form} {s d : List ℕ} → Fitting read s form d → Putting read form s d 0 0
+putting_start {read} {form} {s} {d} fits = record {
+  long = sym fits.room;
+  going = λ _. (ap (λ (r : Reading Row). r.verdict) (sym (list_fixed read s form)) ∙ fits.good, sym (index_is read form s));
+  done = λ none. nothing d (omega (arith, none)) ∙ sym (nothing (index_by read s form) (omega (arith, fits.room, none)));
+}
 
-  pub putting_start : Fair read → {store d : List ℕ} → Fitting read s form store → length d + 1 ≡ length store → Putting read form s d 0 0
-  putting_start fair fits long =
-      let good : verdict_from read form s 0 ≡ fine = ap (λ (r : Reading Row). r.verdict) (sym (list_fixed read s form)) ∙ fits.good in
-      let first = first_place read form s fair 0 good (omega (arith, ap length (index_is read form s), fits.room, long)) in
-      record { left = first.0; here = first.1; good = good; long = omega (arith, fits.room, long); so_far = sym first.1 ∙ sym (index_is read form s) }
+module _ {read : Reader} {form : Form} {s d : List ℕ} {at i : ℕ} (fair : Fair read) (h : Putting read form s d at i) (lt : i < length d) where
+  still : length (places_from read form s at) ≡ length d - i
+  still = omega (arith, h.long, ap length (h.going lt).1, length-append (take i d) (places_from read form s at), length-take-le i d (omega (arith, lt)))
 
-  module _ {d : List ℕ} {at j : ℕ} (fair : Fair read) (h : Putting read form s d at j) where
-    still : j ≤ length d → length h.left ≡ length d - j
-    still le = omega (arith, h.long, ap length h.so_far, length-append (take j d) h.left, length-take-le j d le)
+  here : (left : List ℕ) × (places_from read form s at ≡ at ∷ left) × (at < length s)
+  here = first_place read form s fair at (h.going lt).0 (omega (arith, still, lt))
 
-    pub putting_done : length d ≡ j → 0 ∷ d ≡ index_by read s form
-    putting_done e =
-        let none : h.left ≡ [] = nothing h.left (omega (arith, still (omega (arith, e)), e)) in
-        ap (λ (l : List ℕ). 0 ∷ l) (sym (append-nil d) ∙ ap₂ (λ (l r : List ℕ). l ++ r) (sym (take_all j d (omega (arith, e)))) (sym none)) ∙ h.so_far
+  pub putting_inside : at < length s
+  putting_inside = here.2
 
-    module _ (lt : j < length d) where
-      pub putting_more : Remain read form s 16 at
-      putting_more = many_items read form s fair at h.good 16 (omega (arith, ap length h.here, still (omega (arith, lt)), lt))
+  put : take (i + 1) (set d i at) ++ here.0 ≡ index_by read s form
+  put =
+      ap (λ (l : List ℕ). l ++ here.0) (take_more_set d i at lt)
+      ∙ append_assoc (take i d) (at ∷ []) here.0
+      ∙ ap (λ (l : List ℕ). take i d ++ l) (sym here.1)
+      ∙ (h.going lt).1
 
-      pub putting_next : {next : ℕ} → Ok next ≡ skipped read form s 16 at → (next < length s) × Putting read form s (set d j next) next (j + 1)
-      putting_next {next} e =
-          let b = block_took read form s fair at next (first_place read form s fair at h.good (omega (arith, ap length h.here))).2 (sym e) in
-          let rest : h.left ≡ places_from read form s next = ap tail (sym h.here ∙ b.3) in
-          let good : verdict_from read form s next ≡ fine = sym b.2 ∙ h.good in
-          let first = first_place read form s fair next good (omega (arith, ap length rest, still (omega (arith, lt)), lt)) in
-          let put : take (j + 1) (set d j next) ++ first.0 ≡ take j d ++ h.left =
-          ap (λ (l : List ℕ). l ++ first.0) (take_more_set d j next lt) ∙ append_assoc (take j d) (next ∷ []) first.0 ∙ ap (λ (l : List ℕ). take j d ++ l) (sym (rest ∙ first.1)) in (
-            first.2,
-            record { left = first.0; here = first.1; good = good; long = ap suc (length-set d j next) ∙ h.long; so_far = ap (λ (l : List ℕ). 0 ∷ l) put ∙ h.so_far },
-          )
+  set_long : length (set d i at) ≡ length d
+  set_long = length-set d i at
+
+  pub putting_last : length d ≤ i + 1 → Putting read form s (set d i at) at (i + 1)
+  putting_last last =
+      let none : here.0 ≡ [] = nothing here.0 (omega (arith, ap length here.1, still, last, lt)) in
+      record {
+        long = set_long ∙ h.long;
+        going = λ more. absurd (omega (arith, more, set_long, last));
+        done = λ _. sym (append-nil (set d i at)) ∙ ap₂ (λ (l r : List ℕ). l ++ r) (sym (take_all (i + 1) (set d i at) (omega (arith, set_long, last)))) (sym none) ∙ put;
+      }
+
+  pub putting_more : i + 1 < length d → Remain read form s 16 at
+  putting_more more = many_items read form s fair at (h.going lt).0 16 (omega (arith, still, more))
+
+  pub putting_next : i + 1 < length d → {next : ℕ} → Ok next ≡ skipped read form s 16 at → Putting read form s (set d i at) next (i + 1)
+  putting_next more {next} e =
+      let b = block_took read form s fair at next here.2 (sym e) in
+      let left : here.0 ≡ places_from read form s next = ap tail (sym here.1 ∙ b.3) in
+      record {
+        long = set_long ∙ h.long;
+        going = λ _. (sym b.2 ∙ (h.going lt).0, ap (λ (l : List ℕ). take (i + 1) (set d i at) ++ l) (sym left) ∙ put);
+        done = λ none. absurd (omega (arith, none, set_long, more));
+      }

@@ -26,7 +26,7 @@ use Rattle.routes.specs.Prefix.{word_at, row_of, item_row, words}
 use Rattle.routes.proofs.PrefixLaws.{item_row_lem}
 use Rattle.routes.specs.Private.{Bounded}
 use Rattle.routes.specs.declared.Row.{Row}
-use Rattle.route_reader.specs.Private.{head_words, address_words, masks}
+use Rattle.route_reader.specs.Private.{head_words, address_words, all_masks}
 
 -- ---- a number of w bytes with all but its first m cleared
 
@@ -69,11 +69,11 @@ word_lt o i h = be_at_lt o i 4 h
 
 -- ---- a word under the mask of the first n octets
 
-mask_word : (d : ℕ) → d < 29 → be_at masks d 4 ≡ 4294967296 - 2 ^ (32 - 8 * (16 - d))
+mask_word : (d : ℕ) → d < 29 → be_at all_masks d 4 ≡ 4294967296 - 2 ^ (32 - 8 * (16 - d))
 unfolding be_at
-mask_word d lt = eqb-true _ _ (below_at (λ (d : ℕ). eqb (be (padded 4 (drop d masks))) (4294967296 - 2 ^ (32 - 8 * (16 - d)))) 29 d refl lt)
+mask_word d lt = eqb-true _ _ (below_at (λ (d : ℕ). eqb (be (padded 4 (drop d all_masks))) (4294967296 - 2 ^ (32 - 8 * (16 - d)))) 29 d refl lt)
 
-pub masked : (t : List ℕ) (n i x y : ℕ) → Bytes t → n ≤ 16 → i ≤ 12 → x ≡ be_at t i 4 → y ≡ be_at masks (16 - n + i) 4 → bit_and x y ≡ be_at (take n t) i 4
+pub masked : (t : List ℕ) (n i x y : ℕ) → Bytes t → n ≤ 16 → i ≤ 12 → x ≡ be_at t i 4 → y ≡ be_at all_masks (16 - n + i) 4 → bit_and x y ≡ be_at (take n t) i 4
 masked t n i x y h few place e f =
     let j : ℕ = 32 - (32 - 8 * (n - i)) in
     let k : ℕ = 32 - 8 * (n - i) in
@@ -94,7 +94,7 @@ unfolding be_at
 word_within t k i le = ap (λ (o : List ℕ). be (padded 4 o)) (drop_take i k t) ∙ ap be (padded_of_more 4 (k - i) (drop i t) (omega arith))
 
 -- as a reader has the two: the first sixteen octets of s, and sixteen of a table of masks from the place of the mask on
-pub masked_first : (s table : List ℕ) (n : ℕ) → Bytes s → table ≡ masks → n ≤ 16 → (i x y : ℕ) → i ≤ 12
+pub masked_first : (s table : List ℕ) (n : ℕ) → Bytes s → table ≡ all_masks → n ≤ 16 → (i x y : ℕ) → i ≤ 12
     → x ≡ be_at (take 16 s) i 4 → y ≡ be_at (take (16 - n + 16 - (16 - n)) (drop (16 - n) table)) i 4 → bit_and x y ≡ be_at (take n s) i 4
 unfolding be_at
 masked_first s table n h e few i x y le f g =

@@ -22,8 +22,8 @@ pub record Octets (most n : ℕ) (s : List ℕ) : Type 0 where
   pub there : n ≤ length s
 
 -- sixteen octets of ones and sixteen of zeros: the mask of the first n of sixteen octets stands from place 16 - n on
-abbrev pub masks : List ℕ
-masks = replicate 16 255 ++ replicate 16 0
+abbrev pub all_masks : List ℕ
+all_masks = replicate 16 255 ++ replicate 16 0
 
 -- a good reading whose rows fit a store: what filling asks
 pub record Fitting (r : Reading Row) (store : List ℕ) : Type 0 where

@@ -90,6 +90,7 @@ pub fn announced_part(body: &[u8]) -> &[u8]
 }
 
 // How many routes both sections have, and how many of them have a bit set past their length: IPv4 ones, as the body of an UPDATE has them.
+#[inline(always)]
 pub fn count_bgp_update_message(body: &[u8], mode: AddPath) -> Result<Update, Refusal>
     ensures { result ≡ count_update body.now mode }
 {

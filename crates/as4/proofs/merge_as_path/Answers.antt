@@ -48,11 +48,10 @@ fill_built-requires c =
     let pairs = sym (ap (λ (l : List Segment). length (flat pair_of l)) m.rows) ∙ pairs_length _ ∙ ap (λ (s : Path). 2 * s.segments) m.size in
     let numbers = sym (ap (λ (l : List Segment). length (flat asns_of l)) m.rows) ∙ ap (λ (s : Path). s.numbers) m.size in
     record {
-      as_path_len_bound = m.short.0;
+      short = m.short.0;
       front = m.front;
-      as4_path_value = m.sound;
-      as4_path_in_bounds = omega (arith, pairs, c.if-pairs-path.false);
-      as4_path_in_bounds_2 = omega (arith, numbers, c.if-numbers-path.false);
+      good = m.sound;
+      room = record { pairs = omega (arith, pairs, c.if-pairs-path.false); numbers = omega (arith, numbers, c.if-numbers-path.false) };
     }
 
 pub returns-else-numbers-path : goal.returns-else-numbers-path

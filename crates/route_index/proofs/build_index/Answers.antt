@@ -20,11 +20,16 @@ returns-then-places-n c =
     let both = build_full (up_to (max_of a.afi)) a.s.now a.form a.places.now _ (sym (c.in_ok-n.ensures ∙ count_family _ a.afi c.counts-counts.ensures a.s.now a.form)) c.if-places-n.true in
     record { answer = both.0; store = both.1 }
 
+pub invariant_of-items : goal.invariant_of-items
+invariant_of-items c =
+    let a = c.args in
+    record { short = (fits_table _ a.afi c.counts-counts.ensures a.s.now a.form a.places.now _ c.in_ok-n.ensures c.if-places-n.false).0 }
+
 pub put_places-requires : goal.put_places-requires
 put_places-requires c =
     let a = c.args in
     let both = fits_table _ a.afi c.counts-counts.ensures a.s.now a.form a.places.now _ c.in_ok-n.ensures c.if-places-n.false in
-    record { short = both.0; fitting = both.1 }
+    both.1
 
 pub returns : goal.returns
 returns c =

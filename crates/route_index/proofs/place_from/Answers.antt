@@ -7,4 +7,4 @@ use Rattle.route_index.proofs.place_from.Goals as goal
 pub returns : goal.returns
 returns c =
     let a = c.args in
-    c.pass_items.ensures ∙ ap (λ (read : Reader). skipped read a.form a.s.now a.n a.from) (item_family _ a.afi c.counts.ensures)
+    c.pass.ensures ∙ ap (λ (read : Reader). skipped read a.form a.s.now a.n a.from) (item_family _ a.afi c.counts.ensures)

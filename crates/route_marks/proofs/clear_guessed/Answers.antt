@@ -1,10 +1,8 @@
-use Prim.Native.Nat.{ℕ, ◌/◌}
-use mathlib.Core.Path.{◌≡◌, ap, ◌∙◌}
+use Prim.Native.Nat.{◌+◌, ◌*◌}
+use mathlib.Core.Path.{◌≡◌, subst, ◌∙◌}
 use native.Mathlib.Omega.{arith}
-use Rattle.std.specs.Prelude.{Ok}
-use Rattle.route_marks.specs.Marks.{cleared}
-use Rattle.route_marks.proofs.ClearLaws.{clearing_step, clearing_done, clear_whole, clear_part}
-use Rattle.route_marks.proofs.clear_guessed.Goals.{else-loop-at-test, then-loop-at-test+else-at-end-at-gt6}
+use lib.ListN.{set}
+use Rattle.route_marks.proofs.ClearLaws.{Clearing, clearing_step, clearing_done, clear_whole, clear_part}
 use Rattle.route_marks.proofs.clear_guessed.Goals as goal
 
 pub returns-then-store-ne0 : goal.returns-then-store-ne0
@@ -12,20 +10,17 @@ returns-then-store-ne0 c =
     let both = clear_part c.args.store.now (λ z. c.if-store-ne0.true z) in
     record { answer = both.0; store = both.1 }
 
-pub loop-at-preserved : goal.loop-at-preserved
-loop-at-preserved c =
-    clearing_step c.args.store.now c.loop-at.store c.loop-at.at c.loop-at.invariant (omega (arith, c.loop-at.invariant.long, c.loop-at-test.true)) c.without_mark.result c.without_mark.ensures
+pub loop-row-preserved : goal.loop-row-preserved
+loop-row-preserved c =
+    let on : c.loop-row.row * 6 + 6 ≡ (c.loop-row.row + 1) * 6 = omega arith in
+    subst (Clearing c.args.store.now (set c.loop-row.store (c.loop-row.row * 6) c.without_mark.result)) on
+    (clearing_step c.args.store.now c.loop-row.store (c.loop-row.row * 6) c.loop-row.invariant (omega (arith, c.loop-row.invariant.long, c.loop-row-test.true)) _ c.without_mark.ensures)
 
 pub returns : goal.returns
 returns c =
     let ws = c.args.store.now in
-    let off : c.loop-at-test.store ≡ cleared ws = elim c.loop-at-test.branch [
-      | else-loop-at-test w ↦ w.store-is ∙ clearing_done ws _ _ c.loop-at.invariant (omega (arith, c.loop-at.invariant.long, w.loop-at-test.false))
-      | then-loop-at-test+else-at-end-at-gt6 w ↦ (let last = clearing_step ws _ _ c.loop-at.invariant (omega (arith, c.loop-at.invariant.long, w.loop-at-test.true)) _ w.without_mark.ensures in
-          w.store-is ∙ clearing_done ws _ _ last (grind arith))
-    ] in
     let whole = clear_whole ws (omega (arith, c.if-store-ne0.false)) in
     record {
-      answer = ap (λ (n : ℕ). Ok (n / 6)) (c.loop-at-test.auto.store ∙ c.loop-at.invariant.long) ∙ whole.0;
-      store = off ∙ whole.1;
+      answer = whole.0;
+      store = clearing_done ws c.loop-row.store (c.loop-row.row * 6) c.loop-row.invariant (omega (arith, c.loop-row.invariant.long, c.loop-row-test.false, c.if-store-ne0.false)) ∙ whole.1;
     }

@@ -1,10 +1,6 @@
-use Prim.Native.Nat.{◌-◌}
-use lib.ListN.{length}
+use Prim.Native.Nat.{◌*◌}
 use Rattle.route_marks.proofs.ClearLaws.{Clearing}
 use Rattle.route_marks.proofs.clear_guessed.Given as goal
 
-abbrev pub invariant-loop-at : goal.invariant-loop-at
-invariant-loop-at l = Clearing l.initial.store l.store l.at
-
-abbrev pub decreases-loop-at : goal.decreases-loop-at
-decreases-loop-at l = length l.store - l.at
+abbrev pub invariant-loop-row : goal.invariant-loop-row
+invariant-loop-row l = Clearing l.initial.store l.store (l.row * 6)

@@ -46,15 +46,12 @@ returns-then-store-found c =
       store = l.1;
     }
 
-pub fill_rows-requires : goal.fill_rows-requires
-fill_rows-requires c =
+pub fill-requires : goal.fill-requires
+fill-requires c =
     let a = c.args in
     let t = told a.s.now a.afi a.mode _ c.in_ok-found.ensures.answer (c.put_counts.ensures refl) in
     let h = count_rows a.s.now (list_of a.s.now (max_of a.afi) a.mode) _ t.0 in
-    record {
-      fitting = record { good = h.0; room = omega (arith, h.1, c.if-store-found.false, words_length (list_of a.s.now (max_of a.afi) a.mode).rows) };
-      counts_value = c.put_counts.ensures refl;
-    }
+    record { good = h.0; room = omega (arith, h.1, c.if-store-found.false, words_length (list_of a.s.now (max_of a.afi) a.mode).rows) }
 
 pub returns : goal.returns
 returns c =
@@ -63,5 +60,5 @@ returns c =
     let l = leave_rows a.s.now (list_of a.s.now (max_of a.afi) a.mode) a.store.now _ t.0 c.if-store-found.false in
     record {
       answer = t.1 ∙ beside (hosts_of a.s.now (max_of a.afi) a.mode) _ _ l.0;
-      store = c.fill_rows.ensures ∙ l.1;
+      store = c.fill.ensures ∙ l.1;
     }

@@ -1,13 +1,5 @@
-use mathlib.Core.Path.{refl}
-use native.Mathlib.Omega.{arith}
-use Rattle.paths.specs.declared.PathRule.TheVariants.{Strict}
-use Rattle.firmware.proofs.PathBounds.{how_strict, read_told}
+use Rattle.firmware.proofs.PathBounds.{read_path_narrow}
 use Rattle.firmware.proofs.path.doorbramble_parse_as_path_strict.Goals as goal
 
-pub returns : goal.returns
-returns c =
-    let a = c.args in
-    let h = how_strict a.four_bytes (omega arith) in
-    let e = c.parse_by.ensures in
-    let told = read_told a.value.now _ _ _ Strict a.pairs.now a.numbers.now _ _ _ c.parse_by.result h.1 h.0 e.answer refl e.pairs e.numbers in
-    record { answer = told.0; pairs = told.1.0; numbers = told.1.1 }
+pub path_word-requires : goal.path_word-requires
+path_word-requires c = rw c.parse_as_path.ensures.answer (read_path_narrow _ c.asn_length_of.result _ _ _)
