@@ -18,8 +18,9 @@ fn message_word(a: Result<Message, Refusal>) -> u64
     requires { Narrow (message_fields a) }
     ensures { result ≡ word_of (message_fields a) }
 {
-    a.map_or_else(refused, |m| {
-        word(
+    // By a match: over the closure of map_or_else the compiler makes a table of jumps for the type, and no call may jump through a pointer.
+    match a {
+        Ok(m) => word(
             m.claimed as u16,
             m.taken as u16,
             u16::from(u8::from(m.kind))
@@ -27,8 +28,9 @@ fn message_word(a: Result<Message, Refusal>) -> u64
                 + 512 * (m.cut as u16)
                 + 1024 * (m.trailing as u16),
             0,
-        )
-    })
+        ),
+        Err(why) => refused(why),
+    }
 }
 
 // The header of a message, as the crate reads it.

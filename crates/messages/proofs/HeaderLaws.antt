@@ -14,7 +14,6 @@ use Rattle.std.specs.Prelude.{Result, Ok, Err, Some}
 use Rattle.std.specs.Ordering.{nat_cmp}
 use Rattle.std.specs.Range.{range_inclusive_start, range_inclusive_end, range_inclusive_exhausted, range_inclusive_contains}
 use Rattle.std.proofs.lemmas.Bool.Decides.{nat_tests}
-use Rattle.std.specs.Int.{w64, from_le_bytes}
 use Rattle.wire.specs.Choice.{pick}
 use Rattle.wire.proofs.ChoiceLaws.{pick_eqb, pick_unless}
 use Rattle.wire.specs.Extent.{PartOf}
@@ -39,13 +38,9 @@ unfolding all_ff
 all_ff_append [] t = refl
 all_ff_append (b ∷ s) t = all_ff_byte (eqb b 255) s t (all_ff_append s t)
 
--- the greatest number of eight bytes
-abbrev eight_ones : ℕ
+-- eight octets of ones, as a number
+abbrev pub eight_ones : ℕ
 eight_ones = 18446744073709551615
-
--- eight bytes joined last byte first
-le_eight : (a b c d e f g h : ℕ) → from_le_bytes w64 (a ∷ b ∷ c ∷ d ∷ e ∷ f ∷ g ∷ h ∷ []) ≡ be (h ∷ g ∷ f ∷ e ∷ d ∷ c ∷ b ∷ a ∷ [])
-le_eight a b c d e f g h = omega arith
 
 -- eight bytes are all FF where their number, last byte first, is the greatest of eight bytes
 ones_eight : (a b c d e f g h : ℕ) → a < 256 → b < 256 → c < 256 → d < 256 → e < 256 → f < 256 → g < 256 → h < 256
@@ -71,11 +66,11 @@ ones_eight a b c d e f g h ha hb hc hd he hf hg hh =
     (λ no. ne_eqb n eight_ones (λ q. no (omega arith))))
     (λ no. ne_eqb n eight_ones (λ q. no (omega arith)))
 
-pub ones_word : (s : List ℕ) (at n : ℕ) → Bytes s
-    → n ≡ from_le_bytes w64 (get_or s at 0 ∷ get_or s (at + 1) 0 ∷ get_or s (at + 2) 0 ∷ get_or s (at + 3) 0 ∷ get_or s (at + 4) 0 ∷ get_or s (at + 5) 0 ∷ get_or s (at + 6) 0 ∷ get_or s (at + 7) 0 ∷ [])
-    → eqb n eight_ones ≡ all_ff (padded 8 (drop at s))
-ones_word s at n h e =
-    rw (padded_cells s at 8, e ∙ le_eight _ _ _ _ _ _ _ _)
+pub ones_word : (s : List ℕ) (at : ℕ) → Bytes s
+    → eqb (be (get_or s (at + 7) 0 ∷ get_or s (at + 6) 0 ∷ get_or s (at + 5) 0 ∷ get_or s (at + 4) 0 ∷ get_or s (at + 3) 0 ∷ get_or s (at + 2) 0 ∷ get_or s (at + 1) 0 ∷ get_or s at 0 ∷ [])) eight_ones
+    ≡ all_ff (padded 8 (drop at s))
+ones_word s at h =
+    rw (padded_cells s at 8)
     (ones_eight (get_or s at 0) (get_or s (at + 1) 0) (get_or s (at + 2) 0) (get_or s (at + 3) 0) (get_or s (at + 4) 0) (get_or s (at + 5) 0) (get_or s (at + 6) 0) (get_or s (at + 7) 0)
     (h at) (h (at + 1)) (h (at + 2)) (h (at + 3)) (h (at + 4)) (h (at + 5)) (h (at + 6)) (h (at + 7)))
 

@@ -1,22 +1,20 @@
 -- Laws of a message to write: its header as it is put, and what the output holds.
 -- Assumes nothing.
-use Prim.Native.Nat.{ℕ, ◌+◌, ◌/◌, ◌%◌, ◌≤◌, ◌<◌}
+use Prim.Native.Nat.{ℕ, ◌+◌, ◌*◌, ◌/◌, ◌%◌, ◌≤◌, ◌<◌}
 use mathlib.Core.Path.{◌≡◌, refl, sym, ap, ap₂, ◌∙◌}
-use mathlib.Core.List.{List, ◌∷◌, ◌++◌}
+use mathlib.Core.List.{List, [], ◌∷◌, ◌++◌}
 use mathlib.Core.Bool.{Bool, true, false}
 use native.Mathlib.Omega.{arith}
 use borrow.Author.Tests.{lt-ltb, le-ltb, ltb-false}
-use lib.ListN.{length, get_or, take, drop, set, length-append}
-use lib.Seq.{drop-drop}
-use Rattle.std.specs.Prelude.{replicate}
-use Rattle.std.proofs.Common.{drop-cons}
+use lib.ListN.{length, take, drop, length-append}
 use lib.Dec.{ltb, eqb}
 use Rattle.std.specs.Prelude.{Result, Ok, Err}
 use Rattle.wire.specs.Answer.{filled, count_meaning}
 use Rattle.wire.proofs.ChoiceLaws.{pick_any, pick_eqb, pick_unless}
-use Rattle.wire.specs.Number.{be_at}
+use Rattle.wire.specs.Number.{to_be, be_at}
+use Rattle.wire.proofs.NumberLaws.{to_be_four}
 use Rattle.wire.specs.Store.{laid, placed}
-use Rattle.wire.proofs.StoreLaws.{placed_next}
+use Rattle.wire.proofs.StoreLaws.{placed_next, placed_fits}
 use Rattle.wire.proofs.AnswerLaws.{written_front}
 use Rattle.messages.specs.Header.{open_kind, keepalive_kind, route_refresh_kind, header_size, message_limit, extended_limit, crate_limit, least_length, most_length, is_outside, is_unknown, all_ff, marker_of, claimed_of, kind_of}
 use Rattle.messages.proofs.HeaderLaws.{inside, inside_low, inside_high}
@@ -26,18 +24,37 @@ use Rattle.wire.specs.declared.refusal.Refusal.TheVariants.{MessageType, Message
 
 -- ---- the header
 
--- a byte in place of the first that is left
-put_first : (d : List ℕ) (kind : ℕ) → header_size ≤ length d → set (drop 2 (drop 16 d)) 0 kind ≡ kind ∷ drop header_size d
-put_first d kind room = let first : drop 2 (drop 16 d) ≡ get_or d 18 0 ∷ drop header_size d = drop-drop 2 16 d ∙ drop-cons d 18 0 (omega arith) in ap (λ (l : List ℕ). set l 0 kind) first
+-- length and type, as the first three bytes of one number
+tail_bytes : (total kind : ℕ) → total ≤ extended_limit → kind < 256 → take 3 (to_be 4 (total * 65536 + kind * 256)) ≡ to_be 2 total ++ (kind ∷ [])
+tail_bytes total kind ht hk =
+    let v : ℕ = total * 65536 + kind * 256 in
+    let high : v / 16777216 ≡ total / 256 = omega arith in
+    let low : v / 65536 % 256 ≡ total % 256 / 1 = omega arith in
+    let last : v / 256 % 256 ≡ kind = omega arith in
+    ap (take 3) (to_be_four v) ∙ ap₂ ◌∷◌ high (ap₂ ◌∷◌ low (ap (λ (b : ℕ). b ∷ []) last))
 
--- sixteen octets of ones, two of length and one of type
-pub header_put : (d : List ℕ) (total kind : ℕ) → total < 65536 → header_size ≤ length d
-    → replicate 16 255 ++ ((total / 256 % 256) ∷ (total % 256) ∷ set (drop 2 (drop 16 d)) 0 kind) ≡ laid d 0 (header total kind)
+-- four octets of ones, as a number
+abbrev pub all_ones : ℕ
+all_ones = 4294967295
+
+-- four words of ones, then those three bytes
+pub header_put : (d d₁ d₂ d₃ d₄ d₅ : List ℕ) (total kind : ℕ) → total ≤ extended_limit → kind < 256 → header_size ≤ length d
+    → d₁ ≡ placed d 0 (take 4 (to_be 4 all_ones))
+    → d₂ ≡ placed d₁ 4 (take 4 (to_be 4 all_ones))
+    → d₃ ≡ placed d₂ 8 (take 4 (to_be 4 all_ones))
+    → d₄ ≡ placed d₃ 12 (take 4 (to_be 4 all_ones))
+    → d₅ ≡ placed d₄ 16 (take 3 (to_be 4 (total * 65536 + kind * 256)))
+    → d₅ ≡ laid d 0 (header total kind)
 unfolding header
-header_put d total kind small room =
-    let high : total / 256 % 256 ≡ total / 256 = omega arith in
-    let low : total % 256 ≡ total % 256 / 1 = omega arith in
-    ap (λ (l : List ℕ). replicate 16 255 ++ l) (ap₂ ◌∷◌ high (ap₂ ◌∷◌ low (put_first d kind room)))
+header_put d d₁ d₂ d₃ d₄ d₅ total kind ht hk room e₁ e₂ e₃ e₄ e₅ =
+    let o : List ℕ = 255 ∷ 255 ∷ 255 ∷ 255 ∷ [] in
+    let p₁ : d₁ ≡ laid d 0 o = e₁ ∙ placed_fits d 0 o (omega arith) in
+    let p₂ : d₂ ≡ laid d 0 (o ++ o) = e₂ ∙ ap (λ (l : List ℕ). placed l 4 o) p₁ ∙ placed_next d o 4 o refl (omega arith) in
+    let p₃ : d₃ ≡ laid d 0 ((o ++ o) ++ o) = e₃ ∙ ap (λ (l : List ℕ). placed l 8 o) p₂ ∙ placed_next d (o ++ o) 8 o refl (omega arith) in
+    let p₄ : d₄ ≡ laid d 0 (((o ++ o) ++ o) ++ o) = e₄ ∙ ap (λ (l : List ℕ). placed l 12 o) p₃ ∙ placed_next d ((o ++ o) ++ o) 12 o refl (omega arith) in
+    e₅
+    ∙ ap₂ (λ (l t : List ℕ). placed l 16 t) p₄ (tail_bytes total kind ht hk)
+    ∙ placed_next d (((o ++ o) ++ o) ++ o) 16 (to_be 2 total ++ (kind ∷ [])) refl (omega arith)
 
 pub length_header : (total kind : ℕ) → length (header total kind) ≡ header_size
 unfolding header
@@ -59,6 +76,10 @@ most_crate kind =
     (λ _. let P : ℕ → Type 0 = λ n. header_size ≤ n in
     pick_any P (eqb kind open_kind) message_limit _ (omega arith) (pick_any P (eqb kind keepalive_kind) message_limit extended_limit (omega arith) (omega arith)))
     (λ _. omega arith)
+
+pub over_outside : (lo hi n : ℕ) → hi < n → is_outside lo hi n ≡ true
+unfolding is_outside
+over_outside lo hi n h = rw (lt-ltb hi n h) (pick_any (λ (t : Bool). t ≡ true) (ltb n lo) true true refl refl)
 
 -- ---- the output
 

@@ -9,7 +9,6 @@ use lib.ListN.{length, get_or, take, drop, replicate, length-replicate, length-a
 use lib.Seq.{get_or-drop, take-length}
 use lib.Arith.{digits_lt, digits_div, digits_mod}
 use lib.Pow.{pow-add}
-use Rattle.std.specs.Int.{from_be_bytes, w16, w32}
 use Rattle.wire.specs.Number.{be, to_be, padded, be_at, Bytes}
 
 -- ---- reading and writing are inverse
@@ -190,13 +189,6 @@ four_at s at {c = c} {d = d} e f g h k =
     ∙ ap₂ (λ (a b : ℕ). be (a ∷ b ∷ c ∷ d ∷ [])) f g
     ∙ ap₂ (λ (c d : ℕ). be (get_or s at 0 ∷ get_or s (at + 1) 0 ∷ c ∷ d ∷ [])) h k
     ∙ sym (ap be (padded_cells s at 4))
-
--- std's numbers of so many bytes, the highest first
-pub be_two : (a b : ℕ) → from_be_bytes w16 (a ∷ b ∷ []) ≡ be (a ∷ b ∷ [])
-be_two a b = omega arith
-
-pub be_four : (a b c d : ℕ) → from_be_bytes w32 (a ∷ b ∷ c ∷ d ∷ []) ≡ be (a ∷ b ∷ c ∷ d ∷ [])
-be_four a b c d = omega arith
 
 -- the number of the bytes between two places, from the part that holds them
 pub be_between : (s : List ℕ) (at end n : ℕ) → at + n ≡ end → be_at (take (end - at) (drop at s)) 0 n ≡ be_at s at n

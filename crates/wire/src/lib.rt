@@ -1,8 +1,8 @@
 // Numbers as bytes at a place of a slice, and parts of a slice: reads that take every place. And why calls refuse.
 #![tactic(auto)]
 
-ghost use Rattle.std.specs.Prelude.{◌≡◌, length, get_or};
-ghost use Rattle.wire.specs.Number.{be_at};
+ghost use Rattle.std.specs.Prelude.{◌≡◌, [], ◌∷◌, length, get_or};
+ghost use Rattle.wire.specs.Number.{be, be_at};
 ghost use Rattle.wire.specs.Extent.{extent, clipped, PartOf};
 
 pub mod refusal;
@@ -19,6 +19,20 @@ pub fn octet(s: &[u8], i: usize) -> u8
     s.get(i).copied().unwrap_or(0)
 }
 
+// Two bytes as one number.
+fn join2(a: u8, b: u8) -> u32
+    ensures { result ≡ be (a ∷ b ∷ []) }
+{
+    u32::from(a) * 256 + u32::from(b)
+}
+
+// Four bytes as one number.
+fn join4(a: u8, b: u8, c: u8, d: u8) -> u32
+    ensures { result ≡ be (a ∷ b ∷ c ∷ d ∷ []) }
+{
+    ((u32::from(a) * 256 + u32::from(b)) * 256 + u32::from(c)) * 256 + u32::from(d)
+}
+
 // The number of the two bytes at a place.
 pub fn u16_at(s: &[u8], at: usize) -> u32
     ensures { result ≡ be_at s.now at 2 }
@@ -26,7 +40,7 @@ pub fn u16_at(s: &[u8], at: usize) -> u32
     if s.len() <= at {
         return 0;
     }
-    u32::from(u16::from_be_bytes([s[at], octet(s, at + 1)]))
+    join2(s[at], octet(s, at + 1))
 }
 
 // The number of the four bytes at a place: read together where they are all there.
@@ -37,14 +51,14 @@ pub fn u32_at(s: &[u8], at: usize) -> u32
         return 0;
     }
     if 4 <= s.len() - at {
-        return u32::from_be_bytes([s[at], s[at + 1], s[at + 2], s[at + 3]]);
+        return join4(s[at], s[at + 1], s[at + 2], s[at + 3]);
     }
-    u32::from_be_bytes([
+    join4(
         octet(s, at),
         octet(s, at + 1),
         octet(s, at + 2),
         octet(s, at + 3),
-    ])
+    )
 }
 
 // So many bytes from a place on, as a part of s; nothing where they are not all there.

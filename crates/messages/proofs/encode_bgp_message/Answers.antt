@@ -41,11 +41,11 @@ returns-then-out-total c =
     let own : is_outside (least_length a.kind) (most_length a.kind) (total_of a.body.now) ≡ false = rw (← n.number_of) (opposite _ _ c.allows.ensures ∙ ap not c.if-not-allows.false) in
     refuses a.kind a.body.now a.out.now NoRoom (write_full _ _ _ n.known own c.if-out-total.true)
 
-pub overflow_cast-total : goal.overflow_cast-total
-overflow_cast-total c =
+pub put_header-requires : goal.put_header-requires
+put_header-requires c =
     let kind = kind_number c.in_ok-kind.kind in
     let high = inside_high (least_length kind) (most_length kind) (total_of c.args.body.now) (opposite _ _ c.allows.ensures ∙ ap not c.if-not-allows.false) in
-    omega (arith, high, most_small kind)
+    (omega (arith, high, most_small kind), omega (arith, c.if-out-total.false))
 
 pub returns : goal.returns
 returns c =

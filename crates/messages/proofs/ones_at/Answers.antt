@@ -1,5 +1,10 @@
-use Rattle.messages.proofs.HeaderLaws.{ones_word}
+use mathlib.Core.Path.{ap, ◌∙◌}
+use Prim.Native.Nat.{ℕ}
+use lib.Dec.{eqb}
+use Rattle.messages.proofs.HeaderLaws.{eight_ones, ones_word}
 use Rattle.messages.proofs.ones_at.Goals as goal
 
 pub returns : goal.returns
-returns c = ones_word c.args.s.now c.args.at c.from_le_bytes.result (λ i. (c.type_inv.s i).fits) c.from_le_bytes.ensures
+returns c =
+    let a = c.args in
+    ap (λ (n : ℕ). eqb n eight_ones) c.join8.ensures ∙ ones_word a.s.now a.at (λ i. (c.type_inv.s i).fits)
