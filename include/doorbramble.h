@@ -156,7 +156,7 @@ extern "C" {
 #define DOORBRAMBLE_PAIR_WORDS 2
 #define DOORBRAMBLE_AGGREGATOR_WORDS 2
 
-/* the most bytes of stack that a call uses, its return address included; tools/stack-use measures 488 in the library of the kit that README.md
+/* the most bytes of stack that a call uses, its return address included; tools/stack-use measures 504 in the library of the kit that README.md
  * names */
 #define DOORBRAMBLE_STACK_LIMIT 512
 
