@@ -1,12 +1,12 @@
 -- Laws of the header: its marker as words, and the checks one after another.
 -- Assumes nothing.
-use Prim.Native.Nat.{ℕ, zero, suc, ◌+◌, ◌-◌, ◌≤◌, ◌<◌}
+use Prim.Native.Nat.{ℕ, zero, suc, ◌+◌, ◌-◌, ◌≤◌, ◌<◌, min}
 use mathlib.Core.Path.{◌≡◌, refl, sym, ap, ◌∙◌}
 use mathlib.Core.List.{List, [], ◌∷◌, ◌++◌}
 use mathlib.Core.Bool.{Bool, true, false, not}
 use native.Mathlib.Nat.{le-min, min-le_right}
 use native.Mathlib.Omega.{arith}
-use borrow.Author.Tests.{eq-eqb, ne_eqb, le-ltb, ltb-false, not-false}
+use borrow.Author.Tests.{eq-eqb, ne_eqb, lt-ltb, le-ltb, ltb-false, not-false}
 use denote.Ref.{Bor}
 use lib.ListN.{length, get_or, drop}
 use lib.Dec.{eqb, ltb}
@@ -15,13 +15,13 @@ use Rattle.std.specs.Ordering.{nat_cmp}
 use Rattle.std.specs.Range.{range_inclusive_start, range_inclusive_end, range_inclusive_exhausted, range_inclusive_contains}
 use Rattle.std.proofs.lemmas.Bool.Decides.{nat_tests}
 use Rattle.wire.specs.Choice.{pick}
-use Rattle.wire.proofs.ChoiceLaws.{pick_eqb, pick_unless}
+use Rattle.wire.proofs.ChoiceLaws.{pick_any, pick_eqb, pick_unless}
 use Rattle.wire.specs.Extent.{PartOf}
 use Rattle.wire.specs.Number.{be, padded, Bytes}
 use Rattle.wire.proofs.NumberLaws.{padded_cells, padded_add, padded_take}
 use Rattle.wire.specs.declared.refusal.Refusal.{Refusal}
 use Rattle.wire.specs.declared.refusal.Refusal.TheVariants.{Truncated, MessageLength, MessageType, ShortBody, BadMarker}
-use Rattle.messages.specs.Header.{open_kind, route_refresh_kind, kind_number, kind_named, kind_read, marker_size, all_ff, is_outside, is_unknown, header_size, crate_limit, least_length, most_length, message_of, strict_within, marker_of, claimed_of, kind_of, taken_of, accepted, accepted_whole, body_at}
+use Rattle.messages.specs.Header.{open_kind, update_kind, notification_kind, keepalive_kind, route_refresh_kind, message_limit, extended_limit, kind_number, kind_named, kind_read, marker_size, all_ff, is_outside, is_unknown, header_size, crate_limit, least_length, most_length, message_of, strict_within, marker_of, claimed_of, kind_of, taken_of, accepted, accepted_whole, body_at}
 use Rattle.messages.specs.Private.{Fits}
 use Rattle.messages.specs.declared.Message.{Message}
 use Rattle.messages.specs.declared.kind.Kind.{Kind}
@@ -99,6 +99,15 @@ pub inside : (lo hi n : ℕ) → lo ≤ n → n ≤ hi → is_outside lo hi n �
 unfolding is_outside
 inside lo hi n low high = rw (le-ltb n lo low) (le-ltb hi n high)
 
+-- over the lower bound the upper one tells, and under it nothing else does
+pub outside_high : (lo hi n : ℕ) → lo ≤ n → is_outside lo hi n ≡ ltb hi n
+unfolding is_outside
+outside_high lo hi n h = rw (le-ltb n lo h)
+
+pub outside_low : (lo hi n : ℕ) → n < lo → is_outside lo hi n ≡ true
+unfolding is_outside
+outside_low lo hi n h = rw (lt-ltb n lo h)
+
 -- a test by its opposite
 pub opposite : (t u : Bool) → t ≡ not u → u ≡ not t
 opposite t true e = sym (ap not e)
@@ -109,6 +118,30 @@ pub contained : (range : _) (lo hi n : ℕ) (told : Bool) → (range_inclusive_s
     → told ≡ range_inclusive_contains (λ x y. Some (nat_cmp x y)) range n → is_outside lo hi n ≡ not told
 unfolding is_outside
 contained range lo hi n told from to live tells = rw (tells, from, to, live) (grind (arith, nat_tests))
+
+-- ---- lengths of a type
+
+-- no type has a limit under that of RFC 4271
+pub limit_least : (kind : ℕ) → message_limit ≤ crate_limit kind
+unfolding crate_limit
+limit_least kind =
+    let P : ℕ → Type 0 = λ n. message_limit ≤ n in
+    pick_any P (eqb kind open_kind) message_limit _ (omega arith) (pick_any P (eqb kind keepalive_kind) message_limit extended_limit (omega arith) (omega arith))
+
+pub least_other : (kind : ℕ) → route_refresh_kind < kind → least_length kind ≡ header_size
+unfolding least_length
+least_other kind h =
+    simp (
+      ne_eqb kind open_kind (λ e. omega arith),
+      ne_eqb kind update_kind (λ e. omega arith),
+      ne_eqb kind notification_kind (λ e. omega arith),
+      ne_eqb kind route_refresh_kind (λ e. omega arith),
+    )
+
+-- all types but a KEEPALIVE are held to the crate's limit
+pub most_limit : (kind : ℕ) → eqb kind keepalive_kind ≡ false → most_length kind ≡ crate_limit kind
+unfolding most_length
+most_limit kind e = rw e
 
 -- ---- the types
 
@@ -246,6 +279,20 @@ whole_by limit s h =
       inside (least_length (kind_of s)) (most_length (kind_of s)) (claimed_of s) h.least h.most,
       le-ltb (length s) (claimed_of s) h.there,
     )
+
+-- the crate's reading from what the tests before it found: a message over its type's limit, and one that is accepted
+module _ (s : List ℕ) (claimed : ℕ) (claims : claimed ≡ claimed_of s) (long : header_size ≤ length s) (low : header_size ≤ claimed) (known : is_unknown (kind_of s) ≡ false) where
+  pub message_over : ltb (crate_limit (kind_of s)) claimed ≡ true → Err MessageLength ≡ message_of s
+  unfolding message_of
+  message_over over = rw (← claims) (simp (le-ltb (length s) header_size long, le-ltb claimed header_size low, known, over))
+
+  pub message_taken : (taken : ℕ) (ones : Bool) → taken ≡ min claimed (length s) → ones ≡ all_ff (marker_of s) → ltb (crate_limit (kind_of s)) claimed ≡ false
+      → taken - header_size ≤ length s - header_size
+      → Ok (record { kind = kind_named (kind_of s); claimed = claimed; taken = taken; marker = not ones; cut = ltb (length s) claimed; trailing = ltb claimed (length s) }) ≡ message_of s
+  unfolding message_of
+  message_taken taken ones takes marker under there =
+      rw (← claims, ← takes, ← marker)
+      (simp (le-ltb (length s) header_size long, le-ltb claimed header_size low, known, under, le-ltb (length s - header_size) (taken - header_size) there))
 
 -- what is taken of a message that is not refused is there
 pub message_fits : (s : List ℕ) → Fits (message_of s) (length s)

@@ -1,5 +1,5 @@
 -- The message header. RFC 4271 section 4.1: sixteen octets of marker, two of length, header and all, and one of type.
-use Rattle.std.specs.Prelude.{ℕ, ◌-◌, ◌≤◌, ◌<◌, min, ◌≡◌, List, [], ◌∷◌, Bool, true, false, not, ◌⊎◌, length, get_or, take, ltb, eqb, Result, Ok, Err}
+use Rattle.std.specs.Prelude.{ℕ, ◌-◌, ◌≤◌, ◌<◌, min, ◌≡◌, List, [], ◌∷◌, Bool, true, false, not, ◌⊎◌, length, get_or, take, ltb, eqb, Result, Ok, Err, codes}
 use Rattle.wire.specs.Answer.{Answer, value_in, flag, handed, meaning_of}
 use Rattle.wire.specs.Choice.{pick}
 use Rattle.wire.specs.Extent.{Extent, extent}
@@ -43,6 +43,14 @@ kind_named number =
     (pick (eqb number update_kind) Update
     (pick (eqb number notification_kind) Notification
     (pick (eqb number keepalive_kind) Keepalive RouteRefresh)))
+
+-- its name, as it prints
+abbrev pub kind_text : Kind → List ℕ
+kind_text Open = codes "OPEN"
+kind_text Update = codes "UPDATE"
+kind_text Notification = codes "NOTIFICATION"
+kind_text Keepalive = codes "KEEPALIVE"
+kind_text RouteRefresh = codes "ROUTE-REFRESH"
 
 -- ---- a message as document 01 has it: type, claimed, taken, and the flags marker, cut and trailing
 

@@ -1,6 +1,6 @@
 // The message types (RFC 4271 section 4.1, RFC 2918 section 3), and the lengths that messages of each may have.
-ghost use Rattle.std.specs.Prelude.{◌≡◌, not};
-ghost use Rattle.messages.specs.Header.{kind_number, kind_read, crate_limit, least_length, most_length, is_outside};
+ghost use Rattle.std.specs.Prelude.{◌≡◌, not, Some};
+ghost use Rattle.messages.specs.Header.{kind_number, kind_read, kind_text, crate_limit, least_length, most_length, is_outside};
 
 use super::{EXTENDED_LIMIT, HEADER_SIZE, MESSAGE_LIMIT};
 use std::fmt;
@@ -43,6 +43,8 @@ impl TryFrom<u8> for Kind {
 }
 
 impl fmt::Display for Kind {
+    ghost output = { λ kind. Some (kind_text kind) };
+
     fn fmt<W: fmt::Write>(&self, f: &mut fmt::Formatter<W>) -> fmt::Result {
         f.write_str(match self {
             Kind::Open => "OPEN",

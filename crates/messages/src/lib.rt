@@ -107,10 +107,14 @@ pub fn parse_bgp_message(s: &[u8]) -> Result<Message, Refusal>
     if kind.crate_limit() < claimed {
         return Err(Refusal::MessageLength);
     }
+    let taken = claimed.min(s.len());
+    if s.len() - HEADER_SIZE < taken - HEADER_SIZE {
+        return Err(Refusal::ShortBody);
+    }
     Ok(Message {
         kind,
         claimed,
-        taken: claimed.min(s.len()),
+        taken,
         marker: !marked(s),
         cut: s.len() < claimed,
         trailing: claimed < s.len(),

@@ -1,3 +1,4 @@
 pub mod BodyLaws
+pub mod UpdateLaws
 pub mod Sections
 pub mod Tight
