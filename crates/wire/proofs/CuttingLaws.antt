@@ -10,7 +10,7 @@ use lib.ListN.{length, take, drop, length-append, take-append-drop}
 use lib.Seq.{take-append_seam, drop-append_seam, take-add}
 use Rattle.wire.specs.Number.{Bytes}
 use Rattle.std.specs.Prelude.{Err}
-use Rattle.wire.specs.Verdict.{Verdict, fine}
+use Rattle.wire.specs.Verdict.{fine}
 use Rattle.wire.specs.declared.refusal.Refusal.{Refusal}
 use Rattle.wire.proofs.AnswerLaws.{refused_not_fine}
 use Rattle.wire.specs.Walk.{Step, took, stop, Reading, more, read_all, pieces, flat}

@@ -8,7 +8,7 @@ use native.Mathlib.Omega.{arith}
 use lib.ListN.{length, take, drop, drop_of_length-le, length-drop, length-append, take-append-drop}
 use lib.Seq.{drop-drop, take_all, length-take-le}
 use Rattle.std.specs.Prelude.{Err}
-use Rattle.wire.specs.Verdict.{Verdict, fine}
+use Rattle.wire.specs.Verdict.{fine}
 use Rattle.wire.specs.declared.refusal.Refusal.{Refusal}
 use Rattle.wire.proofs.AnswerLaws.{refused_not_fine}
 use Rattle.wire.specs.Walk.{Step, took, stop, Reading, whole, refused, more, read_all, tally, flat}

@@ -1,6 +1,6 @@
 -- The refusal numbers of documents 01 and 02, by name, each with when it is given. src/refusal.rt has the same for code, and .ci/check-refusals holds
 -- every other list of them to this one.
-use Rattle.std.specs.Prelude.{ℕ}
+use Rattle.std.specs.Prelude.{ℕ, List, codes}
 use Rattle.wire.specs.declared.refusal.Refusal.{Refusal}
 use Rattle.wire.specs.declared.refusal.Refusal.TheVariants as R
 
@@ -117,3 +117,26 @@ list_limit = 65535
 -- the most bytes of an UPDATE body
 abbrev pub body_limit : ℕ
 body_limit = 65516
+
+-- the words of a reason, as it prints
+abbrev pub reason_text : Refusal → List ℕ
+reason_text R.TooLong = codes "more bytes than the limit"
+reason_text R.Truncated = codes "fewer bytes than the field needs"
+reason_text R.MessageLength = codes "a message length that is not allowed"
+reason_text R.MessageType = codes "a message type that is not 1 to 5"
+reason_text R.ShortBody = codes "a body shorter than the measured length"
+reason_text R.BadMarker = codes "a marker that is not all FF"
+reason_text R.PrefixLength = codes "a prefix length over the family's most"
+reason_text R.OneByteSection = codes "a section of one byte that is not 0"
+reason_text R.SegmentType = codes "a segment type that is not 1 to 4"
+reason_text R.AggregatorLength = codes "an AGGREGATOR of a length that it cannot have"
+reason_text R.NoRoom = codes "too few places to put the answer"
+reason_text R.LongSegment = codes "a segment of over 255 numbers"
+reason_text R.WideNumber = codes "an AS number that two bytes do not hold"
+reason_text R.NotWritable = codes "rows or a path that cannot be written"
+reason_text R.RepeatedMpNlri = codes "a second MP_REACH_NLRI or MP_UNREACH_NLRI"
+reason_text R.EmptySegment = codes "a segment of no AS numbers"
+reason_text R.OtherFamily = codes "routes of another family than IPv6 unicast"
+reason_text R.NextHopLength = codes "a next hop that is not 16 or 32 bytes"
+reason_text R.NotAnIndex = codes "places that are no index of the list"
+reason_text R.NoSuchRoute = codes "a route that is not there"

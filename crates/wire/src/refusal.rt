@@ -1,6 +1,6 @@
 // Why a call refuses, each reason with its number: specs/Refusal.antt has the same for definitions, and when each is given.
-ghost use Rattle.std.specs.Prelude.{◌≡◌};
-ghost use Rattle.wire.specs.Refusal.{number_of};
+ghost use Rattle.std.specs.Prelude.{◌≡◌, Some};
+ghost use Rattle.wire.specs.Refusal.{number_of, reason_text};
 
 use std::error::Error;
 use std::fmt;
@@ -39,6 +39,8 @@ impl From<Refusal> for u8 {
 }
 
 impl fmt::Display for Refusal {
+    ghost output = { λ refusal. Some (reason_text refusal) };
+
     fn fmt<W: fmt::Write>(&self, f: &mut fmt::Formatter<W>) -> fmt::Result {
         f.write_str(match self {
             Refusal::TooLong => "more bytes than the limit",
