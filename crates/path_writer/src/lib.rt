@@ -262,7 +262,9 @@ fn write_segments(pairs: &[u32], numbers: &[u32], width: AsnLength, out: &mut [u
     }
 }
 
-// A path lent as pairs of type and count, and as numbers back to back. The counts are compared with the numbers left, so no sum can wrap.
+// A path lent as pairs of type and count, and as numbers back to back. The counts are compared with the numbers left, so no sum can wrap. Copied into its
+// callers, which name the rule: else each segment is asked for it.
+#[inline(always)]
 #[tactic(auto, unfolding(crate::specs::Promises::encode_answer, crate::specs::Promises::encode_left, crate::specs::Promises::lent_bytes, wire::specs::Answer::limited), using(crate::proofs::PromiseLaws::by_size, crate::proofs::PromiseLaws::size_is, crate::proofs::Lent::lent_alike, asns::proofs::AsnLaws::span_many, asns::proofs::AsnLaws::span_most, asns::proofs::AsnLaws::width_pos))]
 pub fn encode_as_path(
     pairs: &[u32],

@@ -54,7 +54,6 @@ pub struct Routes {
 }
 
 // How many bytes the item at the front takes, whose length byte is `bits`. Here and below, `counts` says how many octets follow a length byte.
-#[inline(always)]
 fn size_by(s: &[u8], bits: u8, counts: &[u8; 256], form: Form) -> Result<usize, Refusal>
     requires form_in_bounds { id_size form < length s.now }
     requires bits_value { bits ≡ get_or s.now (id_size form) 0 }
@@ -72,7 +71,6 @@ fn size_by(s: &[u8], bits: u8, counts: &[u8; 256], form: Form) -> Result<usize, 
 }
 
 // How many bytes the item at the front takes.
-#[inline(always)]
 fn front_size(s: &[u8], counts: &[u8; 256], form: Form) -> Result<usize, Refusal>
     ensures { result ≡ size_of (by_table counts.now s.now form) }
 {
@@ -181,7 +179,6 @@ fn byte_tried(s: &[u8], n: usize, form: Form) -> u8
 }
 
 // A step in one form.
-#[inline(always)]
 pub fn form_size(s: &[u8], counts: &[u8; 256], form: Form) -> Result<Item, Refusal>
     ensures { result ≡ sized (step_by (by_table counts.now) (fixed form) form s.now) }
 {

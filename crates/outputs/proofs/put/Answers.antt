@@ -16,6 +16,6 @@ returns-then-out-to g c =
 pub returns : goal.returns
 returns g c =
     let a = c.args in
-    put_mid-paste a.to _ a.out.now _ a.bytes.now (length a.bytes.now) c.copy_from_slice.ensures.after (omega (arith, c.told-bytes)) (omega arith)
+    put_mid-paste a.to _ a.out.now _ a.bytes.now (length a.bytes.now) c.put_each.ensures (omega (arith, c.told-bytes)) (omega arith)
     ∙ paste_laid a.out.now a.to a.bytes.now
     ∙ sym (placed_fits a.out.now a.to a.bytes.now (omega (arith, c.told-bytes, c.if-out-to.false, c.if-out-to-2.false)))
