@@ -3,17 +3,22 @@
 use Prim.Native.Nat.{ℕ, ◌+◌, ◌≤◌}
 use mathlib.Core.Path.{◌≡◌, ap, ◌∙◌}
 use mathlib.Core.List.{List}
-use mathlib.Core.Bool.{true}
+use mathlib.Core.Bool.{Bool, true}
 use native.Mathlib.Omega.{arith}
 use lib.ListN.{length, length-append}
-use Rattle.wire.specs.Number.{to_be}
+use Rattle.wire.specs.Number.{to_be, be_at}
 use Rattle.wire.proofs.NumberLaws.{length_to_be}
 use Rattle.wire.specs.Store.{laid, placed}
 use Rattle.wire.proofs.StoreLaws.{placed_fits, laid_laid, length_laid}
 use Rattle.asns.specs.Asn.{width_of, fits_width, with_number}
 use Rattle.asns.proofs.AsnLaws.{put_room}
-use Rattle.asns.specs.Aggregator.{aggregator_bytes}
+use Rattle.asns.specs.Aggregator.{unlike, aggregator_bytes, aggregator_in}
 use Rattle.asns.specs.declared.AsnLength.{AsnLength}
+
+-- an AGGREGATOR from its parts
+pub in_parts : (s : List ℕ) (width found : AsnLength) (asn identifier : ℕ) (differs : Bool) → asn ≡ be_at s 0 (width_of found) → identifier ≡ be_at s (width_of found) 4
+    → differs ≡ unlike found width → record { asn = asn; identifier = identifier; differs = differs } ≡ aggregator_in s found width
+in_parts s width found asn identifier differs e f g = cc
 
 module _ (asn identifier : ℕ) (width : AsnLength) where
   pub bytes_length : length (aggregator_bytes width asn identifier) ≡ width_of width + 4

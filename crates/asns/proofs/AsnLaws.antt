@@ -7,7 +7,7 @@ use mathlib.Core.Bool.{true}
 use native.Mathlib.Nat.{not-suc-le-zero, zero-mul, suc-mul}
 use native.Mathlib.Numerals.{sub-one}
 use native.Mathlib.Omega.{arith}
-use borrow.Author.Tests.{leb-true}
+use borrow.Author.Tests.{le-leb, leb-true}
 use lib.Dec.{leb}
 use lib.ListN.{length, length-append}
 use lib.Seq.{take_at, drop_at}
@@ -53,6 +53,10 @@ width_pos Bits32 = omega arith
 pub width_most : (width : AsnLength) → width_of width ≤ 4
 width_most Bits16 = omega arith
 width_most Bits32 = omega arith
+
+-- every number of 32 bits fits four bytes
+pub fits_four : (asn : ℕ) → asn < 2 ^ 32 → fits_width asn Bits32 ≡ true
+fits_four asn h = le-leb _ _ h
 
 -- ---- a number read again
 

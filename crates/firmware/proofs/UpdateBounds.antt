@@ -34,7 +34,8 @@ use Rattle.update_writer.specs.Body.{body_answer}
 use Rattle.update_writer.proofs.RoundTrip.{body_cases}
 use Rattle.words.specs.Word.{in_fields, Narrow}
 use Rattle.words.proofs.WordLaws.{refused_narrow, number_narrow}
-use Rattle.firmware.specs.Fields.{update_fields, body_rows}
+use Rattle.wire.specs.Extent.{Extent}
+use Rattle.firmware.specs.Fields.{part_fields, update_fields, body_rows}
 use Rattle.firmware.proofs.Bounds.{answer_any, verdict_low}
 use Rattle.firmware.proofs.ListBounds.{section_few, Small, count_small}
 
@@ -43,6 +44,12 @@ use Rattle.firmware.proofs.ListBounds.{section_few, Small, count_small}
 -- all three sections are shorter than a body
 pub parts_few : (b : List ℕ) (p : Parts) → Ok p ≡ parts_of b → p.withdrawn + p.attributes + p.announced ≤ body_rows
 parts_few b p e = let h = parts_add_up b p (sym e) in omega (arith, h.0, h.1)
+
+-- so where a section stands that ends in the body
+pub part_narrow : (section : Result Parts Refusal → Extent) (b : List ℕ) (p : Parts)
+    → (section (Ok p)).start + (section (Ok p)).size ≤ p.withdrawn + p.attributes + p.announced + 4 → Ok p ≡ parts_of b
+    → Narrow (part_fields section (Ok p))
+part_narrow section b p inside e = let few = parts_few b p e in record { a = omega (arith, few, inside); b = omega (arith, few, inside); c = omega arith }
 
 -- ---- their routes
 

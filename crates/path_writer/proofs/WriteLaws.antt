@@ -171,6 +171,15 @@ module _ (rule : Rule) (w k c : ℕ) (ns : List ℕ) where
   unfolding write_fault
   fault_rule r e = either_first (rule k c) _ r e
 
+  -- then a count over 255, and then a number that the width does not hold
+  pub fault_long : rule k c ≡ fine → most_numbers < c → write_fault rule w k c ns ≡ Err LongSegment
+  unfolding write_fault
+  fault_long r h = rw (r, lt-leb c most_numbers h)
+
+  pub fault_wide : rule k c ≡ fine → c ≤ most_numbers → all_fit w ns ≡ false → write_fault rule w k c ns ≡ Err WideNumber
+  unfolding write_fault
+  fault_wide r h e = rw (r, le-leb c most_numbers h, e)
+
 -- ---- the step over pairs
 
 pub record Lent (rule : Rule) (w : ℕ) (numbers pairs : List ℕ) (used : ℕ) (g : Segment) (left : List ℕ) : Type 0 where

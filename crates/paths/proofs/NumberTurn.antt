@@ -3,7 +3,7 @@
 use Prim.Native.Nat.{ℕ, ◌+◌, ◌-◌, ◌*◌, ◌≤◌, ◌<◌}
 use mathlib.Core.Path.{◌≡◌, sym, ap, ap₂, ◌∙◌}
 use mathlib.Core.List.{List, [], ◌∷◌, ◌++◌, append_assoc, append-nil}
-use native.Mathlib.Nat.{le_refl}
+use native.Mathlib.Nat.{le_refl, zero-add}
 use native.Mathlib.Omega.{arith}
 use borrow.Rule.Slice.PartMut.{put_mid}
 use lib.ListN.{length, take, drop, set, length-drop, drop_of_length-le, take-append-drop}
@@ -64,30 +64,34 @@ block_there w n k last x s e le h =
     let far : x + span w k ≤ length s = omega (arith, sum, span_is w last) in
     (omega arith, rw rest (omega (arith, length-drop x s)))
 
--- k numbers from number `last` on, read from the bytes there, over those up to `done` that stand already, of which some may be the same
-module _ (w : ℕ) (s d₀ d : List ℕ) (last k done : ℕ) (le : last ≤ done) (few : done ≤ last + k) (fits : last + k ≤ length d₀) (e : d ≡ laid d₀ 0 (numbers_of w done s)) where
-  front : List ℕ
-  front = numbers_of w last s
+-- k numbers from the place of number `last` on, where those up to `done` stand already from `start` on, of which some may be the same
+pub blocks_put : (w : ℕ) (s d₀ d : List ℕ) (start last done k : ℕ) → last ≤ done → done ≤ last + k → start + (last + k) ≤ length d₀ → d ≡ laid d₀ start (numbers_of w done s)
+    → laid d (start + last) (numbers_of w k (drop (span w last) s)) ≡ laid d₀ start (numbers_of w (last + k) s)
+blocks_put w s d₀ d start last done k le few fits e =
+    let front : List ℕ = numbers_of w last s in
+    let block : List ℕ = numbers_of w k (drop (span w last) s) in
+    let over : List ℕ = numbers_of w (done - last) (drop (span w last) s) in
+    let sum : done ≡ last + (done - last) = omega arith in
+    let f = length_numbers w last s in
+    let b = length_numbers w k (drop (span w last) s) in
+    let o = length_numbers w (done - last) (drop (span w last) s) in
+    let parts : numbers_of w done s ≡ front ++ over = ap (λ (j : ℕ). numbers_of w j s) sum ∙ numbers_add w last (done - last) s in
+    let place : start + length front ≡ start + last = ap (λ (j : ℕ). start + j) f in
+    let long = length_laid d₀ start front (omega (arith, f, fits)) in
+    ap (λ (l : List ℕ). laid l (start + last) block) (e ∙ ap (laid d₀ start) parts ∙ sym (laid_laid d₀ start front over (omega (arith, f, o, fits, few))) ∙ ap (λ (j : ℕ). laid (laid d₀ start front) j over) place)
+    ∙ laid_over (laid d₀ start front) (start + last) over block (omega (arith, o, b, few)) (omega (arith, long, b, fits))
+    ∙ ap (λ (j : ℕ). laid (laid d₀ start front) j block) (sym place)
+    ∙ laid_laid d₀ start front block (omega (arith, f, b, fits))
+    ∙ ap (laid d₀ start) (sym (numbers_add w last k s))
 
+-- the same in a part that is lent for the numbers, of what is read from the bytes there
+module _ (w : ℕ) (s d₀ d : List ℕ) (last k done : ℕ) (le : last ≤ done) (few : done ≤ last + k) (fits : last + k ≤ length d₀) (e : d ≡ laid d₀ 0 (numbers_of w done s)) where
   block : List ℕ
   block = numbers_of w k (drop (span w last) s)
 
-  over : List ℕ
-  over = numbers_of w (done - last) (drop (span w last) s)
-
   block_laid : laid d last block ≡ laid d₀ 0 (numbers_of w (last + k) s)
-  unfolding front block over
-  block_laid =
-      let f = length_numbers w last s in
-      let b = length_numbers w k (drop (span w last) s) in
-      let o = length_numbers w (done - last) (drop (span w last) s) in
-      let place : 0 + length front ≡ last = omega (arith, f) in
-      let parts : numbers_of w done s ≡ front ++ over = ap (λ (j : ℕ). numbers_of w j s) (omega arith) ∙ numbers_add w last (done - last) s in
-      ap (λ (l : List ℕ). laid l last block) (e ∙ ap (laid d₀ 0) parts ∙ sym (laid_laid d₀ 0 front over (omega (arith, f, o))) ∙ ap (λ (j : ℕ). laid (laid d₀ 0 front) j over) place)
-      ∙ laid_over (laid d₀ 0 front) last over block (omega (arith, o, b)) (omega (arith, length_laid d₀ 0 front (omega (arith, f)), b))
-      ∙ ap (λ (j : ℕ). laid (laid d₀ 0 front) j block) (sym place)
-      ∙ laid_laid d₀ 0 front block (omega (arith, f, b))
-      ∙ ap (laid d₀ 0) (sym (numbers_add w last k s))
+  unfolding block
+  block_laid = ap (λ (j : ℕ). laid d j block) (sym (zero-add last)) ∙ blocks_put w s d₀ d 0 last done k le few (omega (arith, fits)) e
 
   pub block_put : (x m : ℕ) (part : List ℕ) → x ≡ last * w → m ≡ k → part ≡ numbers_of w k (take (length s - x) (drop x s)) → put_mid last m d part ≡ laid d₀ 0 (numbers_of w (last + k) s)
   unfolding block

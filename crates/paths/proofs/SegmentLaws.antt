@@ -6,7 +6,7 @@ use mathlib.Core.List.{List, [], ◌∷◌, ◌++◌}
 use native.Mathlib.Nat.{not-suc-le-zero, zero-add, add-zero}
 use native.Mathlib.Numerals.{sub-one}
 use native.Mathlib.Omega.{arith}
-use borrow.Author.Tests.{le-leb}
+use borrow.Author.Tests.{le-leb, lt-leb}
 use lib.ListN.{length, get_or, drop}
 use lib.Seq.{drop-drop}
 use Rattle.wire.proofs.ChoiceLaws.{pick_leb}
@@ -14,6 +14,8 @@ use Rattle.std.proofs.lemmas.Grind.{common_steps}
 use Rattle.std.specs.Prelude.{Ok, Err}
 use Rattle.asns.proofs.AsnLaws.{span_many}
 use Rattle.wire.specs.declared.refusal.Refusal.{Refusal}
+use Rattle.wire.specs.declared.refusal.Refusal.TheVariants.{Truncated}
+use Rattle.wire.proofs.AnswerLaws.{either_first}
 use Rattle.wire.specs.Verdict.{Verdict, fine, answer_by}
 use Rattle.wire.specs.Number.{be_at}
 use Rattle.wire.specs.Walk.{Step, took, stop}
@@ -21,7 +23,9 @@ use Rattle.wire.proofs.WalkLaws.{Sound}
 use Rattle.wire.proofs.Turn.{Light}
 use Rattle.paths.specs.Promises.{count_in}
 use Rattle.asns.specs.Asn.{span}
-use Rattle.paths.specs.Segment.{Segment, numbers_of, Rule, type_fault, NoState, segment_at, segment_of, asns_of}
+use Rattle.paths.specs.declared.PathRule.{PathRule}
+use Rattle.paths.specs.declared.PathRule.TheVariants.{Crate, Strict}
+use Rattle.paths.specs.Segment.{Segment, numbers_of, Rule, rule_of, type_fault, NoState, segment_at, segment_of, asns_of}
 
 -- ---- numbers
 
@@ -62,6 +66,11 @@ pub known_type_lem : (kind : ℕ) → 1 ≤ kind → kind ≤ 4 → type_fault k
 unfolding type_fault
 known_type_lem kind h k = rw (le-leb 1 kind h, le-leb kind 4 k)
 
+-- under either rule, what is wrong with the type comes first
+pub rule_type : (rule : PathRule) (kind count : ℕ) (r : Refusal) → type_fault kind ≡ Err r → rule_of rule kind count ≡ Err r
+rule_type Crate kind count r e = e
+rule_type Strict kind count r e = either_first (type_fault kind) _ r e
+
 -- ---- a segment that is taken
 
 pub record Taken (rule : Rule) (w : ℕ) (s : List ℕ) (used : ℕ) (g : Segment) : Type 0 where
@@ -96,6 +105,11 @@ module _ (rule : Rule) (w : ℕ) where
 
   pub segment_sound : Sound (segment_of rule w)
   segment_sound = record { takes = λ st st' s used g e. let t = segment_taken st st' s used g e in (omega (arith, t.size), t.room) }
+
+  -- what is not all there is refused for that
+  pub short_segment : (s : List ℕ) → 2 ≤ length s → length s < 2 + span w (get_or s 1 0) → segment_of rule w tt s ≡ stop Truncated
+  unfolding segment_of
+  short_segment s there cut = rw (le-leb 2 (length s) there, lt-leb (2 + span w (get_or s 1 0)) (length s) cut)
 
   module _ (s : List ℕ) (there : 2 ≤ length s) (room : 2 + span w (get_or s 1 0) ≤ length s) where
     -- what is there, and has no fault, is taken

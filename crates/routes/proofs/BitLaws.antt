@@ -117,6 +117,15 @@ module _ (s : List ℕ) (max : ℕ) (form : Form) (z : Result Route Refusal) (ca
           (ap Ok here, sym (ap (λ (r : Route). r.host) same) ∙ ap (λ (q : Prefix). host_bits form (take q.used s)) here)
       by (Err r) f = absurd (given_not_refused (sym f))
 
+  -- of a refusal: the prefix is refused alike
+  pub route_refused : (r : Refusal) → z ≡ Err r → prefix_of s max form ≡ Err r
+  unfolding route_of
+  route_refused r e = by (prefix_of s max form) (sym call ∙ e)
+    where
+      by : (a : Result Prefix Refusal) → with_host form s a ≡ Err r → a ≡ Err r
+      by (Ok p) f = absurd (given_not_refused f)
+      by (Err n) f = let same : n ≡ r = cc in ap Err same
+
   pub route_bits : (route : Route) → z ≡ Ok route → Bytes s → (ident o : List ℕ) (len : ℕ) → take route.prefix.used s ≡ ident ++ (len ∷ o) → length ident ≡ id_size form
       → (route.host ≡ false → (i : ℕ) → len ≤ i → get_or o (i / 8) 0 / 2 ^ (7 - i % 8) % 2 ≡ 0)
       × (route.host ≡ true → (i : ℕ) × (len ≤ i) × (get_or o (i / 8) 0 / 2 ^ (7 - i % 8) % 2 ≡ 1))
