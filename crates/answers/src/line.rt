@@ -58,9 +58,18 @@ impl<'a> Line<'a> {
 
     // What a call answered: its refusal number, 0 for none, and then its own numbers, which are 0 where it refused.
     pub fn tell<const N: usize>(&mut self, answer: Result<[usize; N], Refusal>) {
+        self.tell_beside(answer, [0; N]);
+    }
+
+    // The same with what was seen beside a refusal, as the length and the sum of a part that was handed back.
+    pub fn tell_beside<const N: usize>(
+        &mut self,
+        answer: Result<[usize; N], Refusal>,
+        refused: [usize; N],
+    ) {
         let (number, values) = match answer {
             Ok(values) => (0, values),
-            Err(refusal) => (u8::from(refusal), [0; N]),
+            Err(refusal) => (u8::from(refusal), refused),
         };
         self.number(usize::from(number));
         self.numbers(&values);

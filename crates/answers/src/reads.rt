@@ -96,7 +96,7 @@ pub fn message(record: Record, line: &mut Line) {
         messages::message_body(s)
     };
     let sum = store::sum(body);
-    line.tell(answer.map(|it| {
+    let told = answer.map(|it| {
         [
             usize::from(u8::from(it.kind)),
             it.claimed,
@@ -107,7 +107,8 @@ pub fn message(record: Record, line: &mut Line) {
             body.len(),
             sum,
         ]
-    }));
+    });
+    line.tell_beside(told, [0, 0, 0, 0, 0, 0, body.len(), sum]);
 }
 
 // The length and the sum of each part of an UPDATE.
@@ -116,19 +117,19 @@ pub fn parts(record: Record, line: &mut Line) {
     let withdrawn = updates::withdrawn_part(body);
     let attributes = updates::attribute_part(body);
     let announced = updates::announced_part(body);
-    line.tell(updates::update_parts(body).map(|_| {
-        [
-            withdrawn.len(),
-            store::sum(withdrawn),
-            attributes.len(),
-            store::sum(attributes),
-            announced.len(),
-            store::sum(announced),
-        ]
-    }));
+    let told = [
+        withdrawn.len(),
+        store::sum(withdrawn),
+        attributes.len(),
+        store::sum(attributes),
+        announced.len(),
+        store::sum(announced),
+    ];
+    line.tell_beside(updates::update_parts(body).map(|_| told), told);
 }
 
-// Whether there is an attribute, its flags and type, where its value starts, the length and the sum of the value, and where the next one stands.
+// Whether there is an attribute, its flags and type, where its value starts, the length and the sum of the value, and where the next one stands. Where there
+// is none, those of the value that was handed back stand all the same.
 fn attribute_numbers(found: Option<Attribute>, value: &[u8]) -> [usize; 7] {
     match found {
         Some(it) => [
@@ -140,7 +141,7 @@ fn attribute_numbers(found: Option<Attribute>, value: &[u8]) -> [usize; 7] {
             store::sum(value),
             it.next,
         ],
-        None => [0; 7],
+        None => [0, 0, 0, 0, value.len(), store::sum(value), 0],
     }
 }
 
@@ -150,18 +151,23 @@ pub fn attribute(record: Record, line: &mut Line) {
     let place = wire::u32_at(record.two, 0) as usize;
     let value = attributes::value_at(section, place);
     let answer = attributes::attribute_at(section, place);
-    line.tell(answer.map(|found| attribute_numbers(found, value)));
+    let told = answer.map(|found| attribute_numbers(found, value));
+    line.tell_beside(told, attribute_numbers(None, value));
 }
 
-// The first attribute of a type: the same without the type, which was asked for, and the next place.
+// The same without the type, which was asked for, and the next place.
+fn found_numbers(found: Option<Attribute>, value: &[u8]) -> [usize; 5] {
+    let [there, flags, _, start, size, sum, _] = attribute_numbers(found, value);
+    [there, flags, start, size, sum]
+}
+
+// The first attribute of a type.
 pub fn found(record: Record, line: &mut Line) {
     let section = record.one;
     let value = attributes::find_value(section, record.argument);
     let answer = attributes::find_attribute(section, record.argument);
-    line.tell(answer.map(|found| {
-        let [there, flags, _, start, size, sum, _] = attribute_numbers(found, value);
-        [there, flags, start, size, sum]
-    }));
+    let told = answer.map(|found| found_numbers(found, value));
+    line.tell_beside(told, found_numbers(None, value));
 }
 
 // 1 or 2: which of two AGGREGATORs stands.
@@ -176,7 +182,9 @@ fn standing_number(standing: Standing) -> usize {
 pub fn standing(record: Record, line: &mut Line) {
     let value = as4::standing_aggregator(record.one, record.two);
     let answer = as4::which_aggregator(record.one, record.two);
-    line.tell(answer.map(|it| { [standing_number(it), value.len(), store::sum(value)] }));
+    let sum = store::sum(value);
+    let told = answer.map(|it| { [standing_number(it), value.len(), sum] });
+    line.tell_beside(told, [0, value.len(), sum]);
 }
 
 // The path of an AS_PATH and an AS4_PATH, after which AGGREGATOR stands. The third part is an AGGREGATOR as long as the argument says, and then an
