@@ -7,7 +7,7 @@ use Rattle.route_bytes.proofs.size_rows.Goals as goal
 pub returns-then-not-is_empty : goal.returns-then-not-is_empty
 returns-then-not-is_empty c =
     sizing_cut c.args.words.now c.args.max c.args.form
-    (λ whole. eqb-false (length c.as_chunks.result.1.now) 0 (sym c.is_empty.ensures ∙ c.if-not-is_empty.true) (c.as_chunks.ensures.back_len ∙ whole))
+    (λ whole. eqb-false _ 0 (sym c.is_empty.ensures ∙ c.if-not-is_empty.true) (omega (arith, c.as_chunks.ensures.back_len, whole)))
 
 pub loop-row-init : goal.loop-row-init
 loop-row-init c = sizing_start c.args.words.now c.args.max c.args.form c.requires

@@ -17,7 +17,7 @@ pub overflow_add-from : goal.overflow_add-from
 overflow_add-from c = omega (arith, first_fits c.requires, c.args.self.short)
 
 pub overflow_sub-last : goal.overflow_sub-last
-overflow_sub-last c = (alike_start c.requires c.id_size.ensures c.min.ensures).0
+overflow_sub-last c = omega (arith, (alike_start c.requires c.id_size.ensures c.min.ensures).0)
 
 pub overflow_add-at : goal.overflow_add-at
 overflow_add-at c = omega (arith, first_fits c.requires, c.args.self.short)

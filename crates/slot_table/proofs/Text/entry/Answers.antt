@@ -29,7 +29,7 @@ number-requires c =
       c.requires,
       grown_few c.fields-in-Update.ensures (fields_few update_kind w.claimed c.args.kept w.state),
       grown_few c.section.ensures (section_few w.update.withdrawn),
-      grown_few c.section-in-Update.ensures (section_few w.update.announced),
+      grown_few c.section-in-Update.ensures (section_few _),
     )
 
 pub returns-in-Other : goal.returns-in-Other
