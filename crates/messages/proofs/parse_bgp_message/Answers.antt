@@ -1,10 +1,11 @@
 use borrow.Author.Tests.{lt-ltb, le-ltb}
 use native.Mathlib.Nat.{le-min}
 use native.Mathlib.Omega.{arith}
-use Prim.Native.Nat.{◌≤◌, ◌<◌}
+use Prim.Native.Nat.{◌-◌, ◌≤◌, ◌<◌}
 use mathlib.Core.Path.{sym, ap, ◌∙◌}
+use lib.ListN.{length}
 use Rattle.std.proofs.lemmas.Result.{err_from_is_err_and}
-use Rattle.messages.specs.Header.{kind_of, message_of, crate_limit}
+use Rattle.messages.specs.Header.{header_size, kind_of, message_of, crate_limit}
 use Rattle.messages.proofs.HeaderLaws.{Names, read_names, read_unknown, message_over, message_taken}
 use Rattle.messages.proofs.parse_bgp_message.Goals as goal
 
@@ -39,8 +40,9 @@ unfolding message_of
 returns-then-s-taken c =
     let n : Names (kind_of c.args.s.now) c.in_ok-kind.kind = read_names _ _ (sym c.try_from.ensures ∙ c.in_ok-kind.was) in
     let under : c.u16_at-claimed.result ≤ crate_limit (kind_of c.args.s.now) = omega (arith, c.if-crate_limit-claimed.false, c.crate_limit.ensures, ap crate_limit n.number_of) in
+    let short : length c.args.s.now - header_size < c.min-taken.result - header_size = omega (arith, c.if-s-taken.true) in
     rw (← c.u16_at-claimed.ensures, ← c.min-taken.ensures)
-    (simp (le-ltb _ _ c.if-s-lt-HEADER_SIZE.false, le-ltb _ _ c.if-claimed-lt-HEADER_SIZE.false, n.known, le-ltb _ _ under, lt-ltb _ _ c.if-s-taken.true))
+    (simp (le-ltb _ _ c.if-s-lt-HEADER_SIZE.false, le-ltb _ _ c.if-claimed-lt-HEADER_SIZE.false, n.known, le-ltb _ _ under, lt-ltb _ _ short))
 
 pub returns : goal.returns
 returns c =
